@@ -1,0 +1,5 @@
+pub mod Tables
+pub mod NumberLaws
+pub mod TextLaws
+pub mod EnumerationLaws
+pub mod TypeLaws

@@ -1,0 +1,5 @@
+pub mod Example
+pub mod Cases
+pub mod Marked
+pub mod Order
+pub mod Readings
