@@ -1,5 +1,5 @@
 -- An enumeration fits another exactly when every legal path of it has a legal reading there.
-use mathlib.Core.Path.{_≡_, refl, sym, ap, _∙_}
+use mathlib.Core.Path.{_≡_, refl, ap, _∙_}
 use mathlib.Core.Logic.{_⊎_, ⊎-elim}
 use mathlib.Core.Bool.{Bool, true, false, not, _&&_, true≢false}
 use mathlib.Core.Option.{Option, none, some}
@@ -18,6 +18,14 @@ at-hit n m i r e = rw (e, at)
 pub at-miss : (n : List ℕ) (m : Name) (i r : Enum) → same n (m .bytes) ≡ false → at n (elem m i r) ≡ at n r
 at-miss n m i r e = rw (e, at)
 
+-- it is the first element, or is looked for in the rest
+pub at-cases : (n : List ℕ) (m : Name) (i r : Enum) (P : Option Enum → Type 0) → (same n (m .bytes) ≡ true → P (some i)) → (same n (m .bytes) ≡ false → P (at n r)) → P (at n (elem m i r))
+at-cases n m i r P h k = go (same n (m .bytes)) refl
+  where
+    go : (t : Bool) → same n (m .bytes) ≡ t → P (at n (elem m i r))
+    go true e = rw (at-hit n m i r e) (h e)
+    go false e = rw (at-miss n m i r e) (k e)
+
 read-some : (b : Enum) (n : List ℕ) (p : Path) {i : Enum} → at n b ≡ some i → readPath b (into n p) ≡ under n (readPath i p)
 read-some b n p e = rw (e, readPath)
 
@@ -34,11 +42,11 @@ others-legal (elem n i r) p = others-legal r p
 
 into-legalIn : (b : Enum) (n : List ℕ) (u : Path) (j : Enum) → at n b ≡ some j → legalPath j u ≡ true → legalIn b (into n u) ≡ true
 into-legalIn (end f) n u j p q = cc
-into-legalIn (elem m i r) n u j p q = go (same n (m .bytes)) refl (λ h. into-legalIn r n u j h q)
-  where
-    go : (t : Bool) → same n (m .bytes) ≡ t → (at n r ≡ some j → legalIn r (into n u) ≡ true) → legalIn (elem m i r) (into n u) ≡ true
-    go true e ih = let k = at-hit n m i r e in let s : i ≡ j = cc in or-l _ (both e (rw s q))
-    go false e ih = or-r (same n (m .bytes) && legalPath i u) (ih (sym (at-miss n m i r e) ∙ p))
+into-legalIn (elem m i r) n u j p q =
+    at-cases n m i r (λ o. o ≡ some j → legalIn (elem m i r) (into n u) ≡ true)
+    (λ e p. let s : i ≡ j = cc in or-l _ (both e (rw s q)))
+    (λ e p. or-r (same n (m .bytes) && legalPath i u) (into-legalIn r n u j p q))
+    p
 
 into-legal : (b : Enum) (n : List ℕ) (u : Path) (j : Enum) → at n b ≡ some j → legalPath j u ≡ true → legalPath b (into n u) ≡ true
 into-legal (end f) n u j p q = cc

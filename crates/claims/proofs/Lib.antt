@@ -3,3 +3,15 @@ pub mod NumberLaws
 pub mod TextLaws
 pub mod EnumerationLaws
 pub mod TypeLaws
+pub mod MergeLaws
+pub mod RoundingLaws
+pub mod StateLaws
+pub mod RuleLaws
+pub mod OpenLaws
+pub mod JudgeLaws
+pub mod RunLaws
+pub mod StepLaws
+pub mod MisfitLaws
+pub mod PromiseLaws
+pub mod DistinctLaws
+pub mod ShutLaws

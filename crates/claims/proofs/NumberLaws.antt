@@ -7,10 +7,10 @@ use native.Mathlib.Nat.{le-div-iff-mul-le, div-lt-iff-lt-mul, one-le-pow}
 use native.Mathlib.Omega.{arith}
 use borrow.Author.Tests.{ltb-true, ltb-false}
 use lib.IntN.{ℤ, pos, negsuc, negℤ, predℤ, _+ℤ_, _*ℤ_}
-use lib.Signed.{leZ, ltZ, shrZ, _≤ℤ_, _<ℤ_, ≤ℤ-refl}
-use lib.Dec.{leb, ltb, leb→le, le→leb, nleb→lt, lt→ltb, not-T}
+use lib.Signed.{leZ, ltZ, shrZ, _≤ℤ_, _<ℤ_, ltZ-no, ≤ℤ-refl, clashℤ}
+use lib.Dec.{leb, ltb, leb→le, le→leb, nleb→lt, not-T}
 use Rattle.rules.specs.Numbers.{Range, rounded, reading, inRange, lowFits, highFits, rangeFits}
-use Rattle.rules.proofs.Tests.{both, split, fail-l, fail-r, either-fails, contra, so, so⁻¹}
+use Rattle.rules.proofs.Tests.{both, split, fail-l, fail-r, either-fails, contra, not-false, so, so⁻¹}
 
 -- ---- the order of ℤ, as a record: from `a ≤ℤ b` antt reads off a and b
 leZ-is : {a b : ℤ} → (leZ a b ≡ true) ↔ (a ≤ℤ b)
@@ -28,17 +28,18 @@ ltZ-is = (λ p. record { lt = so⁻¹ p }, λ h. so (h .lt))
 ≤ℤ-trans {a = negsuc a} {b = negsuc b} {c = pos c} h k = record { le = tt }
 ≤ℤ-trans {a = negsuc a} {b = negsuc b} {c = negsuc c} h k = omega (arith, leb→le, le→leb)
 
-lt→nle : {a b : ℤ} → a <ℤ b → b ≤ℤ a → ⊥
-lt→nle {a = pos a} {b = pos b} h k = omega (arith, leb→le)
-lt→nle {a = pos a} {b = negsuc b} h k = h .lt
-lt→nle {a = negsuc a} {b = pos b} h k = k .le
-lt→nle {a = negsuc a} {b = negsuc b} h k = omega (arith, leb→le)
-
 nle→lt : (a b : ℤ) → (b ≤ℤ a → ⊥) → a <ℤ b
-nle→lt (pos a) (pos b) h = omega (arith, lt→ltb, nleb→lt b a (not-T (leb b a) (λ t. h (record { le = t }))))
-nle→lt (pos a) (negsuc b) h = absurd (h (record { le = tt }))
-nle→lt (negsuc a) (pos b) h = record { lt = tt }
-nle→lt (negsuc a) (negsuc b) h = omega (arith, lt→ltb, nleb→lt a b (not-T (leb a b) (λ t. h (record { le = t }))))
+nle→lt a b h = go (ltZ a b) refl
+  where
+    go : (t : Bool) → ltZ a b ≡ t → a <ℤ b
+    go true e = ltZ-is .0 e
+    go false e = absurd (h (ltZ-no (so⁻¹ (not-false e))))
+
+pub ≤ℤ-antisym : {a b : ℤ} → a ≤ℤ b → b ≤ℤ a → a ≡ b
+≤ℤ-antisym {a = pos a} {b = pos b} h k = ap pos (omega (arith, leb→le))
+≤ℤ-antisym {a = pos a} {b = negsuc b} h k = absurd (h .le)
+≤ℤ-antisym {a = negsuc a} {b = pos b} h k = absurd (k .le)
+≤ℤ-antisym {a = negsuc a} {b = negsuc b} h k = ap negsuc (omega (arith, leb→le))
 
 -- b ≤ x, and x ≤ b - 1: just one of the two holds
 le→nle-pred : (b x : ℤ) → b ≤ℤ x → x ≤ℤ predℤ b → ⊥
@@ -66,7 +67,7 @@ module _ (m : ℕ) (p : zero < m) where
   mul-neg : (a : ℕ) → negsuc a *ℤ pos m ≡ negsuc (suc a * m - 1)
   mul-neg a = neg-pos (suc a * m) (omega arith)
 
-  mul→shr : (a b : ℤ) → (a *ℤ pos m) ≤ℤ b → a ≤ℤ shrZ b m
+  pub mul→shr : (a b : ℤ) → (a *ℤ pos m) ≤ℤ b → a ≤ℤ shrZ b m
   mul→shr (pos a) (pos b) h = let q : a ≤ b / m = le-div-iff-mul-le p .1 (leb→le (a * m) b (h .le)) in omega (arith, le→leb)
   mul→shr (pos a) (negsuc b) h = absurd (h .le)
   mul→shr (negsuc a) (pos b) h = record { le = tt }
@@ -75,7 +76,7 @@ module _ (m : ℕ) (p : zero < m) where
       let q : b / m < suc a = div-lt-iff-lt-mul p .1 (omega arith) in
       omega (arith, le→leb)
 
-  shr→mul : (a b : ℤ) → a ≤ℤ shrZ b m → (a *ℤ pos m) ≤ℤ b
+  pub shr→mul : (a b : ℤ) → a ≤ℤ shrZ b m → (a *ℤ pos m) ≤ℤ b
   shr→mul (pos a) (pos b) h = let q : a * m ≤ b = le-div-iff-mul-le p .0 (leb→le a (b / m) (h .le)) in omega (arith, le→leb)
   shr→mul (pos a) (negsuc b) h = absurd (h .le)
   shr→mul (negsuc a) (pos b) h = rw (mul-neg a) (record { le = tt })
@@ -108,7 +109,7 @@ add-mono k {a = pos a} {b = negsuc b} h = absurd (h .le)
 add-mono k {a = negsuc a} {b = pos b} h = sub-le-pos k a (b + k) (omega arith) (ltb k (suc a))
 add-mono k {a = negsuc a} {b = negsuc b} h = sub-mono k a b (leb→le b a (h .le)) (ltb k (suc a)) (ltb k (suc b)) refl refl
 
-ten-pos : (k : ℕ) → zero < 10 ^ k
+pub ten-pos : (k : ℕ) → zero < 10 ^ k
 ten-pos k = one-le-pow k 10 (omega arith)
 
 rounded-mono : (k : ℕ) {a b : ℤ} → a ≤ℤ b → rounded a (10 ^ k) ≤ℤ rounded b (10 ^ k)
@@ -127,7 +128,7 @@ module _ (d db : ℕ) where
   low : (t : Bool) (v w : ℤ) → (cond t (leZ w (rounded v (10 ^ (d - db)))) (ltZ (shrZ (predℤ w) (10 ^ (db - d))) v) ≡ true) ↔ (w ≤ℤ readBy t v)
   low true v w = leZ-is
   low false v w = (
-    λ f. nle-pred→le w _ (λ z. lt→nle (ltZ-is .0 f) (mul→shr _ (ten-pos (db - d)) v (predℤ w) z)),
+    λ f. nle-pred→le w _ (λ z. clashℤ (ltZ-is .0 f) (mul→shr _ (ten-pos (db - d)) v (predℤ w) z)),
     λ f. ltZ-is .1 (nle→lt _ _ (λ z. le→nle-pred w _ f (shr→mul _ (ten-pos (db - d)) v (predℤ w) z))),
   )
 

@@ -1,22 +1,23 @@
--- A type fits a base exactly when every legal value of it has a legal reading there; down a stair of types that fit one another, every legal
--- value reads to the end.
+-- A type fits a base exactly when every legal value of it has a legal reading there; down types of which each fits the next, every legal value
+-- reads to the end.
 use mathlib.Core.Path.{_≡_, refl, ap, _∙_}
 use mathlib.Core.Bool.{Bool, true, false, cond, not, _&&_, true≢false}
 use mathlib.Core.Option.{Option, none, some}
-use mathlib.Core.List.{List, [], _∷_, _++_}
+use mathlib.Core.List.{List, [], _∷_}
 use Prim.Native.Nat.{ℕ, suc, _-_, _^_}
 use native.Mathlib.Omega.{arith}
+use lib.ListN.{length}
 use lib.IntN.{ℤ, pos, negsuc, _*ℤ_}
 use lib.Signed.{leZ}
 use lib.Dec.{eqb, leb, ltb}
 use borrow.Author.Tests.{eqb-true, eq-eqb, lt-leb, ltb-true}
 use Rattle.rules.specs.Numbers as N
 use Rattle.rules.specs.Numbers.{Range, rangeFits, inRange}
-use Rattle.rules.specs.Texts.{lengthFits, legalText}
+use Rattle.rules.specs.Texts.{within, oneLine, lengthFits, legalText}
 use Rattle.rules.specs.Enumerations.{Enum, Path, enumFits}
 use Rattle.rules.specs.Types.{Ty, text, range, numeric, structure, enum, kindOf, Value, string, number, path, legal, reading, fits}
 use Rattle.rules.proofs.Tests.{never, both, split, fail-r, not-both, is-false}
-use Rattle.claims.specs.Readings.{readable, reads, Inside, Outside, proper, TextsJudged, RangesJudged, NumericJudged, EnumerationsJudged, TypesJudged}
+use Rattle.claims.specs.Readings.{readable, reads, Inside, Outside, Judged, KindsTold, proper, TextsJudged, RangesJudged, NumericJudged, EnumerationsJudged, TypesJudged, StairsRead}
 use Rattle.claims.proofs.NumberLaws as NL
 use Rattle.claims.proofs.TextLaws.{text-sound, text-complete}
 use Rattle.claims.proofs.EnumerationLaws as EL
@@ -144,18 +145,18 @@ pub misfit : (t b : Ty) → proper t ≡ true → kindOf t ≡ kindOf b → fits
 misfit t b o k = shown t b o (eq-eqb (kindOf t) (kindOf b) k)
 
 -- ---- the claims
-inside-fits : (t b : Ty) → (fits t b ≡ false → Outside t b) → Inside t b → fits t b ≡ true
-inside-fits t b m h = go (fits t b) refl
+judged : (t b : Ty) → (fits t b ≡ false → Outside t b) → Judged t b
+judged t b m = record {
+  inside = (fits-reads t b, λ h. go (fits t b) refl h);
+  outside = (m, λ x. is-false (λ p. not-both (fits-reads t b p (x .0) (x .1)) (x .2)));
+}
   where
-    go : (x : Bool) → fits t b ≡ x → fits t b ≡ true
-    go true e = e
-    go false e = let (v, p, q) = m e in not-both (h v p) q
+    go : (x : Bool) → fits t b ≡ x → Inside t b → fits t b ≡ true
+    go true e h = e
+    go false e h = let (v, p, q) = m e in not-both (h v p) q
 
 pub types-judged : TypesJudged
-types-judged t b o k = record {
-  inside = (fits-reads t b, inside-fits t b (misfit t b o k));
-  outside = (misfit t b o k, λ x. is-false (λ p. not-both (fits-reads t b p (x .0) (x .1)) (x .2)));
-}
+types-judged t b o k = judged t b (misfit t b o k)
 
 pub texts-judged : TextsJudged
 texts-judged m n l = types-judged (text m n) (text m l) refl refl
@@ -164,21 +165,20 @@ pub ranges-judged : RangesJudged
 ranges-judged r b o = types-judged (range r) (range b) o refl
 
 pub numeric-judged : NumericJudged
-numeric-judged = (λ r o. types-judged (range r) numeric o refl, λ b. types-judged numeric (range b) refl refl, types-judged numeric numeric refl refl)
+numeric-judged = (λ r. judged (range r) numeric (λ p. absurd (true≢false p)), λ b. types-judged numeric (range b) refl refl, types-judged numeric numeric refl refl)
 
 pub enumerations-judged : EnumerationsJudged
 enumerations-judged e b = types-judged (enum e) (enum b) refl refl
 
--- ---- a stair: each type fits the next
-abbrev pub Stair : Ty → List Ty → Type 0
-Stair t [] = Unit
-Stair t (b ∷ l) = (fits t b ≡ true) × Stair b l
+pub kinds-told : KindsTold
+kinds-told n = (refl, inside)
+  where
+    inside : Inside (text false n) (text true n)
+    inside (string s) q = let r : (within n (length s) ≡ true) × (oneLine s ≡ true) = split q in both (r .0) refl
+    inside (number d v) q = never q
+    inside (path p) q = never q
 
--- its lowest step
-abbrev pub lastOf : Ty → List Ty → Ty
-lastOf t [] = t
-lastOf t (b ∷ l) = lastOf b l
-
+-- ---- stairs
 step-reads : (b : Ty) (l : List Ty) (v : Value) → readable b v ≡ true → ((w : Value) → legal b w ≡ true → reads l w ≡ true) → reads (b ∷ l) v ≡ true
 step-reads b l v p k = go (reading b v) refl
   where
@@ -186,10 +186,6 @@ step-reads b l v p k = go (reading b v) refl
     go none e = not-both p (rw e)
     go (some w) e = let q : legal b w ≡ true = rw e at p in rw e (both q (k w q))
 
-pub stair-reads : (t : Ty) (l : List Ty) → Stair t l → (v : Value) → legal t v ≡ true → reads l v ≡ true
+pub stair-reads : StairsRead
 stair-reads t [] h v q = refl
 stair-reads t (b ∷ l) h v q = step-reads b l v (fits-reads t b (h .0) v q) (λ w r. stair-reads b l (h .1) w r)
-
-pub stair-join : (t : Ty) (l m : List Ty) → Stair t l → Stair (lastOf t l) m → Stair t (l ++ m)
-stair-join t [] m h k = k
-stair-join t (b ∷ l) m h k = (h .0, stair-join b l m (h .1) k)

@@ -3,3 +3,11 @@ pub mod Cases
 pub mod Marked
 pub mod Order
 pub mod Readings
+pub mod Merging
+pub mod Rounding
+pub mod Steps
+pub mod Reached
+pub mod Promise
+pub mod Demand3
+pub mod Distinct
+pub mod Shut

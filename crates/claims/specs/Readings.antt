@@ -48,7 +48,7 @@ pub record Judged (t b : Ty) : Type 0 where
   pub inside : (fits t b ≡ true) ↔ Inside t b
   pub outside : (fits t b ≡ false) ↔ Outside t b
 
--- a range's first bound is not greater; by 14 a type that comes to 17 is so
+-- a range's first bound is not greater: by 14 no other comes to 17. A range with no number would be judged by its bounds
 abbrev pub proper : Ty → Bool
 proper (text m n) = true
 proper (range r) = leZ (r .low) (r .high)
@@ -56,8 +56,7 @@ proper numeric = true
 proper (enum e) = true
 proper structure = true
 
--- ---- the claims, for each kind and for all; 16 comes before 17, so kinds are alike. TEXT over MTEXT would differ: every value has a legal
--- reading, and `fits` denies it
+-- ---- the claims: for each kind, and for all
 abbrev pub TextsJudged : Type 0
 TextsJudged = (m : Bool) (n l : Option ℕ) → Judged (text m n) (text m l)
 
@@ -65,10 +64,22 @@ abbrev pub RangesJudged : Type 0
 RangesJudged = (r b : Range) → proper (range r) ≡ true → Judged (range r) (range b)
 
 abbrev pub NumericJudged : Type 0
-NumericJudged = ((r : Range) → proper (range r) ≡ true → Judged (range r) numeric) × ((b : Range) → Judged numeric (range b)) × Judged numeric numeric
+NumericJudged = ((r : Range) → Judged (range r) numeric) × ((b : Range) → Judged numeric (range b)) × Judged numeric numeric
 
 abbrev pub EnumerationsJudged : Type 0
 EnumerationsJudged = (e b : Enum) → Judged (enum e) (enum b)
 
 abbrev pub TypesJudged : Type 0
 TypesJudged = (t b : Ty) → proper t ≡ true → kindOf t ≡ kindOf b → Judged t b
+
+-- kinds have to be alike, as they are after 16: TEXT over MTEXT does not fit, though every value has a legal reading
+abbrev pub KindsTold : Type 0
+KindsTold = (n : Option ℕ) → (fits (text false n) (text true n) ≡ false) × Inside (text false n) (text true n)
+
+-- ---- down types of which each fits the next, a legal value of the first has a legal reading at each, one step after the other
+abbrev pub Stair : Ty → List Ty → Type 0
+Stair t [] = Unit
+Stair t (b ∷ l) = (fits t b ≡ true) × Stair b l
+
+abbrev pub StairsRead : Type 0
+StairsRead = (t : Ty) (l : List Ty) → Stair t l → (v : Value) → legal t v ≡ true → reads l v ≡ true

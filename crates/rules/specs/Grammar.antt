@@ -1,9 +1,9 @@
--- Document 01, "Grammar, by units": the parts of units. A fuel bounds how many symbols a list may pass; Fuel, among the proofs, says that at
--- `enough` it never runs out.
+-- Document 01, "Grammar, by units": the parts of units. A fuel bounds how many symbols a list may pass; FuelLaws, among the proofs, say
+-- that at `enough` it never runs out.
 use mathlib.Core.Bool.{Bool, true, false, cond, not, _&&_, _||_}
 use mathlib.Core.Option.{Option, none, some}
 use mathlib.Core.List.{List, [], _∷_}
-use Prim.Native.Nat.{ℕ, zero, suc, _+_}
+use Prim.Native.Nat.{ℕ, zero, suc, _*_}
 use lib.ListN.{length, getD}
 use lib.Dec.{eqb, ltb}
 use Rattle.rules.specs.Bytes.{ascii, same, isDigit}
@@ -13,9 +13,9 @@ use Rattle.rules.specs.Numbers.{digits, decimalsOf}
 use Rattle.rules.specs.Enumerations.{Enum, end, elem}
 use Rattle.rules.specs.Readers.{Result, done, refused, Reader, _>>=_, _>>_, ret, refuse, expect, aName, aNumber, theDots, theMark, theWord, ifNext, optional}
 
--- more than the symbols of a text
+-- above twice the bytes of a text: a bracket and a name of an enumeration take three
 abbrev pub enough : List ℕ → ℕ
-enough t = suc (length t)
+enough t = 2 * suc (length t)
 
 -- ---- properties: an optional list in parentheses, of words from l
 unfoldable pub propertiesFrom : ℕ → List (List ℕ) → Reader (List (List ℕ))

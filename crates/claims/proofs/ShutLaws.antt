@@ -1,0 +1,100 @@
+-- The ways of `Shut` do not keep the promise: each differs at a text that is computed.
+use mathlib.Core.Path.{_≡_, refl, sym, ap, _∙_}
+use mathlib.Core.List.{List, [], _∷_}
+use Prim.Native.Nat.{ℕ}
+use native.Mathlib.Omega.{arith}
+use lib.ListN.{length, take, getD, replicate}
+use Rattle.rules.specs.Symbols.{symbolOf, symbolAt}
+use Rattle.rules.specs.Grammar.{propertiesFrom, properties, reference, extends, closeFinal, enumeration, textLength, textType, rangeType, typeOf, typeOrReference, written}
+use Rattle.rules.specs.Units.{headerUnit, modelUnit, topicUnit, classUnit, domainUnit, attributeUnit, endUnit, wordStep, bodyEnd, bodyUnit, memberUnit, lastStep, unitAt}
+use Rattle.rules.specs.Judge.{newTopic, newClass, newDomain, newAttribute, withAttribute, extendsRules, classRules, domainEarly, domainRules, attributeEarly, attributeRules, judgeTopic, judgeClass, judgeDomain, judgeAttribute, judgeMember, judgeClose, judge}
+use Rattle.rules.specs.Check.{run, Answer, accepted, refusal, Checked, check}
+use Rattle.claims.specs.Cases.{modelOf}
+use Rattle.claims.specs.Shut.{Way, Keeps, ShutOut, RefusesAll, FixedBook, FixedCount, IdleRefusing, IdleAccepting, Accepts, Refuses, laterDomain, laterAttribute, stepwiseDomain, stepwiseAttribute, straightDomain, Shut}
+
+abbrev forty : List ℕ
+forty = modelOf "DOMAIN T=-10..40;"
+
+abbrev more : List ℕ
+more = modelOf "DOMAIN T=-10..41;"
+
+abbrev two : List ℕ
+two = modelOf "DOMAIN T=-10..40;U=1..2;"
+
+abbrev at256 : List ℕ → Answer
+at256 t = check t 256 .answer
+
+record Computed : Type 0 where
+  one : at256 forty ≡ accepted 35 1
+  other : at256 more ≡ accepted 35 1
+  both : at256 two ≡ accepted 64 2
+  first-byte : getD (check forty 256 .buffer) 0 0 ≡ 1
+  last-bytes : getD (take 35 (check forty 256 .buffer)) 27 0 ≡ 40
+  other-bytes : getD (take 35 (check more 256 .buffer)) 27 0 ≡ 41
+  later-domain : at256 laterDomain ≡ refusal 17 83
+  later-zero : getD (check laterDomain 256 .buffer) 0 0 ≡ 0
+  later-attribute : at256 laterAttribute ≡ refusal 17 132
+  stepwise-domain : at256 stepwiseDomain ≡ accepted 93 3
+  stepwise-attribute : at256 stepwiseAttribute ≡ accepted 149 7
+  straight-domain : at256 straightDomain ≡ refusal 17 66
+
+computed : Computed
+unfolding symbolOf symbolAt propertiesFrom properties reference extends closeFinal enumeration textLength textType rangeType typeOf typeOrReference written headerUnit modelUnit topicUnit classUnit domainUnit attributeUnit endUnit wordStep bodyEnd bodyUnit memberUnit lastStep unitAt newTopic newClass newDomain newAttribute withAttribute extendsRules classRules domainEarly domainRules attributeEarly attributeRules judgeTopic judgeClass judgeDomain judgeAttribute judgeMember judgeClose judge run
+computed = record {
+  one = refl;
+  other = refl;
+  both = refl;
+  first-byte = refl;
+  last-bytes = refl;
+  other-bytes = refl;
+  later-domain = refl;
+  later-zero = refl;
+  later-attribute = refl;
+  stepwise-domain = refl;
+  stepwise-attribute = refl;
+  straight-domain = refl;
+}
+
+abbrev lent : List ℕ
+lent = replicate 256 0
+
+-- a way that keeps the promise answers and leaves what `check` does
+answers : (f : Way) → Keeps f → (t : List ℕ) → f t lent .answer ≡ at256 t
+answers f k t = k t lent .answer
+
+leaves : (f : Way) → Keeps f → (t : List ℕ) → f t lent .buffer ≡ check t 256 .buffer
+leaves f k t = k t lent .buffer
+
+clash : {n p l c : ℕ} → refusal n p ≡ accepted l c → ⊥
+clash e = let z : _≡_ {A = ℕ} 0 1 = cc in omega arith
+
+pub shut : Shut
+shut = record {
+  open-way = (λ t b. check t (length b), λ t b. record { answer = refl; buffer = refl });
+  refusing = λ f r k. let (n, p, e) = r forty lent in clash (sym e ∙ (answers f k forty ∙ computed .one));
+  one-book = λ f r k.
+      let (x, h) = r in
+      let a : take 35 (f forty lent .buffer) ≡ x = h forty lent 35 1 (answers f k forty ∙ computed .one) in
+      let b : take 35 (f more lent .buffer) ≡ x = h more lent 35 1 (answers f k more ∙ computed .other) in
+      let c : take 35 (check forty 256 .buffer) ≡ take 35 (check more 256 .buffer) = ap (take 35) (sym (leaves f k forty)) ∙ (a ∙ (sym b ∙ ap (take 35) (leaves f k more))) in
+      let z : _≡_ {A = ℕ} 40 41 = sym (computed .last-bytes) ∙ (ap (λ (l : List ℕ). getD l 27 0) c ∙ computed .other-bytes) in
+      omega arith;
+  one-count = λ f r k.
+      let (c, h) = r in
+      let a : 1 ≡ c = h forty lent 35 1 (answers f k forty ∙ computed .one) in
+      let b : 2 ≡ c = h two lent 64 2 (answers f k two ∙ computed .both) in
+      omega arith;
+  idle-refusing = λ f r k.
+      let b : List ℕ = replicate 256 1 in
+      let e : f laterDomain b .answer ≡ refusal 17 83 = k laterDomain b .answer ∙ computed .later-domain in
+      let z : _≡_ {A = ℕ} 1 0 = ap (λ (l : List ℕ). getD l 0 0) (sym (r laterDomain b 17 83 e) ∙ k laterDomain b .buffer) ∙ computed .later-zero in
+      omega arith;
+  idle-accepting = λ f r k.
+      let z : _≡_ {A = ℕ} 0 1 = ap (λ (l : List ℕ). getD l 0 0) (sym (r forty lent 35 1 (answers f k forty ∙ computed .one)) ∙ leaves f k forty) ∙ computed .first-byte in
+      omega arith;
+  later-domain = λ f r k. clash (sym (computed .later-domain) ∙ (sym (answers f k laterDomain) ∙ r .2));
+  later-attribute = λ f r k. clash (sym (computed .later-attribute) ∙ (sym (answers f k laterAttribute) ∙ r .2));
+  stepwise-domain = λ f r k. clash (sym (r .2) ∙ (answers f k stepwiseDomain ∙ computed .stepwise-domain));
+  stepwise-attribute = λ f r k. clash (sym (r .2) ∙ (answers f k stepwiseAttribute ∙ computed .stepwise-attribute));
+  straight-domain = λ f r k. clash (sym (computed .straight-domain) ∙ (sym (answers f k straightDomain) ∙ r .2));
+}

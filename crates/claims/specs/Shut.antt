@@ -1,0 +1,74 @@
+-- Document 01, "What a reader may rely on" and "Errors that look right": ways to check a text that the promise of `check` shuts out.
+use mathlib.Core.Path.{_≡_}
+use mathlib.Core.Bool.{true, false}
+use mathlib.Core.List.{List}
+use Prim.Native.Nat.{ℕ}
+use lib.ListN.{length, take, replicate}
+use Rattle.rules.specs.Check.{Answer, accepted, refusal, Checked}
+use Rattle.claims.specs.Cases.{modelOf}
+use Rattle.claims.specs.Promise.{Promise}
+
+-- what is answered for a text and a lent buffer, and what the buffer then holds
+abbrev pub Way : Type 0
+Way = List ℕ → List ℕ → Checked
+
+abbrev pub Keeps : Way → Type 0
+Keeps f = (t b : List ℕ) → Promise t (length b) (f t b .answer) (f t b .buffer)
+
+abbrev pub ShutOut : (Way → Type 0) → Type 0
+ShutOut P = (f : Way) → P f → ¬ Keeps f
+
+-- ---- ways that are none
+abbrev pub RefusesAll : Way → Type 0
+RefusesAll f = (t b : List ℕ) → (n p : ℕ) × (f t b .answer ≡ refusal n p)
+
+abbrev pub FixedBook : Way → Type 0
+FixedBook f = (x : List ℕ) × ((t b : List ℕ) (n k : ℕ) → f t b .answer ≡ accepted n k → take n (f t b .buffer) ≡ x)
+
+abbrev pub FixedCount : Way → Type 0
+FixedCount f = (c : ℕ) × ((t b : List ℕ) (n k : ℕ) → f t b .answer ≡ accepted n k → k ≡ c)
+
+-- the buffer is left as it was lent
+abbrev pub IdleRefusing : Way → Type 0
+IdleRefusing f = (t b : List ℕ) (n p : ℕ) → f t b .answer ≡ refusal n p → f t b .buffer ≡ b
+
+abbrev pub IdleAccepting : Way → Type 0
+IdleAccepting f = (t b : List ℕ) (n k : ℕ) → f t b .answer ≡ accepted n k → f t b .buffer ≡ b
+
+-- ---- of a text with 256 bytes lent
+abbrev pub Accepts : List ℕ → Way → Type 0
+Accepts t f = (n k : ℕ) × (f t (replicate 256 0) .answer ≡ accepted n k)
+
+abbrev pub Refuses : List ℕ → Way → Type 0
+Refuses t f = (n p : ℕ) × (f t (replicate 256 0) .answer ≡ refusal n p)
+
+-- the first extension is right and a later one is not: of domains, and of an attribute
+abbrev pub laterDomain : List ℕ
+laterDomain = modelOf "DOMAIN A=1..7;B EXTENDS A=1..7;C EXTENDS B=0..7;"
+
+abbrev pub laterAttribute : List ℕ
+laterAttribute = modelOf "CLASS A=a:1..7;END A;CLASS B EXTENDS A=a(EXTENDED):1..7;END B;CLASS C EXTENDS B=a(EXTENDED):0..7;END C;"
+
+-- every step is right, and straight from the first to the last is not: 0.45 would read 0; of domains, and of an attribute through domains
+abbrev pub stepwiseDomain : List ℕ
+stepwiseDomain = modelOf "DOMAIN A=1..7;B EXTENDS A=0.5..7.0;C EXTENDS B=0.45..7.00;"
+
+abbrev pub stepwiseAttribute : List ℕ
+stepwiseAttribute = modelOf "DOMAIN A=1..7;B EXTENDS A=0.5..7.0;C EXTENDS B=0.45..7.00;CLASS P=a:A;END P;CLASS Q EXTENDS P=a(EXTENDED):C;END Q;"
+
+abbrev pub straightDomain : List ℕ
+straightDomain = modelOf "DOMAIN A=1..7;C EXTENDS A=0.45..7.00;"
+
+pub record Shut : Type 0 where
+  -- one way keeps it
+  pub open-way : (f : Way) × Keeps f
+  pub refusing : ShutOut RefusesAll
+  pub one-book : ShutOut FixedBook
+  pub one-count : ShutOut FixedCount
+  pub idle-refusing : ShutOut IdleRefusing
+  pub idle-accepting : ShutOut IdleAccepting
+  pub later-domain : ShutOut (Accepts laterDomain)
+  pub later-attribute : ShutOut (Accepts laterAttribute)
+  pub stepwise-domain : ShutOut (Refuses stepwiseDomain)
+  pub stepwise-attribute : ShutOut (Refuses stepwiseAttribute)
+  pub straight-domain : ShutOut (Accepts straightDomain)

@@ -1,0 +1,88 @@
+-- Document 01, "Types and bases": the base steps of what a text declares, and what a value reads as along them. A step is read off the
+-- declarations by record number, as the book gives it; nothing here asks how a declaration was judged.
+use mathlib.Core.Path.{_≡_}
+use mathlib.Core.Bool.{Bool, true, false}
+use mathlib.Core.Option.{Option, none, some}
+use mathlib.Core.List.{List, [], _∷_}
+use Prim.Native.Nat.{ℕ}
+use lib.Dec.{eqb}
+use Rattle.rules.specs.Types.{Value, legal, reading}
+use Rattle.rules.specs.Declarations.{Link, Use, inline, named, struct, tyOf, Attribute, Def, linkOf, State, known, lookup, attributeAt}
+use Rattle.rules.specs.Judge.{isDomain}
+
+-- a member of a list
+pub data In {A : Type 0} (a : A) : List A → Type 0 where
+  first : {l : List A} → In a (a ∷ l)
+  later : {b : A} {l : List A} → In a l → In a (b ∷ l)
+
+abbrev pub Declared : State → Def → Type 0
+Declared s d = In d (known (s .decls))
+
+-- the definition that has a record number
+abbrev pub numbered : State → ℕ → Option Def
+numbered s k = lookup (λ d. eqb (d .number) k) (known (s .decls))
+
+abbrev pub firstOf : State → List Link → Option Def
+firstOf s [] = none
+firstOf s (l ∷ bs) = numbered s (l .number)
+
+-- what a domain, class or structure extends
+abbrev pub baseOf : State → Def → Option Def
+baseOf s d = firstOf s (d .bases)
+
+-- ---- domains: the base is what EXTENDS names
+-- the value v of d reads at d's base, that reading at the base's base, and so on, one step at a time, as w at b
+pub data Climbs (s : State) (d : Def) (v : Value) : Def → Value → Type 0 where
+  start : Climbs s d v d v
+  up : {b : Def} {w : Value} → Climbs s d v b w → (c : Def) (x : Value) → baseOf s b ≡ some c → reading (c .type) w ≡ some x → Climbs s d v c x
+
+-- w is legal at b, and where b has a base, w has a legal reading there
+pub record DomainHolds (s : State) (b : Def) (w : Value) : Type 0 where
+  pub here : legal (b .type) w ≡ true
+  pub onward : (c : Def) → baseOf s b ≡ some c → (x : Value) × (reading (c .type) w ≡ some x) × (legal (c .type) x ≡ true)
+
+-- ---- attributes: the base is the nearest inherited one
+-- a is the own attribute with the name n of the first class that has one, from the base of c on
+pub data Inherits (s : State) (n : List ℕ) (a : Attribute) : Def → Type 0 where
+  near : {c : Def} (b : Def) → baseOf s c ≡ some b → attributeAt n (b .own) ≡ some a → Inherits s n a c
+  far : {c : Def} (b : Def) → baseOf s c ≡ some b → attributeAt n (b .own) ≡ none → Inherits s n a b → Inherits s n a c
+
+pub record Nearest (s : State) (a b : Attribute) : Type 0 where
+  pub class : Def
+  pub declared : Declared s class
+  pub own : In a (class .own)
+  pub inherits : Inherits s (a .name .bytes) b class
+
+-- the domain that types an attribute, if one is named
+abbrev pub domainIn : State → Use → Option Def
+domainIn s (inline t) = none
+domainIn s (named l bs) = numbered s (l .number)
+domainIn s (struct l bs) = none
+
+-- the value v at a reads as w at its base b: if a names a domain, then so does b, and the steps run from the one domain through every one
+-- between to the other; else it is the reading at b's type
+pub data Passes (s : State) (a b : Attribute) (v w : Value) : Type 0 where
+  through : (d e : Def) → domainIn s (a .use-of) ≡ some d → domainIn s (b .use-of) ≡ some e → Climbs s d v e w → Passes s a b v w
+  straight : isDomain (a .use-of) ≡ false → reading (tyOf (b .use-of)) v ≡ some w → Passes s a b v w
+
+-- the value v of a reads at a's base, that reading at the base's base, and so on, as w at b
+pub data Rises (s : State) (a : Attribute) (v : Value) : Attribute → Value → Type 0 where
+  start : Rises s a v a v
+  up : {b : Attribute} {w : Value} → Rises s a v b w → (c : Attribute) (x : Value) → Nearest s b c → Passes s b c w x → Rises s a v c x
+
+-- w is legal at b; where b names a domain, at that domain and all the way up from it; and where b has a base, w has a legal reading there
+pub record AttributeHolds (s : State) (b : Attribute) (w : Value) : Type 0 where
+  pub here : legal (tyOf (b .use-of)) w ≡ true
+  pub between : (d : Def) → domainIn s (b .use-of) ≡ some d → (e : Def) (x : Value) → Climbs s d w e x → DomainHolds s e x
+  pub onward : (c : Attribute) → Nearest s b c → (x : Value) × Passes s b c w x × (legal (tyOf (c .use-of)) x ≡ true)
+
+-- ---- all of it
+pub record EveryReading (s : State) : Type 0 where
+  pub domains : (d : Def) → Declared s d → (v : Value) → legal (d .type) v ≡ true → (b : Def) (w : Value) → Climbs s d v b w → DomainHolds s b w
+  pub attributes : (c : Def) → Declared s c → (a : Attribute) → In a (c .own) → (v : Value) → legal (tyOf (a .use-of)) v ≡ true → (b : Attribute) (w : Value) → Rises s a v b w → AttributeHolds s b w
+
+-- the steps are those of the book: the number that it gives as a base is the record number of the base, and where it gives one there is a base
+pub record BookedBases (s : State) : Type 0 where
+  pub definition : (d : Def) → Declared s d → (l : Link) (bs : List Link) → d .bases ≡ l ∷ bs → (b : Def) × (baseOf s d ≡ some b) × (linkOf b ≡ l) × (b .bases ≡ bs)
+  pub attribute : (a b : Attribute) → Nearest s a b → a .base ≡ some (b .number)
+  pub nearest : (c : Def) → Declared s c → (a : Attribute) → In a (c .own) → (k : ℕ) → a .base ≡ some k → (b : Attribute) × Nearest s a b × (b .number ≡ k)

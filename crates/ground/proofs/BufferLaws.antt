@@ -1,0 +1,64 @@
+-- Bytes written into a lent buffer, and a book with zeros behind it.
+use mathlib.Core.Path.{_≡_, sym, ap, _∙_}
+use mathlib.Core.List.{List, [], _∷_, _++_, append-assoc, append-nil}
+use Prim.Native.Nat.{ℕ, zero, suc, _+_, _-_, _≤_, _<_}
+use native.Mathlib.Nat.{add-assoc, add-zero, sub-zero, zero-sub, suc-sub-suc}
+use native.Mathlib.Numerals.{add-one}
+use native.Mathlib.Omega.{arith}
+use lib.ListN.{length, take, drop, set, replicate, length-append, length-replicate, take-append-drop}
+use lib.Seq.{length-take-le, take-at, take-append-seam, drop-append-add, drop-drop, append-snoc, paste, take-length, set-split, sets-eq, length-sets}
+use Rattle.rules.specs.Book.{padded}
+use Rattle.ground.specs.Parts.{splice}
+
+-- ---- splice
+pub length-splice : (l : List ℕ) (i : ℕ) (a : List ℕ) → i + length a ≤ length l → length (splice l i a) ≡ length l
+length-splice l i a h = ap length (sym (sets-eq a l i h)) ∙ length-sets l i a
+
+-- one part right after another
+pub splice-splice : (l : List ℕ) (i n : ℕ) (a b : List ℕ) → i + length a ≡ n → n ≤ length l → splice (splice l i a) n b ≡ splice l i (a ++ b)
+splice-splice l i n a b e h =
+    let q : List ℕ = drop (i + length a) l in
+    let p : List ℕ = take i l ++ a in
+    let lp : length p ≡ n = length-append (take i l) a ∙ rw (length-take-le i l (omega arith)) e in
+    ap (λ (x : List ℕ). x ++ b ++ drop (n + length b) (p ++ q)) (take-at p q n lp)
+    ∙ ap (λ (x : List ℕ). p ++ b ++ x) (ap (λ (k : ℕ). drop (k + length b) (p ++ q)) (sym lp) ∙ drop-append-add p q (length b) ∙ drop-drop (length b) (i + length a) l)
+    ∙ rw (append-assoc (take i l) a b, length-append a b, add-assoc)
+
+pub splice-none : (l : List ℕ) (i : ℕ) → splice l i [] ≡ l
+splice-none l i = rw (add-zero, append-nil) (take-append-drop i l)
+
+-- a byte stored is a part of one byte
+pub set-splice : (l : List ℕ) (i b : ℕ) → i < length l → set l i b ≡ splice l i (b ∷ [])
+set-splice l i b h = rw (add-one, append-snoc) (set-split l i b h)
+
+-- a copy that has gone through
+pub paste-done : (l : List ℕ) (i : ℕ) (s : List ℕ) (n : ℕ) → n ≡ length s → paste l i s n ≡ splice l i s
+paste-done l i s n e = rw (e, take-length s)
+
+-- ---- padded
+pub length-padded : (b : List ℕ) (m : ℕ) → length b ≤ m → length (padded b m) ≡ m
+length-padded b m h = rw (length-append, length-replicate) (omega arith)
+
+pub padded-none : (m : ℕ) → padded [] m ≡ replicate m 0
+padded-none m = rw sub-zero
+
+-- the book, out of its buffer
+pub take-padded : (b : List ℕ) (m : ℕ) → take (length b) (padded b m) ≡ b
+take-padded b m = take-append-seam b (replicate (m - length b) 0)
+
+drop-zeros : (n m : ℕ) → drop {A = ℕ} n (replicate m 0) ≡ replicate (m - n) 0
+drop-zeros zero m = rw sub-zero
+drop-zeros (suc n) zero = rw zero-sub
+drop-zeros (suc n) (suc m) = rw suc-sub-suc (drop-zeros n m)
+
+-- what is written at the book's end makes the book longer
+pub splice-padded : (b vs : List ℕ) (m : ℕ) → splice (padded b m) (length b) vs ≡ padded (b ++ vs) m
+splice-padded b vs m =
+    let z : List ℕ = replicate (m - length b) 0 in
+    let k : m - length b - length vs ≡ m - length (b ++ vs) = rw (length-append b vs) (omega arith) in
+    ap (λ (x : List ℕ). x ++ vs ++ drop (length b + length vs) (b ++ z)) (take-append-seam b z)
+    ∙ ap (λ (x : List ℕ). b ++ vs ++ x) (drop-append-add b z (length vs) ∙ drop-zeros (length vs) (m - length b) ∙ ap (λ (j : ℕ). replicate j 0) k)
+
+-- the same of a buffer at hand
+pub padded-more : (l b vs : List ℕ) (i m : ℕ) → l ≡ padded b m → i ≡ length b → splice l i vs ≡ padded (b ++ vs) m
+padded-more l b vs i m el ei = rw (el, ei) (splice-padded b vs m)

@@ -1,0 +1,126 @@
+// What every floor uses: parts of a text, lent buffers, numbers as bytes.
+ghost use mathlib.Core.Path.{_≡_};
+ghost use mathlib.Core.List.{[]};
+ghost use Prim.Native.Nat.{_+_, _≤_, _<_};
+ghost use lib.ListN.{length};
+ghost use Rattle.rules.specs.Bytes.{same};
+ghost use Rattle.rules.specs.Book.{low, twos, padded};
+ghost use Rattle.rules.specs.Show.{read4};
+ghost use Rattle.ground.specs.Parts.{part, splice};
+
+// ---- bytes and places as wider numbers
+pub fn wide(b: u8) -> usize
+    ensures { λ r. ⌜ (r ≡ b) × (r < 256) ⌝ }
+{
+    b as usize
+}
+
+pub fn wide4(n: u32) -> usize
+    ensures { λ r. ⌜ (r ≡ n) × (r < 4294967296) ⌝ }
+{
+    n as usize
+}
+
+// ---- parts
+// Two parts of a text have the same bytes.
+pub fn same_part(text: &[u8], a: usize, m: usize, b: usize, n: usize) -> bool
+    requires { ⌜ (a + m ≤ length (now text)) × (b + n ≤ length (now text)) ⌝ }
+    ensures { λ r. ⌜ r ≡ same (part (now (text .entry)) a m) (part (now (text .entry)) b n) ⌝ }
+{
+    if m != n {
+        return false;
+    }
+    let mut i = 0;
+    while i < m {
+        if text[a + i] != text[b + i] {
+            return false;
+        }
+        i += 1;
+    }
+    true
+}
+
+// ---- lent buffers
+// Every byte zero.
+pub fn clear(out: &mut [u8])
+    ensures { λ _. ⌜ now (out .exit) ≡ padded [] (length (now (out .entry))) ⌝ }
+{
+    let mut i = 0;
+    while i < out.len() {
+        out[i] = 0;
+        i += 1;
+    }
+}
+
+// The bytes of src, from a place on.
+pub fn put(out: &mut [u8], at: usize, src: &[u8])
+    requires { ⌜ at + length (now src) ≤ length (now out) ⌝ }
+    ensures { λ _. ⌜ now (out .exit) ≡ splice (now (out .entry)) at (now (src .entry)) ⌝ }
+{
+    let mut i = 0;
+    while i < src.len() {
+        out[at + i] = src[i];
+        i += 1;
+    }
+}
+
+// ---- numbers, their low byte first
+pub fn low4(n: u32) -> [u8; 4]
+    ensures { λ r. ⌜ r ≡ low 4 n ⌝ }
+{
+    let b = n / 256;
+    let c = b / 256;
+    let d = c / 256;
+    [
+        (n % 256) as u8,
+        (b % 256) as u8,
+        (c % 256) as u8,
+        (d % 256) as u8,
+    ]
+}
+
+// A signed number's 64 bits.
+fn bits(v: i64) -> u64
+    ensures { λ r. ⌜ r ≡ twos v ⌝ }
+{
+    if v < 0 {
+        return 18446744073709551615 - ((-(v + 1)) as u64);
+    }
+    v as u64
+}
+
+// In two's complement.
+pub fn low8(v: i64) -> [u8; 8]
+    ensures { λ r. ⌜ r ≡ low 8 (twos v) ⌝ }
+{
+    let a = bits(v);
+    let b = a / 256;
+    let c = b / 256;
+    let d = c / 256;
+    let e = d / 256;
+    let f = e / 256;
+    let g = f / 256;
+    let h = g / 256;
+    [
+        (a % 256) as u8,
+        (b % 256) as u8,
+        (c % 256) as u8,
+        (d % 256) as u8,
+        (e % 256) as u8,
+        (f % 256) as u8,
+        (g % 256) as u8,
+        (h % 256) as u8,
+    ]
+}
+
+// The number of four bytes from a place on.
+pub fn get4(s: &[u8], at: usize) -> u32
+    requires { ⌜ at + 4 ≤ length (now s) ⌝ }
+    ensures { λ r. ⌜ r ≡ read4 (now (s .entry)) at ⌝ }
+{
+    let a = wide(s[at]);
+    let b = wide(s[at + 1]);
+    let c = wide(s[at + 2]);
+    let d = wide(s[at + 3]);
+    (a + b * 256 + c * 65536 + d * 16777216) as u32
+}

@@ -1,0 +1,194 @@
+//! Writes what the independent checker answers as facts about the definitions,
+//! for the prover to compute: `facts [--large] FIRST COUNT FOLDER`.
+//!
+//! FOLDER is the crate that takes them; it gets a module of 25 facts for each 25
+//! cases, and with every tenth case one of reading a number and one of showing a
+//! name. What refuted facts there are, the prover lists.
+
+use std::fmt::Write as _;
+use std::path::Path;
+use std::{fs, io};
+
+use cases::{gen, gen_small, Case, Random};
+use peer::Answer;
+
+/// How many cases a module holds.
+const MODULE: u64 = 25;
+
+/// Each fact opens these definitions, so that all computes.
+const OPENED: [(&str, &str); 7] = [
+    ("Symbols", "symbolOf symbolAt"),
+    (
+        "Grammar",
+        "propertiesFrom properties reference extends closeFinal enumeration textLength textType rangeType typeOf typeOrReference written",
+    ),
+    (
+        "Units",
+        "headerUnit modelUnit topicUnit classUnit domainUnit attributeUnit endUnit wordStep bodyEnd bodyUnit memberUnit lastStep unitAt",
+    ),
+    (
+        "Judge",
+        "newTopic newClass newDomain newAttribute withAttribute extendsRules classRules domainEarly domainRules attributeEarly \
+         attributeRules judgeTopic judgeClass judgeDomain judgeAttribute judgeMember judgeClose judge",
+    ),
+    ("Check", "run"),
+    ("Numbers", "readNumber"),
+    ("Show", "sizeOf recordsFrom isNamed showName"),
+];
+
+/// A text as a literal: one character for each byte.
+fn literal(bytes: &[u8]) -> String {
+    let mut text = String::from("(ascii \"");
+    for byte in bytes {
+        match byte {
+            b'"' => text.push_str("\\\""),
+            b'\\' => text.push_str("\\\\"),
+            32..=126 => text.push(*byte as char),
+            _ => write!(text, "\\u{{{byte:x}}}").expect("a string takes all"),
+        }
+    }
+    text + "\")"
+}
+
+fn list(bytes: &[u8]) -> String {
+    let mut text = String::from("(");
+    for byte in bytes {
+        write!(text, "{byte} ∷ ").expect("a string takes all");
+    }
+    text + "[])"
+}
+
+fn whole(value: i64) -> String {
+    if value < 0 {
+        format!("(negsuc {})", -(i128::from(value) + 1))
+    } else {
+        format!("(pos {value})")
+    }
+}
+
+/// The answer and the whole buffer of one case.
+fn check_fact(name: &str, case: &Case) -> String {
+    let mut buffer = vec![255; case.buffer_len];
+    let (answer, book) = match peer::check(&case.text, &mut buffer) {
+        Answer::Accepted {
+            book_len,
+            definitions,
+        } => (format!("accepted {book_len} {definitions}"), book_len),
+        Answer::Refused { number, place } => (format!("refusal {number} {place}"), 0),
+    };
+    assert!(buffer[book..].iter().all(|byte| *byte == 0));
+    format!(
+        "{name} : check {} {} ≡ record {{ answer = {answer}; buffer = padded {} {} }}",
+        literal(&case.text),
+        case.buffer_len,
+        list(&buffer[..book]),
+        case.buffer_len
+    )
+}
+
+fn read_fact(name: &str, random: &mut Random) -> String {
+    let digits = random.below(20) as u32;
+    let size = i64::try_from(10_u64.pow(digits).min(9_000_000_000_000_000_000)).expect("it fits");
+    let value = match random.below(8) {
+        0 => size,
+        1 => -size,
+        2 => 1 - size,
+        3 => i64::MIN,
+        _ => (random.below(usize::MAX) as i64) % size,
+    };
+    let (from, to) = (random.below(19) as u64, random.below(19) as u64);
+    let read = match peer::read_number(value, from, to) {
+        Ok(reading) => format!("reads {}", whole(reading)),
+        Err(number) => format!("unread {number}"),
+    };
+    format!("{name} : readNumber {} {from} {to} ≡ {read}", whole(value))
+}
+
+/// A record of a case's book, or of a book cut off or changed in one byte.
+fn show_fact(name: &str, case: &Case, random: &mut Random) -> String {
+    let mut buffer = vec![0; peer::LONGEST_BOOK];
+    let mut book = match peer::check(&case.text, &mut buffer) {
+        Answer::Accepted { book_len, .. } => buffer[..book_len].to_vec(),
+        Answer::Refused { .. } => vec![1, 2, 0, 0, 0, 3, 2, 4, 0, 0, 0, 1, 3],
+    };
+    match random.below(3) {
+        0 => book.truncate(random.below(book.len() + 1)),
+        1 => {
+            let at = random.below(book.len());
+            book[at] = random.below(256) as u8;
+        }
+        _ => book.push(0),
+    }
+    let record = random.below(12);
+    let (start, length) = peer::name_part(&case.text, &book, record as _);
+    format!(
+        "{name} : showName {} {} {record} ≡ record {{ start = {start}; length = {length} }}",
+        literal(&case.text),
+        list(&book)
+    )
+}
+
+fn module(first: u64, count: u64, large: bool) -> String {
+    let mut text = String::from(
+        "use mathlib.Core.Path.{_≡_, refl}\nuse mathlib.Core.List.{List, [], _∷_}\nuse Prim.Native.Nat.{ℕ}\n\
+         use lib.IntN.{ℤ, pos, negsuc}\nuse Rattle.rules.specs.Bytes.{ascii}\nuse Rattle.rules.specs.Book.{padded}\n\
+         use Rattle.rules.specs.Numbers.{reads, unread}\nuse Rattle.rules.specs.Show.{Part}\n\
+         use Rattle.rules.specs.Check.{check, Checked, accepted, refusal}\n",
+    );
+    let mut opened = String::from("unfolding");
+    for (module, names) in OPENED {
+        let names: Vec<&str> = names.split_whitespace().collect();
+        writeln!(
+            text,
+            "use Rattle.rules.specs.{module}.{{{}}}",
+            names.join(", ")
+        )
+        .expect("a string takes all");
+        write!(opened, " {}", names.join(" ")).expect("a string takes all");
+    }
+    for seed in first..first + count {
+        let case = if large { gen(seed) } else { gen_small(seed) };
+        let mut random = Random::new(seed ^ 0xFAC7);
+        let mut facts = vec![check_fact(&format!("c{seed}"), &case)];
+        if seed % 10 == 0 {
+            facts.push(read_fact(&format!("r{seed}"), &mut random));
+            facts.push(show_fact(&format!("s{seed}"), &case, &mut random));
+        }
+        for fact in facts {
+            let name = fact.split(' ').next().expect("a fact has a name");
+            writeln!(text, "\n{fact}\n{opened}\n{name} = refl").expect("a string takes all");
+        }
+    }
+    text
+}
+
+fn main() -> io::Result<()> {
+    let mut arguments: Vec<String> = std::env::args().skip(1).collect();
+    let large = arguments.first().is_some_and(|first| first == "--large");
+    if large {
+        arguments.remove(0);
+    }
+    let [first, count, folder] = &arguments[..] else {
+        eprintln!("facts [--large] FIRST COUNT FOLDER");
+        std::process::exit(2);
+    };
+    let (Ok(first), Ok(count)) = (first.parse::<u64>(), count.parse::<u64>()) else {
+        eprintln!("FIRST and COUNT are numbers");
+        std::process::exit(2);
+    };
+    let specs = Path::new(folder).join("specs");
+    fs::create_dir_all(&specs)?;
+    fs::create_dir_all(Path::new(folder).join("src"))?;
+    fs::write(Path::new(folder).join("src/lib.rt"), "")?;
+    let mut root = String::new();
+    for begin in (first..first + count).step_by(MODULE as usize) {
+        let name = format!("Facts{begin}");
+        writeln!(root, "pub mod {name}").expect("a string takes all");
+        let here = MODULE.min(first + count - begin);
+        fs::write(
+            specs.join(format!("{name}.antt")),
+            module(begin, here, large),
+        )?;
+    }
+    fs::write(specs.join("Lib.antt"), root)
+}

@@ -1,0 +1,814 @@
+//! Draws up a model that passes, but for the faults that are planned.
+
+use crate::random::Random;
+use crate::shapes::{extension, fresh, Shape};
+
+#[derive(Clone, Copy, Debug, PartialEq, Eq)]
+pub enum Style {
+    /// Short names and types, for texts of at most 200 bytes.
+    Small,
+    Large,
+}
+
+/// A fault that is planned, after the refusal it is meant to bring about.
+#[derive(Clone, Copy, Debug, PartialEq, Eq)]
+pub enum Fault {
+    Large,
+    Version,
+    End,
+    Taken,
+    Doubled,
+    Inherited,
+    Unknown,
+    Unfounded,
+    WrongSort,
+    FinalBase,
+    Properties,
+    Numeric,
+    AbstractDomain,
+    Unsound,
+    Rootless,
+    Kind,
+    Beyond,
+    Astray,
+}
+
+impl Fault {
+    /// Faults that seldom find an occasion stand here more than once.
+    const ALL: [Fault; 29] = {
+        use Fault::*;
+        [
+            Large,
+            Version,
+            End,
+            Taken,
+            Doubled,
+            Inherited,
+            Inherited,
+            Unknown,
+            Unfounded,
+            WrongSort,
+            WrongSort,
+            WrongSort,
+            FinalBase,
+            FinalBase,
+            FinalBase,
+            Properties,
+            Numeric,
+            AbstractDomain,
+            AbstractDomain,
+            Unsound,
+            Rootless,
+            Kind,
+            Kind,
+            Beyond,
+            Beyond,
+            Beyond,
+            Astray,
+            Astray,
+            Astray,
+        ]
+    };
+
+    pub fn any(random: &mut Random) -> Fault {
+        Fault::ALL[random.below(Fault::ALL.len())]
+    }
+}
+
+struct Domain {
+    name: String,
+    topic: Option<usize>,
+    base: Option<usize>,
+    is_abstract: bool,
+    is_final: bool,
+    shape: Shape,
+}
+
+struct Class {
+    name: String,
+    topic: Option<usize>,
+    base: Option<usize>,
+    is_structure: bool,
+    is_final: bool,
+    attributes: Vec<Attribute>,
+}
+
+#[derive(Clone)]
+struct Attribute {
+    name: String,
+    is_final: bool,
+    holds: Holds,
+}
+
+/// What an attribute is typed by.
+#[derive(Clone)]
+enum Holds {
+    Shape(Shape),
+    Domain(usize),
+    Structure(usize),
+}
+
+const NAMES: [&str; 12] = [
+    "Road",
+    "Zone",
+    "Use",
+    "Kind",
+    "Colour",
+    "A",
+    "b",
+    "Lot_1",
+    "Text",
+    "GENERICS",
+    "x9",
+    "SYMBOLOGY",
+];
+
+/// What small models are made of.
+const PLANS: [&str; 16] = [
+    "D", "DD", "DD", "DDD", "DC", "CC", "CC", "DCC", "DCC", "DDC", "SC", "SS", "SCC", "T", "DT",
+    "TD",
+];
+
+pub struct Sketch<'r> {
+    random: &'r mut Random,
+    style: Style,
+    faults: Vec<Fault>,
+    symbols: Vec<String>,
+    topics: Vec<String>,
+    open: Option<usize>,
+    in_run: bool,
+    domains: Vec<Domain>,
+    classes: Vec<Class>,
+}
+
+impl<'r> Sketch<'r> {
+    pub fn new(random: &'r mut Random, style: Style, faults: Vec<Fault>) -> Self {
+        Sketch {
+            random,
+            style,
+            faults,
+            symbols: Vec::new(),
+            topics: Vec::new(),
+            open: None,
+            in_run: false,
+            domains: Vec::new(),
+            classes: Vec::new(),
+        }
+    }
+
+    /// The planned faults that found no occasion.
+    pub fn faults_left(&self) -> usize {
+        self.faults.len()
+    }
+
+    /// The symbols of a model with about so many definitions.
+    pub fn model(&mut self, definitions: usize) -> Vec<String> {
+        self.head();
+        self.definitions(definitions);
+        if self.style == Style::Large && self.random.chance(1, 150) {
+            self.crowded_class();
+        }
+        self.end("M", ".");
+        std::mem::take(&mut self.symbols)
+    }
+
+    /// Whether a planned fault of this sort is due here.
+    fn fault(&mut self, sort: Fault) -> bool {
+        let planned = self.faults.iter().position(|&fault| fault == sort);
+        match planned {
+            Some(position) if self.random.chance(2, 3) => {
+                self.faults.remove(position);
+                true
+            }
+            _ => false,
+        }
+    }
+
+    /// True rarely, but more often where a planned fault depends on it.
+    fn rarely(&mut self, helpful: Fault) -> bool {
+        let planned = self.faults.contains(&helpful);
+        self.random.chance(1, if planned { 2 } else { 8 })
+    }
+
+    fn small(&self) -> bool {
+        self.style == Style::Small
+    }
+
+    /// Adds symbols, separated by blanks in `symbols`.
+    fn put(&mut self, symbols: &str) {
+        self.symbols
+            .extend(symbols.split_whitespace().map(str::to_owned));
+    }
+
+    fn head(&mut self) {
+        let version = if self.fault(Fault::Version) {
+            self.random.pick(&["2.3", "+2.4", "2.40", "02.4", "24"])
+        } else {
+            "2.4"
+        };
+        self.put(&format!("INTERLIS {version} ; MODEL M"));
+        if !self.small() && self.random.chance(1, 3) {
+            self.put("( de )");
+        }
+        let long = [
+            "\"u\"",
+            "\"http://a.b/\\u00e9\"",
+            "\"\"",
+            "\"\\\"\\\\\"",
+            "\"\u{E9}\"",
+        ];
+        let uri = if self.small() {
+            "\"u\""
+        } else {
+            self.random.pick(&long)
+        };
+        self.put(&format!("AT {uri} VERSION \"1\" ="));
+    }
+
+    fn end(&mut self, name: &str, mark: &str) {
+        let name = if self.fault(Fault::End) {
+            self.random.pick(&["M", "X", "m", "T"])
+        } else {
+            name
+        };
+        self.put(&format!("END {name} {mark}"));
+    }
+
+    fn definitions(&mut self, count: usize) {
+        if self.small() && count > 1 {
+            let plan = self.plan();
+            return plan.chars().for_each(|letter| self.definition(letter, 0));
+        }
+        let mut left = count;
+        while left > 0 {
+            left -= 1;
+            let letter = char::from(b"DDDDDCCCST"[self.random.below(10)]);
+            self.definition(letter, left);
+            if letter == 'T' {
+                left /= 2;
+            }
+        }
+    }
+
+    /// The definitions of a small model, fit for the first planned fault.
+    fn plan(&mut self) -> &'static str {
+        let plans: &[&str] = match self.faults.first() {
+            Some(Fault::Astray) => &["DCC", "DCC", "DDCC", "SSCC"],
+            Some(Fault::WrongSort) => &["DCC", "DSS", "SDD", "TDD", "CSC", "TDC"],
+            Some(Fault::FinalBase) => &["DD", "CC", "SS", "DDD"],
+            Some(Fault::Kind | Fault::Beyond) => &["DD", "DDD", "CC", "DCC", "DD"],
+            Some(Fault::Inherited) => &["CC", "SS"],
+            Some(Fault::AbstractDomain) => &["DC", "DS"],
+            _ => &PLANS,
+        };
+        self.random.pick(plans)
+    }
+
+    /// One definition: domain, class, structure or topic.
+    fn definition(&mut self, letter: char, left: usize) {
+        match letter {
+            'C' => self.class(false),
+            'S' => self.class(true),
+            'T' if self.open.is_none() => self.topic(left),
+            'T' => self.put("DOMAIN"),
+            _ => {
+                // A run of domains goes on unless something stood between.
+                let run = self.symbols.last().is_some_and(|symbol| symbol == ";")
+                    && self.in_run
+                    && self.random.chance(4, 5);
+                if !run {
+                    self.put("DOMAIN");
+                }
+                self.domain();
+            }
+        }
+        self.in_run = letter == 'D';
+    }
+
+    fn topic(&mut self, inside: usize) {
+        let name = self.new_name();
+        self.put(&format!("TOPIC {name} ="));
+        self.topics.push(name.clone());
+        self.open = Some(self.topics.len() - 1);
+        self.in_run = false;
+        if self.small() {
+            let letter = if self.random.chance(1, 2) { 'D' } else { 'C' };
+            self.definition(letter, 0);
+        } else {
+            let count = self.random.below(inside + 1);
+            self.definitions(count);
+        }
+        self.end(&name, ";");
+        self.open = None;
+    }
+
+    /// A name that is free here, or by a fault one that is taken.
+    fn new_name(&mut self) -> String {
+        let taken = self.taken();
+        if !taken.is_empty() && self.fault(Fault::Taken) {
+            return taken[self.random.below(taken.len())].clone();
+        }
+        loop {
+            let name = self.any_name();
+            if !taken.contains(&name) {
+                return name;
+            }
+        }
+    }
+
+    fn taken(&self) -> Vec<String> {
+        let here = |topic: Option<usize>| topic.is_none() || topic == self.open;
+        let domains = self.domains.iter().filter(|domain| here(domain.topic));
+        let classes = self.classes.iter().filter(|class| here(class.topic));
+        let names = domains.map(|domain| &domain.name);
+        let names = names.chain(classes.map(|class| &class.name));
+        names.chain(&self.topics).cloned().collect()
+    }
+
+    fn any_name(&mut self) -> String {
+        let name = if self.small() {
+            self.random.pick(&["A", "B", "C", "D", "E", "M", "x", "y"])
+        } else {
+            self.random.pick(&NAMES)
+        };
+        match self.random.below(if self.small() { 60 } else { 3 }) {
+            0 => format!("{name}{}", self.random.below(10)),
+            _ => name.to_owned(),
+        }
+    }
+
+    /// Properties that pass, or by a fault some that do not.
+    fn properties(&mut self, chosen: &[&str], other: &str) {
+        let mut words = chosen.to_vec();
+        if self.fault(Fault::Properties) {
+            words.push(self.random.pick(&["FINAL", other]));
+            words.push(self.random.pick(&["FINAL", other]));
+        }
+        if !words.is_empty() {
+            self.put(&format!("( {} )", words.join(" , ")));
+        }
+    }
+
+    fn reference(&mut self, name: &str, topic: Option<usize>) {
+        if self.fault(Fault::Unknown) {
+            return self.unknown(name);
+        }
+        if self.fault(Fault::WrongSort) {
+            let any = self.random.any(&self.taken()).cloned();
+            return self.put(any.as_deref().unwrap_or("M"));
+        }
+        let here = topic.is_none() || topic == self.open;
+        if here && self.random.chance(if self.small() { 14 } else { 11 }, 15) {
+            return self.put(name);
+        }
+        match topic {
+            None => self.put(&format!("M . {name}")),
+            Some(number) => {
+                let topic = self.topics[number].clone();
+                self.put(&format!("M . {topic} . {name}"));
+            }
+        }
+    }
+
+    /// A reference that is likely unknown.
+    fn unknown(&mut self, name: &str) {
+        match self.random.below(5) {
+            0 => self.put("Q"),
+            1 => self.put(&format!("X . {name}")),
+            2 => self.put(&format!("M . X . {name}")),
+            3 => self.put(&format!("M . {name}")),
+            _ => self.put("M"),
+        }
+    }
+
+    /// The domain to extend: never a final one but by a fault.
+    fn domain_base(&mut self) -> Option<usize> {
+        let of = |is_final: bool| -> Vec<usize> {
+            let numbers = 0..self.domains.len();
+            numbers
+                .filter(|&number| self.domains[number].is_final == is_final)
+                .collect()
+        };
+        let (last, fitting) = (of(true), of(false));
+        if !last.is_empty() && self.fault(Fault::FinalBase) {
+            return self.random.any(&last).copied();
+        }
+        if self.random.chance(1, 3) {
+            return None;
+        }
+        self.random.any(&fitting).copied()
+    }
+
+    fn domain(&mut self) {
+        let name = self.new_name();
+        let base = self.domain_base();
+        let is_abstract = self.rarely(Fault::AbstractDomain);
+        let is_final = !is_abstract && self.rarely(Fault::FinalBase);
+        self.put(&name);
+        let chosen: &[&str] = match (is_abstract, is_final) {
+            (true, _) => &["ABSTRACT"],
+            (_, true) => &["FINAL"],
+            _ => &[],
+        };
+        self.properties(chosen, "ABSTRACT");
+        if let Some(number) = base {
+            self.put("EXTENDS");
+            let (name, topic) = (
+                self.domains[number].name.clone(),
+                self.domains[number].topic,
+            );
+            self.reference(&name, topic);
+        }
+        self.put("=");
+        let over = base.map(|number| self.domains[number].shape.clone());
+        let shape = self.domain_type(over.as_ref(), is_abstract);
+        self.put(";");
+        self.domains.push(Domain {
+            name,
+            topic: self.open,
+            base,
+            is_abstract,
+            is_final,
+            shape,
+        });
+    }
+
+    fn domain_type(&mut self, base: Option<&Shape>, is_abstract: bool) -> Shape {
+        let numeric = is_abstract || self.fault(Fault::Numeric);
+        let mandatory = self.random.chance(1, 6);
+        if mandatory {
+            self.put("MANDATORY");
+        }
+        match base {
+            Some(Shape::Numeric) if mandatory && numeric => Shape::Numeric,
+            Some(base)
+                if mandatory && !matches!(base, Shape::Numeric) && self.random.chance(1, 2) =>
+            {
+                base.clone()
+            }
+            None | Some(Shape::Numeric) if numeric && self.random.chance(2, 3) => {
+                self.put("NUMERIC");
+                Shape::Numeric
+            }
+            Some(base) => self.extended(base),
+            None => self.first_type(),
+        }
+    }
+
+    /// A type without a base.
+    fn first_type(&mut self) -> Shape {
+        let small = self.small();
+        let shape = fresh(self.random, small);
+        match self.faulty_type() {
+            Some(written) => self.put(&written),
+            None => shape.written(&mut self.symbols),
+        }
+        shape
+    }
+
+    /// A type that is refused by itself.
+    fn faulty_type(&mut self) -> Option<String> {
+        if self.fault(Fault::Unsound) {
+            let types = [
+                "5 .. 4",
+                "1 .. 2.0",
+                "TEXT * 0",
+                "-1.5 .. -1.6",
+                "MTEXT * 000",
+            ];
+            return Some(self.random.pick(&types).to_owned());
+        }
+        if self.fault(Fault::Doubled) {
+            let types = ["( a , b , a )", "( a ( b , b ) , a )", "( a ( a ) , a )"];
+            return Some(self.random.pick(&types).to_owned());
+        }
+        if self.fault(Fault::Rootless) {
+            return Some("( FINAL )".to_owned());
+        }
+        if self.fault(Fault::Large) {
+            return Some(self.large_type());
+        }
+        None
+    }
+
+    /// A type at one side of a size.
+    fn large_type(&mut self) -> String {
+        let more = self.random.below(2);
+        match self.random.below(4) {
+            0 => format!("TEXT * 429496729{}", 5 + more),
+            1 => format!("0 .. 1{}", "0".repeat(17 + more)),
+            2 => format!("0.{0} .. 1.{0}", "0".repeat(17 + more)),
+            _ => format!("{}( a{}", "( a ".repeat(7 + more), " )".repeat(8 + more)),
+        }
+    }
+
+    /// A type written over a base.
+    fn extended(&mut self, base: &Shape) -> Shape {
+        let small = self.small();
+        if self.fault(Fault::Kind) {
+            let other = (0..8)
+                .map(|_| fresh(self.random, small))
+                .find(|shape| !shape.same_kind(base));
+            let other = other.unwrap_or(Shape::Numeric);
+            other.written(&mut self.symbols);
+            return base.clone();
+        }
+        let beyond = self.fault(Fault::Beyond);
+        let written = extension(self.random, base, beyond);
+        written.written(&mut self.symbols);
+        match (base, &written) {
+            (Shape::Enumeration(base), Shape::Enumeration(tree)) => {
+                Shape::Enumeration(base.merged(tree))
+            }
+            _ => written,
+        }
+    }
+
+    fn class(&mut self, is_structure: bool) {
+        let name = self.new_name();
+        let base = self.class_base(is_structure);
+        let is_final = self.rarely(Fault::FinalBase);
+        let is_abstract = !is_final && self.random.chance(1, 6);
+        self.put(if is_structure { "STRUCTURE" } else { "CLASS" });
+        self.put(&name);
+        let chosen: &[&str] = match (is_abstract, is_final) {
+            (true, _) => &["ABSTRACT"],
+            (_, true) => &["FINAL"],
+            _ => &[],
+        };
+        self.properties(chosen, "ABSTRACT");
+        if let Some(number) = base {
+            self.put("EXTENDS");
+            let (name, topic) = (
+                self.classes[number].name.clone(),
+                self.classes[number].topic,
+            );
+            self.reference(&name, topic);
+        }
+        self.put("=");
+        if self.random.chance(1, 5) {
+            self.put("ATTRIBUTE");
+        }
+        let inherited = base.map_or(Vec::new(), |number| self.classes[number].attributes.clone());
+        let attributes = self.attributes(inherited);
+        self.end(&name, ";");
+        self.classes.push(Class {
+            name,
+            topic: self.open,
+            base,
+            is_structure,
+            is_final,
+            attributes,
+        });
+    }
+
+    fn class_base(&mut self, is_structure: bool) -> Option<usize> {
+        let of = |is_final: bool| -> Vec<usize> {
+            let fits =
+                |class: &Class| class.is_structure == is_structure && class.is_final == is_final;
+            let numbers = 0..self.classes.len();
+            numbers
+                .filter(|&number| fits(&self.classes[number]))
+                .collect()
+        };
+        let (last, fitting) = (of(true), of(false));
+        if !last.is_empty() && self.fault(Fault::FinalBase) {
+            return self.random.any(&last).copied();
+        }
+        if self.random.chance(1, 5) {
+            return None;
+        }
+        self.random.any(&fitting).copied()
+    }
+
+    fn attributes(&mut self, inherited: Vec<Attribute>) -> Vec<Attribute> {
+        let mut all = inherited.clone();
+        let often = if self.small() { 5 } else { 4 };
+        for (position, base) in inherited.iter().enumerate() {
+            let allowed = !base.is_final || self.fault(Fault::FinalBase);
+            if allowed && self.random.chance(often, 6) {
+                all[position] = self.extended_attribute(base);
+            }
+        }
+        let own = match (self.small(), inherited.is_empty()) {
+            (true, true) => usize::from(self.random.chance(3, 4)),
+            (true, false) => usize::from(self.random.chance(1, 4)),
+            (false, _) => self.random.below(4),
+        };
+        for _ in 0..own {
+            let attribute = self.own_attribute(&all);
+            all.push(attribute);
+        }
+        all
+    }
+
+    fn own_attribute(&mut self, known: &[Attribute]) -> Attribute {
+        let mut name = self.any_name().to_lowercase();
+        while known.iter().any(|attribute| attribute.name == name) {
+            name = format!(
+                "{}{}",
+                self.any_name().to_lowercase(),
+                self.random.below(10)
+            );
+        }
+        if !known.is_empty() && self.fault(Fault::Taken) {
+            name = known[self.random.below(known.len())].name.clone();
+        }
+        let is_final = self.rarely(Fault::FinalBase);
+        self.put(&name);
+        let chosen: &[&str] = if is_final { &["FINAL"] } else { &[] };
+        if self.fault(Fault::Unfounded) {
+            self.put("( EXTENDED )");
+        } else {
+            self.properties(chosen, "FINAL");
+        }
+        self.put(":");
+        if self.random.chance(1, 6) {
+            self.put("MANDATORY");
+        }
+        let holds = match self.random.below(6) {
+            0 | 1 => self.named_domain(None),
+            2 | 3 => self.named_structure(),
+            _ => None,
+        };
+        let holds = holds.unwrap_or_else(|| Holds::Shape(self.attribute_type()));
+        self.put(";");
+        Attribute {
+            name,
+            is_final,
+            holds,
+        }
+    }
+
+    /// A type written in place, often the same as some domain's.
+    fn attribute_type(&mut self) -> Shape {
+        if self.fault(Fault::Numeric) {
+            self.put("NUMERIC");
+            return Shape::Numeric;
+        }
+        let part = if self.faults.contains(&Fault::Astray) {
+            8
+        } else {
+            3
+        };
+        match self.random.any(&self.domains) {
+            Some(domain) if !domain.is_abstract && self.random.chance(part, 9) => {
+                let shape = domain.shape.clone();
+                shape.written(&mut self.symbols);
+                shape
+            }
+            _ => self.first_type(),
+        }
+    }
+
+    /// Names any domain that is not abstract, or by a fault one that is;
+    /// over a base one of its kind.
+    fn named_domain(&mut self, base: Option<&Shape>) -> Option<Holds> {
+        let of = |is_abstract: bool| -> Vec<usize> {
+            let fits = |domain: &Domain| {
+                domain.is_abstract == is_abstract
+                    && base.is_none_or(|base| base.same_kind(&domain.shape))
+            };
+            let numbers = 0..self.domains.len();
+            numbers
+                .filter(|&number| fits(&self.domains[number]))
+                .collect()
+        };
+        let (open, fitting) = (of(true), of(false));
+        let wrong = !open.is_empty() && self.fault(Fault::AbstractDomain);
+        let number = *self.random.any(if wrong { &open } else { &fitting })?;
+        let (name, topic) = (
+            self.domains[number].name.clone(),
+            self.domains[number].topic,
+        );
+        self.reference(&name, topic);
+        Some(Holds::Domain(number))
+    }
+
+    fn named_structure(&mut self) -> Option<Holds> {
+        let fitting: Vec<usize> = (0..self.classes.len())
+            .filter(|&number| self.classes[number].is_structure)
+            .collect();
+        let number = *self.random.any(&fitting)?;
+        let (name, topic) = (
+            self.classes[number].name.clone(),
+            self.classes[number].topic,
+        );
+        self.reference(&name, topic);
+        Some(Holds::Structure(number))
+    }
+
+    fn extended_attribute(&mut self, base: &Attribute) -> Attribute {
+        let is_final = self.rarely(Fault::FinalBase);
+        let chosen: &[&str] = if is_final {
+            &["EXTENDED", "FINAL"]
+        } else {
+            &["EXTENDED"]
+        };
+        self.put(&base.name);
+        if self.fault(Fault::Inherited) {
+            self.properties(&chosen[1..], "FINAL");
+        } else {
+            self.properties(chosen, "EXTENDED");
+        }
+        self.put(":");
+        let mandatory = self.random.chance(1, 4);
+        if mandatory {
+            self.put("MANDATORY");
+        }
+        let holds = if mandatory && self.random.chance(1, 2) {
+            base.holds.clone()
+        } else {
+            self.extended_type(&base.holds)
+        };
+        self.put(";");
+        Attribute {
+            name: base.name.clone(),
+            is_final,
+            holds,
+        }
+    }
+
+    fn extended_type(&mut self, base: &Holds) -> Holds {
+        if self.fault(Fault::Astray) {
+            if let Some(holds) = self.astray(base) {
+                return holds;
+            }
+        }
+        match base {
+            Holds::Shape(shape) => Holds::Shape(self.extended(shape)),
+            Holds::Domain(number) if self.random.chance(1, 3) => {
+                let shape = self.domains[*number].shape.clone();
+                Holds::Shape(self.extended(&shape))
+            }
+            Holds::Domain(number) => self.descendant(*number),
+            Holds::Structure(number) => self.descendant_structure(*number),
+        }
+    }
+
+    /// Names a domain or structure of the base's kind, likely no descendant.
+    fn astray(&mut self, base: &Holds) -> Option<Holds> {
+        let shape = match base {
+            Holds::Shape(shape) => shape.clone(),
+            Holds::Domain(number) => self.domains[*number].shape.clone(),
+            Holds::Structure(_) => return self.named_structure(),
+        };
+        self.named_domain(Some(&shape))
+    }
+
+    /// Names the domain or one that descends from it.
+    fn descendant(&mut self, ancestor: usize) -> Holds {
+        let bases: Vec<Option<usize>> = self.domains.iter().map(|domain| domain.base).collect();
+        let mut fitting = descendants(&bases, ancestor);
+        fitting.retain(|&number| !self.domains[number].is_abstract);
+        let number = self.random.any(&fitting).copied().unwrap_or(ancestor);
+        let (name, topic) = (
+            self.domains[number].name.clone(),
+            self.domains[number].topic,
+        );
+        self.reference(&name, topic);
+        Holds::Domain(number)
+    }
+
+    fn descendant_structure(&mut self, ancestor: usize) -> Holds {
+        let bases: Vec<Option<usize>> = self.classes.iter().map(|class| class.base).collect();
+        let fitting = descendants(&bases, ancestor);
+        let number = self.random.any(&fitting).copied().unwrap_or(ancestor);
+        let (name, topic) = (
+            self.classes[number].name.clone(),
+            self.classes[number].topic,
+        );
+        self.reference(&name, topic);
+        Holds::Structure(number)
+    }
+
+    /// A class with 255 to 257 attributes, perhaps in two steps.
+    fn crowded_class(&mut self) {
+        let count = 255 + self.random.below(3);
+        let split = if self.random.chance(1, 2) {
+            self.random.below(count)
+        } else {
+            count
+        };
+        self.put("CLASS Crowd =");
+        for number in 0..count {
+            if number == split {
+                self.put("END Crowd ; CLASS Crowd2 EXTENDS Crowd =");
+            }
+            self.put(&format!("c{number} : TEXT ;"));
+        }
+        let name = if split < count { "Crowd2" } else { "Crowd" };
+        self.end(name, ";");
+    }
+}
+
+/// The number itself and all that descend from it.
+fn descendants(bases: &[Option<usize>], ancestor: usize) -> Vec<usize> {
+    let mut found = vec![ancestor];
+    for (number, base) in bases.iter().enumerate() {
+        if base.is_some_and(|base| found.contains(&base)) {
+            found.push(number);
+        }
+    }
+    found
+}

@@ -1,0 +1,186 @@
+//! What holds for every case, and how often each answer comes.
+
+use cases::{gen, gen_small, Case, SMALL};
+use peer::{check, name_part, show_name, units, Answer};
+
+/// Checks with a buffer of this length, full of other bytes before.
+fn checked(text: &[u8], length: usize) -> (Answer, Vec<u8>) {
+    let mut buffer = vec![0xA5; length];
+    let answer = check(text, &mut buffer);
+    (answer, buffer)
+}
+
+/// The large and the small case of each seed.
+fn every(seeds: std::ops::Range<u64>, mut judge: impl FnMut(u64, Case)) {
+    for seed in seeds {
+        judge(seed, gen(seed));
+        judge(seed, gen_small(seed));
+    }
+}
+
+#[test]
+fn one_seed_gives_one_case() {
+    for seed in 0..200 {
+        assert_eq!(gen(seed), gen(seed));
+        assert_eq!(gen_small(seed), gen_small(seed));
+    }
+}
+
+#[test]
+fn the_whole_buffer_is_determined() {
+    every(0..6_000, |seed, case| {
+        let (answer, buffer) = checked(&case.text, case.buffer_len);
+        let length = match answer {
+            Answer::Accepted { book_len, .. } => book_len,
+            Answer::Refused { .. } => 0,
+        };
+        assert!(length <= 65_535 && length <= case.buffer_len, "seed {seed}");
+        let rest = &buffer[length..];
+        assert!(rest.iter().all(|&byte| byte == 0), "seed {seed}");
+    });
+}
+
+#[test]
+fn a_longer_buffer_gives_the_same_book() {
+    every(6_000..9_000, |seed, case| {
+        let (answer, buffer) = checked(&case.text, case.buffer_len);
+        let longer = case.buffer_len + 1 + (seed as usize * 37) % 3_000;
+        let (again, book) = checked(&case.text, longer);
+        match answer {
+            Answer::Accepted { book_len, .. } => {
+                assert_eq!(answer, again, "seed {seed}");
+                assert_eq!(buffer[..book_len], book[..book_len], "seed {seed}");
+            }
+            Answer::Refused { number: 19, .. } => {}
+            Answer::Refused { .. } => assert_eq!(answer, again, "seed {seed}"),
+        }
+    });
+}
+
+#[test]
+fn a_buffer_of_the_books_length_is_enough_and_one_less_is_not() {
+    every(9_000..11_000, |seed, case| {
+        let (answer, buffer) = checked(&case.text, 65_535);
+        let Answer::Accepted { book_len, .. } = answer else {
+            return;
+        };
+        let (exactly, book) = checked(&case.text, book_len);
+        assert_eq!(exactly, answer, "seed {seed}");
+        assert_eq!(book[..], buffer[..book_len], "seed {seed}");
+        let (short, _) = checked(&case.text, book_len - 1);
+        let refused = matches!(short, Answer::Refused { number: 19, .. });
+        assert!(refused, "seed {seed}");
+    });
+}
+
+/// Kinds of records that have a name, and the definitions among them.
+fn counted(text: &[u8], book: &[u8]) -> (usize, usize) {
+    let lengths = [0, 6, 6, 1, 11, 11, 11, 11, 5, 5, 18, 1, 5, 2, 6, 1, 1, 5];
+    let (mut at, mut record, mut names, mut definitions) = (0, 0, 0, 0);
+    while at < book.len() {
+        let kind = usize::from(book[at]);
+        let has_name = matches!(kind, 1 | 2 | 4..=7 | 14);
+        let (_, length) = name_part(text, book, record);
+        assert_eq!(has_name, length > 0);
+        if has_name {
+            let name = show_name(text, book, record);
+            assert!(name[0].is_ascii_alphabetic());
+            names += 1;
+        }
+        definitions += usize::from((4..=7).contains(&kind));
+        at += lengths[kind];
+        record += 1;
+    }
+    assert_eq!(at, book.len());
+    (names, definitions)
+}
+
+#[test]
+fn books_hold_whole_records_and_names() {
+    every(11_000..12_000, |seed, case| {
+        let (answer, buffer) = checked(&case.text, 65_535);
+        if let Answer::Accepted {
+            book_len,
+            definitions,
+        } = answer
+        {
+            let (names, found) = counted(&case.text, &buffer[..book_len]);
+            assert_eq!(found, definitions, "seed {seed}");
+            assert!(names > definitions, "seed {seed}");
+        }
+    });
+}
+
+#[test]
+fn units_agree_with_the_check() {
+    every(12_000..16_000, |seed, case| {
+        let (answer, _) = checked(&case.text, case.buffer_len);
+        let (found, refusal) = units(&case.text);
+        let increasing = found.windows(2).all(|pair| pair[0].place < pair[1].place);
+        assert!(increasing, "seed {seed}");
+        match (answer, refusal) {
+            (Answer::Accepted { .. }, refusal) => assert_eq!(refusal, None, "seed {seed}"),
+            (Answer::Refused { number, place }, Some(fault)) if number <= 6 => {
+                // The attribute count of 4 stands at a unit's name.
+                let counted = found.iter().any(|unit| unit.place == place);
+                let same = (fault.number, fault.place) == (number, place);
+                assert!(same || (number == 4 && counted), "seed {seed}");
+            }
+            (Answer::Refused { number, .. }, None) => {
+                assert!(number >= 7 || number == 4, "seed {seed}");
+            }
+            (Answer::Refused { .. }, Some(_)) => {}
+        }
+    });
+}
+
+/// How often each answer comes: 0 is acceptance.
+fn tally(case: impl Fn(u64) -> Case, count: u64) -> [usize; 20] {
+    let mut tally = [0; 20];
+    for seed in 0..count {
+        let case = case(seed);
+        match checked(&case.text, case.buffer_len).0 {
+            Answer::Accepted { .. } => tally[0] += 1,
+            Answer::Refused { number, .. } => tally[usize::from(number)] += 1,
+        }
+    }
+    tally
+}
+
+#[test]
+fn large_cases_reach_every_answer() {
+    let tally = tally(gen, 20_000);
+    assert!(tally[0] >= 4_000, "accepted {}", tally[0]);
+    for (number, &count) in tally.iter().enumerate().skip(2) {
+        assert!(count >= 20, "refusal {number}: {count}");
+    }
+}
+
+#[test]
+fn small_cases_reach_every_answer() {
+    let tally = tally(gen_small, 20_000);
+    assert!(tally[0] >= 4_000, "accepted {}", tally[0]);
+    for (number, &count) in tally.iter().enumerate().skip(2) {
+        assert!(count >= 20, "refusal {number}: {count}");
+    }
+}
+
+#[test]
+fn small_texts_are_small() {
+    for seed in 0..5_000 {
+        assert!(gen_small(seed).text.len() <= SMALL);
+        assert!(gen(seed).text.len() <= 20_000);
+    }
+}
+
+#[test]
+fn buffers_of_every_kind_are_lent() {
+    let lengths: Vec<usize> = (0..3_000).map(|seed| gen(seed).buffer_len).collect();
+    let some = |fits: fn(&usize) -> bool| lengths.iter().any(fits);
+    assert!(some(|&length| length == 0));
+    assert!(some(|&length| (1..6).contains(&length)));
+    assert!(some(|&length| (100..10_000).contains(&length)));
+    assert!(some(|&length| length == 65_534));
+    assert!(some(|&length| length == 65_535));
+    assert!(some(|&length| length > 65_535));
+}

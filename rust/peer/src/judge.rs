@@ -1,0 +1,464 @@
+//! The judge of units: the attribute count of 4, then refusals 7 to 19 in
+//! their order, then the unit's records.
+
+use crate::book::{flag, kind, Book, Full, NO_BASE};
+use crate::chains::Chains;
+use crate::classes::{Classes, Standing};
+use crate::enumerations::{index_lists, is_empty, list, merge, reads, Piece};
+use crate::grammar::Reader;
+use crate::scope::{Known, Scope};
+use crate::tables::Pairs;
+use crate::types::{self, Type};
+use crate::units::*;
+use crate::Refusal;
+
+/// Judges a text unit by unit and writes its book.
+pub fn judge(text: &[u8], book: &mut Book) -> Result<(), Refusal> {
+    let mut reader = Reader::new(text);
+    let mut judge = Judge::new(text, book);
+    while let Some(unit) = reader.next()? {
+        judge.unit(&unit, &mut reader.pieces)?;
+    }
+    Ok(())
+}
+
+/// The class or structure that is open.
+struct OpenClass {
+    name: Name,
+    is_structure: bool,
+    is_final: bool,
+    base: Option<u32>,
+    record: u32,
+}
+
+struct Judge<'t, 'j, 'b> {
+    text: &'t [u8],
+    book: &'j mut Book<'b>,
+    scope: Scope,
+    model: Option<Name>,
+    topic: Option<Name>,
+    class: Option<OpenClass>,
+    classes: Classes,
+    class_chains: Chains,
+    domains: Vec<types::Domain>,
+    domain_chains: Chains,
+    /// The elements of the enumerations written so far.
+    elements: Pairs,
+}
+
+fn refuse<T>(number: u8, place: usize) -> Result<T, Refusal> {
+    Err(Refusal::new(number, place))
+}
+
+/// Refuses if the condition holds.
+fn refuse_if(condition: bool, number: u8, place: usize) -> Result<(), Refusal> {
+    if condition {
+        return refuse(number, place);
+    }
+    Ok(())
+}
+
+/// Refusal 19 for a unit whose records did not fit.
+fn fitting(written: Result<(), Full>, name: Name) -> Result<(), Refusal> {
+    written.map_err(|Full| Refusal::new(19, name.place()))
+}
+
+/// Refusal 14.
+fn sound(written: &Written) -> Result<(), Refusal> {
+    let Written::Type { place, form } = *written else {
+        return Ok(());
+    };
+    match form {
+        InPlace::Range { first, second } => {
+            let unlike = first.decimals != second.decimals;
+            refuse_if(unlike || first.value > second.value, 14, place)
+        }
+        InPlace::Text(length) | InPlace::Mtext(length) => match length.written {
+            Some(place) => refuse_if(length.value == 0, 14, place),
+            None => Ok(()),
+        },
+        InPlace::Numeric | InPlace::Enumeration(_) => Ok(()),
+    }
+}
+
+/// Refusal 15, for a type without a base.
+fn rooted(written: &Written, pieces: &[Piece]) -> Result<(), Refusal> {
+    match *written {
+        Written::Type {
+            place,
+            form: InPlace::Enumeration(open),
+        } => refuse_if(is_empty(pieces, open), 15, place),
+        _ => Ok(()),
+    }
+}
+
+fn flags(properties: Properties, mandatory: bool) -> u8 {
+    let bit = |set, bit| if set { bit } else { 0 };
+    bit(properties.is_abstract, flag::ABSTRACT)
+        | bit(properties.is_final, flag::FINAL)
+        | bit(properties.is_extended, flag::EXTENDED)
+        | bit(mandatory, flag::MANDATORY)
+}
+
+impl<'t, 'j, 'b> Judge<'t, 'j, 'b> {
+    fn new(text: &'t [u8], book: &'j mut Book<'b>) -> Self {
+        Judge {
+            text,
+            book,
+            scope: Scope::new(),
+            model: None,
+            topic: None,
+            class: None,
+            classes: Classes::default(),
+            class_chains: Chains::default(),
+            domains: Vec::new(),
+            domain_chains: Chains::default(),
+            elements: Pairs::new(),
+        }
+    }
+
+    fn unit(&mut self, unit: &Unit, pieces: &mut Vec<Piece>) -> Result<(), Refusal> {
+        match unit {
+            Unit::Header { version, length } => self.header(*version, *length),
+            Unit::Model { name } => self.model(*name),
+            Unit::Topic { name } => self.topic(*name),
+            Unit::Class(head) => self.class_head(head),
+            Unit::Domain(domain) => self.domain(domain, pieces),
+            Unit::Attribute(attribute) => self.attribute(attribute, pieces),
+            Unit::End { name, closed } => match closed {
+                Closed::Class => self.end_of_class(*name),
+                Closed::Topic => self.end_of_topic(*name),
+                Closed::Model => self.same_name(self.model, *name),
+            },
+        }
+    }
+
+    fn header(&self, version: usize, length: usize) -> Result<(), Refusal> {
+        let written = &self.text[version..version + length];
+        refuse_if(written != b"2.4", 7, version)
+    }
+
+    fn model(&mut self, name: Name) -> Result<(), Refusal> {
+        fitting(self.book.named(kind::MODEL, name), name)?;
+        self.model = Some(name);
+        self.scope.set_model(name);
+        Ok(())
+    }
+
+    fn topic(&mut self, name: Name) -> Result<(), Refusal> {
+        self.free(name)?;
+        fitting(self.book.named(kind::TOPIC, name), name)?;
+        self.topic = Some(name);
+        self.scope.open_topic(name);
+        Ok(())
+    }
+
+    fn end_of_topic(&mut self, name: Name) -> Result<(), Refusal> {
+        self.same_name(self.topic, name)?;
+        fitting(self.book.put([kind::END_OF_TOPIC]), name)?;
+        self.scope.close_topic();
+        Ok(())
+    }
+
+    /// Refusal 8.
+    fn same_name(&self, opened: Option<Name>, name: Name) -> Result<(), Refusal> {
+        let same = opened.is_some_and(|opened| opened.id == name.id);
+        refuse_if(!same, 8, name.place())
+    }
+
+    /// Refusal 9 for a name that is taken.
+    fn free(&self, name: Name) -> Result<(), Refusal> {
+        refuse_if(self.scope.bare(name).is_some(), 9, name.place())
+    }
+
+    /// Refusal 9 for an element that stands twice in one list.
+    fn undoubled(&mut self, written: &Written, pieces: &[Piece]) -> Result<(), Refusal> {
+        let Written::Type {
+            form: InPlace::Enumeration(open),
+            ..
+        } = *written
+        else {
+            return Ok(());
+        };
+        match index_lists(pieces, open, &mut self.elements) {
+            Some(name) => refuse(9, name.place()),
+            None => Ok(()),
+        }
+    }
+
+    /// Refusal 10 for a reference.
+    fn find(&self, reference: &Reference) -> Result<Known, Refusal> {
+        let unknown = Refusal::new(10, reference.place);
+        self.scope.find(&reference.parts).ok_or(unknown)
+    }
+
+    fn class_head(&mut self, head: &ClassHead) -> Result<(), Refusal> {
+        self.free(head.name)?;
+        let base = match &head.base {
+            Some(reference) => Some(self.class_base(reference, head.is_structure)?),
+            None => None,
+        };
+        let properties = head.properties;
+        let contrary = properties.is_abstract && properties.is_final;
+        refuse_if(properties.doubled || contrary, 13, head.name.place())?;
+        let record = self.book.next_record();
+        let base_record = base.map_or(NO_BASE, |number| self.classes.get(number).record);
+        let kind = if head.is_structure {
+            kind::STRUCTURE
+        } else {
+            kind::CLASS
+        };
+        let written =
+            (self.book).definition(kind, head.name, flags(properties, false), base_record);
+        fitting(written, head.name)?;
+        self.classes.open(base);
+        self.class = Some(OpenClass {
+            name: head.name,
+            is_structure: head.is_structure,
+            is_final: properties.is_final,
+            base,
+            record,
+        });
+        Ok(())
+    }
+
+    /// Refusals 10 to 12 for the base of a class or structure.
+    fn class_base(&self, reference: &Reference, is_structure: bool) -> Result<u32, Refusal> {
+        let number = match self.find(reference)? {
+            Known::Class(number) if !is_structure => number,
+            Known::Structure(number) if is_structure => number,
+            _ => return refuse(11, reference.place),
+        };
+        refuse_if(self.classes.get(number).is_final, 12, reference.place)?;
+        Ok(number)
+    }
+
+    fn end_of_class(&mut self, name: Name) -> Result<(), Refusal> {
+        self.same_name(self.class.as_ref().map(|class| class.name), name)?;
+        fitting(self.book.put([kind::END_OF_CLASS]), name)?;
+        if let Some(class) = self.class.take() {
+            let number = self.classes.close(class.record, class.is_final);
+            self.class_chains.add(class.base);
+            let known = if class.is_structure {
+                Known::Structure(number)
+            } else {
+                Known::Class(number)
+            };
+            self.scope.define(class.name, known);
+        }
+        Ok(())
+    }
+
+    fn domain(&mut self, unit: &Domain, pieces: &mut Vec<Piece>) -> Result<(), Refusal> {
+        self.free(unit.name)?;
+        self.undoubled(&unit.written, pieces)?;
+        let number = match &unit.base {
+            Some(reference) => Some(self.domain_base(reference)?),
+            None => None,
+        };
+        let base = number.map(|number| self.domains[number as usize]);
+        let meant = self.meant(&unit.written, base.map(|base| base.written));
+        let properties = unit.properties;
+        let contrary = properties.is_abstract && properties.is_final;
+        let open = meant == Type::Numeric && !properties.is_abstract;
+        refuse_if(
+            properties.doubled || contrary || open,
+            13,
+            unit.name.place(),
+        )?;
+        sound(&unit.written)?;
+        let whole = self.whole(&unit.written, meant, base.map(|base| base.written), pieces)?;
+        let mandatory = unit.mandatory || base.is_some_and(|base| base.mandatory);
+        let known = types::Domain {
+            record: self.book.next_record(),
+            is_abstract: properties.is_abstract,
+            is_final: properties.is_final,
+            mandatory,
+            written: whole,
+        };
+        let base_record = base.map_or(NO_BASE, |base| base.record);
+        let bits = flags(properties, mandatory);
+        let head = (self.book).definition(kind::DOMAIN, unit.name, bits, base_record);
+        fitting(head, unit.name)?;
+        fitting(self.put_type(whole, pieces), unit.name)?;
+        self.scope
+            .define(unit.name, Known::Domain(self.domains.len() as u32));
+        self.domains.push(known);
+        self.domain_chains.add(number);
+        Ok(())
+    }
+
+    /// Refusals 10 to 12 for the base of a domain.
+    fn domain_base(&self, reference: &Reference) -> Result<u32, Refusal> {
+        let Known::Domain(number) = self.find(reference)? else {
+            return refuse(11, reference.place);
+        };
+        refuse_if(self.domains[number as usize].is_final, 12, reference.place)?;
+        Ok(number)
+    }
+
+    /// The type written or, with MANDATORY alone, the base's. References are
+    /// known by now to be of a right sort.
+    fn meant(&self, written: &Written, base: Option<Type>) -> Type {
+        match (written, base) {
+            (Written::Type { form, .. }, _) => Type::of(*form),
+            (Written::Named(reference), _) => match self.scope.find(&reference.parts) {
+                Some(Known::Domain(number)) => Type::Domain(number),
+                Some(Known::Structure(number)) => Type::Structure(number),
+                _ => unreachable!("judged by 10 and 11"),
+            },
+            (Written::Nothing, Some(base)) => base,
+            (Written::Nothing, None) => unreachable!("MANDATORY alone has a base"),
+        }
+    }
+
+    /// Refusals 15 to 18; gives the type, an enumeration merged.
+    fn whole(
+        &self,
+        written: &Written,
+        meant: Type,
+        base: Option<Type>,
+        pieces: &mut Vec<Piece>,
+    ) -> Result<Type, Refusal> {
+        let Some(base) = base else {
+            rooted(written, pieces)?;
+            return Ok(meant);
+        };
+        match written {
+            Written::Nothing => Ok(meant),
+            Written::Type { place, .. } => self.extended(*place, meant, base, pieces),
+            Written::Named(reference) => {
+                self.named(reference.place, meant, base, pieces)?;
+                Ok(meant)
+            }
+        }
+    }
+
+    /// The type itself, or that of the domain it names.
+    fn resolved(&self, named: Type) -> Type {
+        match named {
+            Type::Domain(number) => self.domains[number as usize].written,
+            other => other,
+        }
+    }
+
+    /// Refusals 16 and 17 for a type written in place over a base.
+    fn extended(
+        &self,
+        place: usize,
+        own: Type,
+        base: Type,
+        pieces: &mut Vec<Piece>,
+    ) -> Result<Type, Refusal> {
+        let base = self.resolved(base);
+        refuse_if(!own.same_kind(base), 16, place)?;
+        if let (Type::Enumeration(written), Type::Enumeration(base)) = (own, base) {
+            let merged = merge(pieces, &self.elements, base, written);
+            let merged = merged.map_err(|_| Refusal::new(17, place))?;
+            return Ok(Type::Enumeration(merged));
+        }
+        refuse_if(!own.reads(base), 17, place)?;
+        Ok(own)
+    }
+
+    /// Refusals 16 to 18 for a domain or structure named over a base.
+    fn named(&self, place: usize, own: Type, base: Type, pieces: &[Piece]) -> Result<(), Refusal> {
+        let descends = match (own, base) {
+            (Type::Domain(own), Type::Domain(base)) => self.domain_chains.descends(own, base),
+            (Type::Structure(own), Type::Structure(base)) => self.class_chains.descends(own, base),
+            _ => false,
+        };
+        if descends {
+            return Ok(());
+        }
+        let (own, base) = (self.resolved(own), self.resolved(base));
+        refuse_if(!own.same_kind(base), 16, place)?;
+        let legal = match (own, base) {
+            (Type::Enumeration(own), Type::Enumeration(base)) => {
+                // The base may be a merged one, whose lists have no index.
+                let mut index = Pairs::new();
+                index_lists(pieces, base, &mut index);
+                reads(pieces, &index, own, base)
+            }
+            _ => own.reads(base),
+        };
+        refuse_if(!legal, 17, place)?;
+        refuse(18, place)
+    }
+
+    fn attribute(&mut self, unit: &Attribute, pieces: &mut Vec<Piece>) -> Result<(), Refusal> {
+        let base = self.inherited(unit)?;
+        self.undoubled(&unit.written, pieces)?;
+        self.attribute_sorts(unit, base.is_some())?;
+        let name = unit.name.place();
+        refuse_if(base.is_some_and(|base| base.is_final), 12, name)?;
+        let meant = self.meant(&unit.written, base.map(|base| base.written));
+        let named = match meant {
+            Type::Domain(number) => Some(self.domains[number as usize]),
+            _ => None,
+        };
+        let open = meant == Type::Numeric || named.is_some_and(|domain| domain.is_abstract);
+        refuse_if(unit.properties.doubled || open, 13, name)?;
+        sound(&unit.written)?;
+        let whole = self.whole(&unit.written, meant, base.map(|base| base.written), pieces)?;
+        let mandatory = unit.mandatory
+            || named.is_some_and(|domain| domain.mandatory)
+            || base.is_some_and(|base| base.mandatory);
+        let record = self.book.next_record();
+        let base_record = base.map_or(NO_BASE, |base| base.record);
+        let bits = flags(unit.properties, mandatory);
+        let head = (self.book).definition(kind::ATTRIBUTE, unit.name, bits, base_record);
+        fitting(head, unit.name)?;
+        fitting(self.put_type(whole, pieces), unit.name)?;
+        self.classes.add(types::Attribute {
+            name: unit.name,
+            record,
+            is_final: unit.properties.is_final,
+            mandatory,
+            written: whole,
+        });
+        Ok(())
+    }
+
+    /// The attribute count of 4, and 9 for the name; gives the base.
+    fn inherited(&mut self, unit: &Attribute) -> Result<Option<types::Attribute>, Refusal> {
+        let place = unit.name.place();
+        match self.classes.standing(unit.name) {
+            Standing::New if self.classes.is_full() => refuse(4, place),
+            Standing::New => Ok(None),
+            Standing::Inherited(base) if unit.properties.is_extended => Ok(Some(base)),
+            Standing::Inherited(_) | Standing::Own => refuse(9, place),
+        }
+    }
+
+    /// Refusals 10 and 11.
+    fn attribute_sorts(&self, unit: &Attribute, has_base: bool) -> Result<(), Refusal> {
+        let unfounded = unit.properties.is_extended && !has_base;
+        refuse_if(unfounded, 10, unit.name.place())?;
+        let Written::Named(reference) = &unit.written else {
+            return Ok(());
+        };
+        match self.find(reference)? {
+            Known::Domain(_) | Known::Structure(_) => Ok(()),
+            Known::Class(_) | Known::Topic(_) => refuse(11, reference.place),
+        }
+    }
+
+    fn put_type(&mut self, written: Type, pieces: &[Piece]) -> Result<(), Full> {
+        match written {
+            Type::Text(length) => self.book.number(kind::TEXT, length),
+            Type::Mtext(length) => self.book.number(kind::MTEXT, length),
+            Type::Range(range) => (self.book).range(range.decimals, range.first, range.second),
+            Type::Numeric => self.book.put([kind::NUMERIC]),
+            Type::Enumeration(open) => self.book.enumeration(list(pieces, open)),
+            Type::Structure(number) => {
+                let record = self.classes.get(number).record;
+                self.book.number(kind::TYPED_BY_STRUCTURE, record)
+            }
+            Type::Domain(number) => {
+                let record = self.domains[number as usize].record;
+                self.book.number(kind::TYPED_BY_DOMAIN, record)
+            }
+        }
+    }
+}

@@ -1,0 +1,91 @@
+//! The name space that topics, domains, structures and classes share.
+
+use crate::tables::Pairs;
+use crate::units::{Name, Parts};
+
+/// What a name stands for; the number counts topics from 1, domains from 0,
+/// and classes and structures together from 0.
+#[derive(Clone, Copy, Debug, PartialEq, Eq)]
+pub enum Known {
+    Topic(u32),
+    Domain(u32),
+    Structure(u32),
+    Class(u32),
+}
+
+const MODEL_LEVEL: u32 = 0;
+
+pub struct Scope {
+    model: Option<Name>,
+    /// Topics are numbered from 1; zero is the model's level.
+    topics: u32,
+    open: u32,
+    places: Pairs,
+    known: Vec<Known>,
+}
+
+impl Scope {
+    pub fn new() -> Self {
+        Scope {
+            model: None,
+            topics: 0,
+            open: MODEL_LEVEL,
+            places: Pairs::new(),
+            known: Vec::new(),
+        }
+    }
+
+    pub fn set_model(&mut self, name: Name) {
+        self.model = Some(name);
+    }
+
+    pub fn open_topic(&mut self, name: Name) {
+        self.topics += 1;
+        self.define(name, Known::Topic(self.topics));
+        self.open = self.topics;
+    }
+
+    pub fn close_topic(&mut self) {
+        self.open = MODEL_LEVEL;
+    }
+
+    /// Makes a name known at the model's level or in the open topic.
+    pub fn define(&mut self, name: Name, known: Known) {
+        let number = self.known.len() as u32;
+        self.known.push(known);
+        self.places.insert(self.open, name.id, number);
+    }
+
+    fn within(&self, level: u32, name: Name) -> Option<Known> {
+        let number = self.places.get(level, name.id)?;
+        Some(self.known[number as usize])
+    }
+
+    /// What a bare name stands for; a new name is taken if this is something.
+    pub fn bare(&self, name: Name) -> Option<Known> {
+        match self.within(MODEL_LEVEL, name) {
+            None if self.open != MODEL_LEVEL => self.within(self.open, name),
+            found => found,
+        }
+    }
+
+    pub fn find(&self, parts: &Parts) -> Option<Known> {
+        match *parts {
+            Parts::Bare(name) => self.bare(name),
+            Parts::InModel { model, name } if self.is_model(model) => {
+                self.within(MODEL_LEVEL, name)
+            }
+            Parts::InTopic { model, topic, name } if self.is_model(model) => {
+                match self.within(MODEL_LEVEL, topic)? {
+                    Known::Topic(number) => self.within(number, name),
+                    _ => None,
+                }
+            }
+            _ => None,
+        }
+    }
+
+    fn is_model(&self, name: Name) -> bool {
+        self.model.is_some_and(|model| model.id == name.id)
+    }
+}

@@ -1,0 +1,122 @@
+//! Types and the reading of numbers.
+
+use crate::units::{InPlace, Name};
+
+const MOST_DECIMALS: u64 = 17;
+const LIMIT: i64 = 1_000_000_000_000_000_000;
+
+#[derive(Clone, Copy, Debug, PartialEq, Eq)]
+pub struct Range {
+    pub decimals: u8,
+    pub first: i64,
+    pub second: i64,
+}
+
+/// A type as it is kept for extensions.
+#[derive(Clone, Copy, Debug, PartialEq, Eq)]
+pub enum Type {
+    /// The length, zero for unlimited.
+    Text(u32),
+    Mtext(u32),
+    Range(Range),
+    Numeric,
+    /// Where the whole enumeration opens among the pieces.
+    Enumeration(usize),
+    /// The structure's or domain's number among its like.
+    Structure(u32),
+    Domain(u32),
+}
+
+impl Type {
+    pub fn of(form: InPlace) -> Type {
+        match form {
+            InPlace::Text(length) => Type::Text(length.value),
+            InPlace::Mtext(length) => Type::Mtext(length.value),
+            InPlace::Range { first, second } => Type::Range(Range {
+                decimals: first.decimals,
+                first: first.value,
+                second: second.value,
+            }),
+            InPlace::Numeric => Type::Numeric,
+            InPlace::Enumeration(open) => Type::Enumeration(open),
+        }
+    }
+
+    /// Whether both are TEXT, or MTEXT, numbers, enumerations, structures.
+    pub fn same_kind(self, other: Type) -> bool {
+        use Type::*;
+        matches!(
+            (self, other),
+            (Text(_), Text(_))
+                | (Mtext(_), Mtext(_))
+                | (Range(_) | Numeric, Range(_) | Numeric)
+                | (Enumeration(_), Enumeration(_))
+                | (Structure(_), Structure(_))
+        )
+    }
+
+    /// For texts and numbers of one kind: whether each legal value has a
+    /// legal reading at the base.
+    pub fn reads(self, base: Type) -> bool {
+        match (self, base) {
+            (Type::Text(own), Type::Text(base)) | (Type::Mtext(own), Type::Mtext(base)) => {
+                base == 0 || (own != 0 && own <= base)
+            }
+            (Type::Range(own), Type::Range(base)) => own.reads(base),
+            (Type::Numeric, Type::Range(_)) => false,
+            _ => true,
+        }
+    }
+}
+
+impl Range {
+    /// Readings keep the order, so the bounds decide.
+    fn reads(self, base: Range) -> bool {
+        let reading = |bound| reading(bound, self.decimals, base.decimals);
+        i128::from(base.first) <= reading(self.first)
+            && reading(self.second) <= i128::from(base.second)
+    }
+}
+
+/// The reading of a number with at most 18 digits at a base.
+fn reading(value: i64, decimals: u8, base_decimals: u8) -> i128 {
+    let value = i128::from(value);
+    if decimals <= base_decimals {
+        return value * 10i128.pow(u32::from(base_decimals - decimals));
+    }
+    let unit = 10i128.pow(u32::from(decimals - base_decimals));
+    (value + unit / 2).div_euclid(unit)
+}
+
+/// Reads a number at a base with `base_decimals`; refusals 20 and 21.
+pub fn read_number(value: i64, decimals: u64, base_decimals: u64) -> Result<i64, u8> {
+    let too_large = |number: i128| number.unsigned_abs() >= LIMIT as u128;
+    if decimals > MOST_DECIMALS || base_decimals > MOST_DECIMALS || too_large(value.into()) {
+        return Err(20);
+    }
+    let reading = reading(value, decimals as u8, base_decimals as u8);
+    if too_large(reading) {
+        return Err(21);
+    }
+    Ok(reading as i64)
+}
+
+/// An attribute known in a class.
+#[derive(Clone, Copy, Debug)]
+pub struct Attribute {
+    pub name: Name,
+    pub record: u32,
+    pub is_final: bool,
+    pub mandatory: bool,
+    pub written: Type,
+}
+
+/// A known domain; its number is its position among the domains.
+#[derive(Clone, Copy, Debug)]
+pub struct Domain {
+    pub record: u32,
+    pub is_abstract: bool,
+    pub is_final: bool,
+    pub mandatory: bool,
+    pub written: Type,
+}

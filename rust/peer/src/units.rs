@@ -1,0 +1,157 @@
+//! What the grammar hands to the judge: a text cut into units.
+
+use crate::symbols::Number;
+
+/// A name as it stands in the text; equal names have equal numbers.
+#[derive(Clone, Copy, Debug, PartialEq, Eq)]
+pub struct Name {
+    pub id: u32,
+    pub place: u32,
+    pub length: u8,
+}
+
+/// One to three names with dots between.
+#[derive(Clone, Copy, Debug, PartialEq, Eq)]
+pub struct Reference {
+    pub place: usize,
+    pub parts: Parts,
+}
+
+#[derive(Clone, Copy, Debug, PartialEq, Eq)]
+pub enum Parts {
+    Bare(Name),
+    InModel {
+        model: Name,
+        name: Name,
+    },
+    InTopic {
+        model: Name,
+        topic: Name,
+        name: Name,
+    },
+}
+
+#[derive(Clone, Copy, Debug, Default, PartialEq, Eq)]
+pub struct Properties {
+    pub is_abstract: bool,
+    pub is_final: bool,
+    pub is_extended: bool,
+    /// Some property is written twice.
+    pub doubled: bool,
+}
+
+/// A type written in place.
+#[derive(Clone, Copy, Debug, PartialEq, Eq)]
+pub enum InPlace {
+    Text(Length),
+    Mtext(Length),
+    Range {
+        first: Number,
+        second: Number,
+    },
+    Numeric,
+    /// Where the enumeration opens among the pieces.
+    Enumeration(usize),
+}
+
+/// The length of a text type, zero where none is written.
+#[derive(Clone, Copy, Debug, PartialEq, Eq)]
+pub struct Length {
+    pub value: u32,
+    /// The place of the written length.
+    pub written: Option<usize>,
+}
+
+/// What stands where a type or a reference may stand.
+#[derive(Clone, Copy, Debug, PartialEq, Eq)]
+pub enum Written {
+    /// MANDATORY alone: the base's type.
+    Nothing,
+    Type {
+        place: usize,
+        form: InPlace,
+    },
+    Named(Reference),
+}
+
+#[derive(Clone, Copy, Debug, PartialEq, Eq)]
+pub struct ClassHead {
+    pub name: Name,
+    pub is_structure: bool,
+    pub properties: Properties,
+    pub base: Option<Reference>,
+}
+
+#[derive(Clone, Copy, Debug, PartialEq, Eq)]
+pub struct Domain {
+    pub name: Name,
+    pub properties: Properties,
+    pub base: Option<Reference>,
+    pub mandatory: bool,
+    pub written: Written,
+}
+
+#[derive(Clone, Copy, Debug, PartialEq, Eq)]
+pub struct Attribute {
+    pub name: Name,
+    pub properties: Properties,
+    pub mandatory: bool,
+    pub written: Written,
+}
+
+/// What an END closes.
+#[derive(Clone, Copy, Debug, PartialEq, Eq)]
+pub enum Closed {
+    Class,
+    Topic,
+    Model,
+}
+
+#[derive(Clone, Copy, Debug, PartialEq, Eq)]
+pub enum Unit {
+    Header { version: usize, length: usize },
+    Model { name: Name },
+    Topic { name: Name },
+    Class(ClassHead),
+    Domain(Domain),
+    Attribute(Attribute),
+    End { name: Name, closed: Closed },
+}
+
+impl Unit {
+    /// A word for the unit's kind.
+    pub fn kind(&self) -> &'static str {
+        match self {
+            Unit::Header { .. } => "header",
+            Unit::Model { .. } => "model",
+            Unit::Topic { .. } => "topic",
+            Unit::Class(head) if head.is_structure => "structure",
+            Unit::Class(_) => "class",
+            Unit::Domain(_) => "domain",
+            Unit::Attribute(_) => "attribute",
+            Unit::End { closed, .. } => match closed {
+                Closed::Class => "end of class",
+                Closed::Topic => "end of topic",
+                Closed::Model => "end of model",
+            },
+        }
+    }
+
+    /// The place of the unit's name, or of the header's number.
+    pub fn place(&self) -> usize {
+        let name = match self {
+            Unit::Header { version, .. } => return *version,
+            Unit::Model { name } | Unit::Topic { name } | Unit::End { name, .. } => name,
+            Unit::Class(head) => &head.name,
+            Unit::Domain(domain) => &domain.name,
+            Unit::Attribute(attribute) => &attribute.name,
+        };
+        name.place()
+    }
+}
+
+impl Name {
+    pub fn place(&self) -> usize {
+        self.place as usize
+    }
+}

@@ -1,0 +1,74 @@
+//! Helpers: a model around a body, and places marked by `^`, a byte that
+//! stands for itself nowhere in these texts.
+#![allow(dead_code)]
+
+use peer::{check, Answer};
+
+pub const HEAD: &str = r#"INTERLIS 2.4;MODEL M AT "u" VERSION "1"="#;
+
+/// A model with this body.
+pub fn model(body: &str) -> String {
+    format!("{HEAD}{body} END M.")
+}
+
+/// The answer with a buffer of 65,535 bytes, and the book; checks the zeros.
+pub fn answer(text: &[u8]) -> (Answer, Vec<u8>) {
+    answer_in(text, 65_535)
+}
+
+/// The same with a buffer of this length, full of other bytes before.
+pub fn answer_in(text: &[u8], room: usize) -> (Answer, Vec<u8>) {
+    let mut buffer = vec![0xA5; room];
+    let answer = check(text, &mut buffer);
+    let length = match answer {
+        Answer::Accepted { book_len, .. } => book_len,
+        Answer::Refused { .. } => 0,
+    };
+    assert!(
+        buffer[length..].iter().all(|&byte| byte == 0),
+        "zeros behind the book"
+    );
+    buffer.truncate(length);
+    (answer, buffer)
+}
+
+#[track_caller]
+pub fn passes_text(text: &str) -> Vec<u8> {
+    match answer(text.as_bytes()) {
+        (Answer::Accepted { .. }, book) => book,
+        (refused, _) => panic!("{refused:?} for {}", shortened(text)),
+    }
+}
+
+#[track_caller]
+pub fn passes(body: &str) -> Vec<u8> {
+    passes_text(&model(body))
+}
+
+/// The text, with `^` before the place, gets this refusal.
+#[track_caller]
+pub fn refused_text(number: u8, marked: &str) {
+    let place = marked.find('^').expect("a mark for the place");
+    let text = marked.replacen('^', "", 1);
+    let expected = Answer::Refused { number, place };
+    let (found, _) = answer(text.as_bytes());
+    assert_eq!(found, expected, "for {}", shortened(marked));
+}
+
+#[track_caller]
+pub fn refused(number: u8, body: &str) {
+    refused_text(number, &model(body));
+}
+
+fn shortened(text: &str) -> String {
+    text.chars().take(300).collect()
+}
+
+/// Bytes from hexadecimal digits; blanks are passed over.
+pub fn bytes(hexadecimal: &str) -> Vec<u8> {
+    let digits: Vec<u32> = hexadecimal.chars().filter_map(|c| c.to_digit(16)).collect();
+    digits
+        .chunks(2)
+        .map(|pair| (pair[0] * 16 + pair[1]) as u8)
+        .collect()
+}
