@@ -1,6 +1,6 @@
 -- A unit that is not refused leads from a sound state to a sound one.
 use mathlib.Core.Path.{_≡_, refl, sym, ap, _∙_, subst}
-use mathlib.Core.Bool.{Bool, true, false, cond, not, _&&_, _||_}
+use mathlib.Core.Bool.{Bool, true, false, cond, not, _&&_}
 use mathlib.Core.Option.{Option, none, some}
 use mathlib.Core.List.{List, [], _∷_, _++_}
 use Prim.Native.Nat.{ℕ, _+_, _≤_, _<_}
@@ -9,7 +9,7 @@ use lib.ListN.{length, length-append}
 use lib.IntN.{ℤ}
 use lib.Signed.{leZ, ltZ, ltZ-no}
 use lib.Dec.{eqb}
-use borrow.Author.Tests.{eqb-true, eq-eqb}
+use borrow.Author.Tests.{eq-eqb}
 use Rattle.rules.specs.Names.{Name}
 use Rattle.rules.specs.Numbers.{valueOf, decimalsOf}
 use Rattle.rules.specs.Enumerations.{Enum}
@@ -19,13 +19,13 @@ use Rattle.rules.specs.Units as U
 use Rattle.rules.specs.Types as Y
 use Rattle.rules.specs.Types.{Ty, kindOf, fits}
 use Rattle.rules.specs.Declarations as D
-use Rattle.rules.specs.Declarations.{Link, Use, inline, named, struct, tyOf, Attribute, Sort, domain, isSort, Def, linkOf, attributesOf, attributeAt, isFound, Decl, def, State, known, resolve}
-use Rattle.rules.specs.Book.{declRecords, declsRecords, headRecords, endRecords, openRecords, attributeRecords, attributesRecords, records}
+use Rattle.rules.specs.Declarations.{Link, Use, inline, named, struct, tyOf, Attribute, Sort, domain, isSort, Def, linkOf, attributesOf, attributeAt, isFound, def, State, known, resolve}
+use Rattle.rules.specs.Book.{declsRecords, headRecords, endRecords, openRecords, attributeRecords, attributesRecords, records}
 use Rattle.rules.specs.Judge as J
-use Rattle.rules.specs.Judge.{Judged, ok, unless, orNoDef, orNoAttribute, resolved, basesOf, meant, mergedInto, domainType, naming, attributeUse, referenceIn, typeRules, declare, opened, inTopic, extendsRules, newTopic, judgeTopic, newClass, classRules, judgeClass, newDomain, domainEarly, domainRules, judgeDomain, baseOfAttribute, newAttribute, withAttribute, attributeEarly, attributeLate, attributeRules, judgeAttribute, judgeMember, judgeClose, judge, descends}
-use Rattle.rules.proofs.Tests.{never, both, split, not-both, or-l, or-fails, not-is, not-fails, so}
+use Rattle.rules.specs.Judge.{ok, unless, orNoDef, resolved, meant, mergedInto, domainType, naming, attributeUse, referenceIn, typeRules, declare, opened, inTopic, extendsRules, newTopic, judgeTopic, newClass, classRules, judgeClass, newDomain, domainEarly, domainRules, judgeDomain, baseOfAttribute, newAttribute, withAttribute, attributeEarly, attributeLate, attributeRules, judgeAttribute, judgeMember, judgeClose, judge, descends}
+use Rattle.rules.proofs.Tests.{never, not-both, or-l, or-fails, not-fails, so}
 use Rattle.claims.specs.Readings.{proper}
-use Rattle.claims.proofs.StateLaws.{Every, Maybe, every-map, every-append, every-left, every-right, maybe-map, hasNumber, Chained, Linked, GoodUse, Over, GoodOwn, firstDef, GoodDef, KnownDef, GoodOpen, Good, Sound, def-more, becomes-known, grow, attribute-every, resolve-every, good-naming, known-append, records-append}
+use Rattle.claims.proofs.StateLaws.{Every, Maybe, every-map, every-append, every-left, every-right, GoodUse, Over, GoodOwn, GoodDef, KnownDef, GoodOpen, Sound, becomes-known, grow, attribute-every, resolve-every, good-naming, known-append, records-append}
 use Rattle.claims.proofs.RuleLaws.{Kept, unless-ok}
 use Rattle.claims.proofs.OpenLaws.{Moves}
 
@@ -36,14 +36,14 @@ head-some D.class d = omega arith
 head-some D.struct d = omega arith
 head-some D.domain d = omega arith
 
-closed-records : (s : State) → isFound (s .open-class) ≡ false → length (records s) ≡ length (declsRecords (s .decls))
+pub closed-records : (s : State) → isFound (s .open-class) ≡ false → length (records s) ≡ length (declsRecords (s .decls))
 closed-records s h = go (s .open-class) h
   where
     go : (o : Option Def) → isFound o ≡ false → length (declsRecords (s .decls) ++ openRecords o) ≡ length (declsRecords (s .decls))
     go none e = simp length-append (omega arith)
     go (some c) e = never (sym e)
 
-open-records : (s : State) (c : Def) → s .open-class ≡ some c → length (records s) ≡ length (declsRecords (s .decls)) + length (headRecords (c .sort) c)
+pub open-records : (s : State) (c : Def) → s .open-class ≡ some c → length (records s) ≡ length (declsRecords (s .decls)) + length (headRecords (c .sort) c)
 open-records s c e = rw e (length-append (declsRecords (s .decls)) (headRecords (c .sort) c))
 
 abbrev Below : ℕ → Def → Type 0
@@ -206,6 +206,12 @@ over-naming : (t : Bool) (l : Link) (bs : List Link) (b : Use) → descends (con
 over-naming true l bs b h = h
 over-naming false l bs b h = tt
 
+alike : (x y : Bool) → (y && not x) ≡ false → (x && not y) ≡ false → x ≡ y
+alike true true p q = refl
+alike true false p q = q
+alike false true p q = sym p
+alike false false p q = refl
+
 -- 17 and 18 are kept
 late-over : (s : State) (p : ℕ) (x : Option WrittenType) (b : Use) → Every Kept (attributeLate p true (isFound (referenceIn x)) (attributeUse s x b) b) → Over (attributeUse s x b) b
 late-over s p none b k = over-self b (not-fails (k .0))
@@ -238,9 +244,14 @@ module _ (s : State) (c : Def) (n : Name) (p : List (List ℕ)) (w : Written) (g
   new-over none k = tt
   new-over (some a) k = late-over s (w .place) (w .type) (a .use-of) (every-right Kept (attributeEarly s c n p w (some a) g) _ k)
 
+  -- 9 and 10: EXTENDED exactly where there is something inherited
+  attribute-extended : (o : Option Attribute) → Every Kept (attributeEarly s c n p w o g) → J.isExtended p ≡ isFound o
+  unfolding attributeEarly
+  attribute-extended o k = alike (J.isExtended p) (isFound o) (or-fails {x = isFound (attributeAt (n .bytes) (c .own))} (k .1 .0) .1) (k .1 .1 .1 .0)
+
   new-own : (o : Option Attribute) → attributeAt (n .bytes) (c .inherited) ≡ o → Every Kept (attributeRules s c n p w o g) → GoodOwn (c .inherited) (newAttribute s n p w o g)
   unfolding newAttribute
-  new-own o e k = record { base = ap baseOfAttribute (sym e); over = subst (Maybe (λ (b : Attribute). Over (newAttribute s n p w o g .use-of) (b .use-of))) (sym e) (new-over o k) }
+  new-own o e k = record { extended = attribute-extended o (attribute-early o k) ∙ ap isFound (sym e); base = ap baseOfAttribute (sym e); over = subst (Maybe (λ (b : Attribute). Over (newAttribute s n p w o g .use-of) (b .use-of))) (sym e) (new-over o k) }
 
 with-attribute : (K : List Def) (c : Def) (a : Attribute) → isSort domain (c .sort) ≡ false → GoodDef K c → GoodOwn (c .inherited) a → GoodUse K (a .use-of) → GoodDef K (withAttribute c a)
 unfolding withAttribute

@@ -11,7 +11,9 @@ pub mod OpenLaws
 pub mod JudgeLaws
 pub mod RunLaws
 pub mod StepLaws
-pub mod MisfitLaws
 pub mod PromiseLaws
 pub mod DistinctLaws
 pub mod ShutLaws
+pub mod RecordLaws
+pub mod BookLaws
+pub mod Demand3Laws

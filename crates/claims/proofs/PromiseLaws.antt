@@ -1,16 +1,17 @@
 -- `check` allows one outcome, and its buffer is the book and zeros, or zeros.
-use mathlib.Core.Path.{_≡_, refl, sym, ap, _∙_, subst}
-use mathlib.Core.List.{List, [], _∷_, _++_}
-use Prim.Native.Nat.{ℕ, zero, suc, _+_, _-_, _≤_, min}
+use mathlib.Core.Path.{_≡_, refl, ap, _∙_}
+use mathlib.Core.List.{List, []}
+use Prim.Native.Nat.{ℕ, suc, _-_, _≤_}
 use native.Mathlib.Omega.{arith}
 use lib.ListN.{length, take, drop, replicate, length-append, length-replicate}
 use lib.Seq.{take-append-seam, drop-append-seam}
-use Rattle.rules.specs.Declarations.{State}
-use Rattle.rules.specs.Book.{records, book, definitions, padded}
-use Rattle.rules.specs.Check.{Outcome, kept, unread, broken, run, answerOf, bufferOf, Answer, accepted, refusal, check, capacity}
-use Rattle.claims.specs.Steps.{In, first, later}
-use Rattle.claims.specs.Promise.{Promise, OnlyOne, OneOutcome, Zeros, RefusedZeros, Booked, AcceptedBook}
-use Rattle.claims.proofs.RunLaws.{Ending, Ended, run-ends, reached-room}
+use Rattle.rules.specs.Book.{book, padded}
+use Rattle.rules.specs.Show.{recordsFrom}
+use Rattle.rules.specs.Check.{Outcome, kept, unread, broken, run, answerOf, bufferOf, accepted, refusal, check}
+use Rattle.claims.specs.Steps.{first, later}
+use Rattle.claims.specs.Promise.{OneOutcome, Zeros, RefusedZeros, Booked, AcceptedBook}
+use Rattle.claims.proofs.BookLaws.{records-again}
+use Rattle.claims.proofs.RunLaws.{Ending, run-ends, reached-room}
 
 pub one-outcome : OneOutcome
 one-outcome t m = record { answer = check t m .answer; buffer = check t m .buffer; promised = record { answer = refl; buffer = refl }; only = λ a b h. (h .answer, h .buffer) }
@@ -56,6 +57,7 @@ accepted-book t m n k b h = go (run t m) refl (run-ends t m) (h .answer) (h .buf
           whole = ap length q ∙ padded-length (book s) m (omega arith);
           front = rw (l, q) (padded-front (book s) m);
           back = rw (l, q) (padded-back (book s) m);
+          again = ap (recordsFrom 0) q ∙ records-again s m;
         }
     go (unread f p) e r a q = let z : _≡_ {A = ℕ} 0 1 = cc in absurd (omega arith)
     go (broken i p) e r a q = let z : _≡_ {A = ℕ} 0 1 = cc in absurd (omega arith)

@@ -2,7 +2,7 @@
 use mathlib.Core.Path.{_≡_, refl, sym, ap, _∙_, subst}
 use mathlib.Core.Bool.{Bool, true, false, cond}
 use mathlib.Core.Option.{Option, none, some}
-use mathlib.Core.List.{List, []}
+use mathlib.Core.List.{List}
 use Prim.Native.Nat.{ℕ, zero, suc, _≤_}
 use native.Mathlib.Omega.{arith}
 use lib.ListN.{length}
@@ -18,7 +18,7 @@ use Rattle.rules.specs.Declarations.{Def, State, isFound}
 use Rattle.rules.specs.Book.{book}
 use Rattle.rules.specs.Judge as J
 use Rattle.rules.specs.Judge.{Judged, ok, judge}
-use Rattle.rules.specs.Check.{unitPlace, capacity, room, judged, Outcome, kept, unread, broken, isOver, Next, afterJudge, finish, afterUnit, runFrom, nothing, run}
+use Rattle.rules.specs.Check.{unitPlace, capacity, room, judged, Outcome, kept, unread, broken, isOver, afterJudge, finish, afterUnit, runFrom, nothing, run}
 use Rattle.rules.proofs.Tests.{never}
 use Rattle.claims.specs.Reached.{Reaches, begin, pass, Judges}
 use Rattle.claims.proofs.StateLaws.{Sound}
@@ -52,6 +52,11 @@ abbrev pub Ending : List ℕ → ℕ → Outcome → Type 0
 Ending t m (kept s) = Ended t m s
 Ending t m (unread f p) = Unit
 Ending t m (broken n p) = Blamed t m n p
+
+-- what holds at the start, and after each unit that is not refused where the grammar has it
+pub record Invariant (P : State → Type 0) : Type 0 where
+  pub begins : P nothing
+  pub goes : (s x : State) (u : U.Unit) (b : Bool) → P s → Moves (isOpen s) (some u) b → judge s u ≡ ok x → P x
 
 module _ (t : List ℕ) (m : ℕ) where
   abbrev Ends : ℕ → Type 0
@@ -106,15 +111,28 @@ module _ (t : List ℕ) (m : ℕ) where
       reached-run (h .reaches) ∙ rw (o, e, k)
 
   -- ---- what holds of each state that is reached
-  judged-sound : (s x : State) (u : Option U.Unit) (b : Bool) → Moves (isOpen s) u b → Sound s → judged m s u ≡ ok x → Sound x × (isOpen x ≡ b)
-  judged-sound s x none b v h j = let e : s ≡ x = cc in (subst Sound e h, sym (v ∙ ap isOpen e))
-  judged-sound s x (some u) b v h j = let z = room-ok m (unitPlace u) (judge s u) x j .0 in (judge-sound s x u b h v z, judge-open s x u b v z)
+  judged-open : (s x : State) (u : Option U.Unit) (b : Bool) → Moves (isOpen s) u b → judged m s u ≡ ok x → isOpen x ≡ b
+  judged-open s x none b v j = let e : s ≡ x = cc in sym (v ∙ ap isOpen e)
+  judged-open s x (some u) b v j = judge-open s x u b v (room-ok m (unitPlace u) (judge s u) x j .0)
 
-  pub reached-sound : {f : ℕ} {w : Where} {s : State} {at : ℕ} → Reaches t m f w s at → Sound s × (isOpen s ≡ inClass w)
-  reached-sound (begin e) = (record { defs = tt; before = tt; opened = tt }, refl)
-  reached-sound (pass {w = w} {s = s} {at = at} r o q y x e j) =
-      let h = reached-sound r in
-      judged-sound s x (q .unit) (inClass (q .next)) (subst (λ (b : Bool). Moves b (q .unit) (inClass (q .next))) (sym (h .1)) (followed w t (symbolAt t at) q y e)) (h .0) j
+  -- how the unit at a place moves the open class
+  moves : (w : Where) (s : State) (at : ℕ) (q : Step) (y : Symbol) → isOpen s ≡ inClass w → unitAt w t (symbolAt t at) ≡ done q y → Moves (isOpen s) (q .unit) (inClass (q .next))
+  moves w s at q y h e = subst (λ (b : Bool). Moves b (q .unit) (inClass (q .next))) (sym h) (followed w t (symbolAt t at) q y e)
+
+  reached-open : {f : ℕ} {w : Where} {s : State} {at : ℕ} → Reaches t m f w s at → isOpen s ≡ inClass w
+  reached-open (begin e) = refl
+  reached-open (pass {w = w} {s = s} {at = at} r o q y x e j) = judged-open s x (q .unit) (inClass (q .next)) (moves w s at q y (reached-open r) e) j
+
+  judged-keeps : (P : State → Type 0) → Invariant P → (s x : State) (u : Option U.Unit) (b : Bool) → P s → Moves (isOpen s) u b → judged m s u ≡ ok x → P x
+  judged-keeps P k s x none b h v j = let e : s ≡ x = cc in subst P e h
+  judged-keeps P k s x (some u) b h v j = k .goes s x u b h v (room-ok m (unitPlace u) (judge s u) x j .0)
+
+  pub reached-keeps : (P : State → Type 0) → Invariant P → {f : ℕ} {w : Where} {s : State} {at : ℕ} → Reaches t m f w s at → P s
+  reached-keeps P k (begin e) = k .begins
+  reached-keeps P k (pass {w = w} {s = s} {at = at} r o q y x e j) = judged-keeps P k s x (q .unit) (inClass (q .next)) (reached-keeps P k r) (moves w s at q y (reached-open r) e) j
+
+  pub reached-sound : {f : ℕ} {w : Where} {s : State} {at : ℕ} → Reaches t m f w s at → Sound s
+  reached-sound r = reached-keeps Sound (record { begins = record { defs = tt; before = tt; opened = tt }; goes = judge-sound }) r
 
   judged-room : (s x : State) (u : Option U.Unit) → length (book s) ≤ capacity m → judged m s u ≡ ok x → length (book x) ≤ capacity m
   judged-room s x none h j = let e : s ≡ x = cc in subst (λ (z : State). length (book z) ≤ capacity m) e h
@@ -131,10 +149,8 @@ over-closed over e = refl
 over-closed (body t r) e = refl
 over-closed (members t r) e = never e
 
-pub ended-sound : (t : List ℕ) (m : ℕ) (s : State) → Ended t m s → Sound s × (s .open-class ≡ none)
-ended-sound t m s h =
-    let r = reached-sound t m (h .reaches) in
-    (r .0, go (s .open-class) (r .1 ∙ over-closed (h .stands) (h .over)))
+pub ended-closed : (t : List ℕ) (m : ℕ) (s : State) → Ended t m s → s .open-class ≡ none
+ended-closed t m s h = go (s .open-class) (reached-open t m (h .reaches) ∙ over-closed (h .stands) (h .over))
   where
     go : (o : Option Def) → isFound o ≡ false → o ≡ none
     go none e = refl

@@ -1,6 +1,6 @@
 -- The ways of `Shut` do not keep the promise: each differs at a text that is computed.
 use mathlib.Core.Path.{_≡_, refl, sym, ap, _∙_}
-use mathlib.Core.List.{List, [], _∷_}
+use mathlib.Core.List.{List}
 use Prim.Native.Nat.{ℕ}
 use native.Mathlib.Omega.{arith}
 use lib.ListN.{length, take, getD, replicate}
@@ -8,9 +8,11 @@ use Rattle.rules.specs.Symbols.{symbolOf, symbolAt}
 use Rattle.rules.specs.Grammar.{propertiesFrom, properties, reference, extends, closeFinal, enumeration, textLength, textType, rangeType, typeOf, typeOrReference, written}
 use Rattle.rules.specs.Units.{headerUnit, modelUnit, topicUnit, classUnit, domainUnit, attributeUnit, endUnit, wordStep, bodyEnd, bodyUnit, memberUnit, lastStep, unitAt}
 use Rattle.rules.specs.Judge.{newTopic, newClass, newDomain, newAttribute, withAttribute, extendsRules, classRules, domainEarly, domainRules, attributeEarly, attributeRules, judgeTopic, judgeClass, judgeDomain, judgeAttribute, judgeMember, judgeClose, judge}
-use Rattle.rules.specs.Check.{run, Answer, accepted, refusal, Checked, check}
+use Rattle.rules.specs.Book.{definitions}
+use Rattle.rules.specs.Check.{run, Answer, accepted, refusal, check}
 use Rattle.claims.specs.Cases.{modelOf}
-use Rattle.claims.specs.Shut.{Way, Keeps, ShutOut, RefusesAll, FixedBook, FixedCount, IdleRefusing, IdleAccepting, Accepts, Refuses, laterDomain, laterAttribute, stepwiseDomain, stepwiseAttribute, straightDomain, Shut}
+use Rattle.claims.specs.Shut.{Way, Keeps, laterDomain, laterAttribute, stepwiseDomain, stepwiseAttribute, straightDomain, Shut}
+use Rattle.claims.proofs.PromiseLaws.{accepted-book}
 
 abbrev forty : List ℕ
 forty = modelOf "DOMAIN T=-10..40;"
@@ -18,16 +20,12 @@ forty = modelOf "DOMAIN T=-10..40;"
 abbrev more : List ℕ
 more = modelOf "DOMAIN T=-10..41;"
 
-abbrev two : List ℕ
-two = modelOf "DOMAIN T=-10..40;U=1..2;"
-
 abbrev at256 : List ℕ → Answer
 at256 t = check t 256 .answer
 
 record Computed : Type 0 where
   one : at256 forty ≡ accepted 35 1
   other : at256 more ≡ accepted 35 1
-  both : at256 two ≡ accepted 64 2
   first-byte : getD (check forty 256 .buffer) 0 0 ≡ 1
   last-bytes : getD (take 35 (check forty 256 .buffer)) 27 0 ≡ 40
   other-bytes : getD (take 35 (check more 256 .buffer)) 27 0 ≡ 41
@@ -43,7 +41,6 @@ unfolding symbolOf symbolAt propertiesFrom properties reference extends closeFin
 computed = record {
   one = refl;
   other = refl;
-  both = refl;
   first-byte = refl;
   last-bytes = refl;
   other-bytes = refl;
@@ -79,11 +76,10 @@ shut = record {
       let c : take 35 (check forty 256 .buffer) ≡ take 35 (check more 256 .buffer) = ap (take 35) (sym (leaves f k forty)) ∙ (a ∙ (sym b ∙ ap (take 35) (leaves f k more))) in
       let z : _≡_ {A = ℕ} 40 41 = sym (computed .last-bytes) ∙ (ap (λ (l : List ℕ). getD l 27 0) c ∙ computed .other-bytes) in
       omega arith;
-  one-count = λ f r k.
-      let (c, h) = r in
-      let a : 1 ≡ c = h forty lent 35 1 (answers f k forty ∙ computed .one) in
-      let b : 2 ≡ c = h two lent 64 2 (answers f k two ∙ computed .both) in
-      omega arith;
+  invented-count = λ f r k.
+      let (t, b, n, c, e, h) = r in
+      let p = accepted-book t (length b) n c (f t b .buffer) (record { answer = sym e ∙ k t b .answer; buffer = k t b .buffer }) in
+      h (p .count ∙ ap definitions (sym (p .again)));
   idle-refusing = λ f r k.
       let b : List ℕ = replicate 256 1 in
       let e : f laterDomain b .answer ≡ refusal 17 83 = k laterDomain b .answer ∙ computed .later-domain in

@@ -1,6 +1,6 @@
 -- What holds of every state that the units lead to: each definition fits its base, each attribute its own.
-use mathlib.Core.Path.{_≡_, refl, sym, ap, _∙_, subst}
-use mathlib.Core.Bool.{Bool, true, false, cond, true≢false}
+use mathlib.Core.Path.{_≡_, refl, sym, ap, _∙_}
+use mathlib.Core.Bool.{Bool, true, false, cond}
 use mathlib.Core.Option.{Option, none, some}
 use mathlib.Core.List.{List, [], _∷_, _++_}
 use Prim.Native.Nat.{ℕ, _+_, _≤_, _<_}
@@ -13,9 +13,9 @@ use Rattle.rules.specs.Types.{Ty, fits}
 use Rattle.rules.specs.Grammar as G
 use Rattle.rules.specs.Grammar.{Reference}
 use Rattle.rules.specs.Declarations as D
-use Rattle.rules.specs.Declarations.{Link, Use, inline, named, struct, tyOf, Attribute, Def, Decl, linkOf, attributesOf, attributeAt, isSort, domain, topic, State, known, lookup, atHome, atHand, inTopicOf, resolve}
-use Rattle.rules.specs.Book.{Record, declRecords, declsRecords, records, openRecords}
-use Rattle.rules.specs.Judge.{orNoDef, baseOfAttribute, naming, isAmong, descends}
+use Rattle.rules.specs.Declarations.{Link, Use, inline, named, struct, tyOf, Attribute, Def, Decl, linkOf, attributesOf, attributeAt, isFound, isSort, domain, topic, State, known, lookup, atHome, inTopicOf, resolve}
+use Rattle.rules.specs.Book.{declRecords, declsRecords, records}
+use Rattle.rules.specs.Judge.{orNoDef, baseOfAttribute, naming, descends}
 use Rattle.claims.specs.Readings.{proper}
 
 -- ---- every element of a list; the element that may be there
@@ -42,10 +42,6 @@ every-left P (a ∷ l) m h = (h .0, every-left P l m (h .1))
 pub every-right : {A : Type 0} (P : A → Type 0) (l m : List A) → Every P (l ++ m) → Every P m
 every-right P [] m h = h
 every-right P (a ∷ l) m h = every-right P l m (h .1)
-
-pub maybe-map : {A : Type 0} {P Q : A → Type 0} → ((a : A) → P a → Q a) → (o : Option A) → Maybe P o → Maybe Q o
-maybe-map f none h = tt
-maybe-map f (some a) h = f a h
 
 maybe-cond : {A : Type 0} (P : A → Type 0) (t : Bool) (x y : Option A) → Maybe P x → Maybe P y → Maybe P (cond t x y)
 maybe-cond P true x y h k = h
@@ -78,6 +74,7 @@ Over (struct l bs) b = Unit
 
 -- an own attribute over what is inherited under its name
 pub record GoodOwn (inherited : List Attribute) (a : Attribute) : Type 0 where
+  pub extended : a .extended ≡ isFound (attributeAt (a .name .bytes) inherited)
   pub base : a .base ≡ baseOfAttribute (attributeAt (a .name .bytes) inherited)
   pub over : Maybe (λ (b : Attribute). Over (a .use-of) (b .use-of)) (attributeAt (a .name .bytes) inherited)
 

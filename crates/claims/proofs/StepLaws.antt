@@ -1,6 +1,7 @@
 -- In a sound state every legal value reads legally, step after step; and the steps are the book's.
 use mathlib.Core.Path.{_≡_, refl, sym, ap, _∙_, subst}
-use mathlib.Core.Bool.{Bool, true, false, cond}
+use mathlib.Core.Logic.{_⊎_, inl, inr}
+use mathlib.Core.Bool.{Bool, true, false}
 use mathlib.Core.Option.{Option, none, some}
 use mathlib.Core.List.{List, [], _∷_, _++_}
 use Prim.Native.Nat.{ℕ}
@@ -9,11 +10,11 @@ use lib.Dec.{eqb}
 use borrow.Author.Tests.{eqb-true}
 use Rattle.rules.specs.Bytes.{same}
 use Rattle.rules.specs.Types.{Ty, structure, Value, string, number, path, legal, reading, fits}
-use Rattle.rules.specs.Declarations.{Link, Use, inline, named, struct, tyOf, Attribute, Def, linkOf, attributesOf, attributeAt, State, known, lookup}
+use Rattle.rules.specs.Declarations.{Link, Use, inline, named, struct, tyOf, Attribute, Def, linkOf, attributesOf, attributeAt, isFound, State, known}
+use Rattle.rules.specs.Book.{baseNumber}
 use Rattle.rules.specs.Judge.{orNoDef, isAmong, isDomain, baseOfAttribute}
 use Rattle.rules.proofs.Tests.{never, not-both}
 use Rattle.claims.specs.Readings.{readable}
-use Rattle.claims.specs.Steps
 use Rattle.claims.specs.Steps.{In, first, later, Declared, numbered, firstOf, baseOf, Climbs, DomainHolds, Inherits, near, far, Nearest, domainIn, Passes, through, straight, Rises, AttributeHolds, EveryReading, BookedBases}
 use Rattle.claims.proofs.TypeLaws.{fits-reads}
 use Rattle.claims.proofs.StateLaws.{Every, Maybe, every-left, hasNumber, Linked, Chained, GoodUse, Over, GoodOwn, firstDef, GoodDef, KnownDef, Sound, lookup-every}
@@ -233,21 +234,36 @@ module _ (s : State) (sound : Sound s) where
       go d i h q ih none r = far d i r (ih (sym (own-lacks n (d .own) (d .inherited) r) ∙ q))
       go d i h q ih (some b) r = let t : some b ≡ some a = sym (own-first n (d .own) (d .inherited) b r) ∙ q in near d i (r ∙ t)
 
+  found-nearest : (c : Def) → Declared s c → (a : Attribute) → In a (c .own) → (b : Attribute) → attributeAt (a .name .bytes) (c .inherited) ≡ some b → Nearest s a b
+  found-nearest c i a j b f = record { class = c; declared = i; own = j; inherits = found-inherits (a .name .bytes) b (c .bases) c refl (known-in c i .good) f }
+
   based-nearest : (c : Def) → Declared s c → (a : Attribute) → In a (c .own) → (k : ℕ) → a .base ≡ some k → (b : Attribute) × Nearest s a b × (b .number ≡ k)
-  based-nearest c i a j k e = go (attributeAt (a .name .bytes) (c .inherited)) refl
+  based-nearest c i a j k e = which (attributeAt (a .name .bytes) (c .inherited)) refl (sym (every-in (GoodOwn (c .inherited)) (known-in c i .good .own) j .base) ∙ e)
     where
-      go : (o : Option Attribute) → attributeAt (a .name .bytes) (c .inherited) ≡ o → (b : Attribute) × Nearest s a b × (b .number ≡ k)
-      go none f =
-          let h : baseOfAttribute none ≡ some k = ap baseOfAttribute (sym f) ∙ (sym (every-in (GoodOwn (c .inherited)) (known-in c i .good .own) j .base) ∙ e) in
-          let z : _≡_ {A = ℕ} 0 1 = cc in
-          absurd (omega arith)
-      go (some b) f =
-          let h : baseOfAttribute (some b) ≡ some k = ap baseOfAttribute (sym f) ∙ (sym (every-in (GoodOwn (c .inherited)) (known-in c i .good .own) j .base) ∙ e) in
-          (b, record { class = c; declared = i; own = j; inherits = found-inherits (a .name .bytes) b (c .bases) c refl (known-in c i .good) f }, cc)
+      which : (o : Option Attribute) → attributeAt (a .name .bytes) (c .inherited) ≡ o → baseOfAttribute o ≡ some k → (b : Attribute) × Nearest s a b × (b .number ≡ k)
+      which none f h = let z : _≡_ {A = ℕ} 0 1 = cc in absurd (omega arith)
+      which (some b) f h = (b, found-nearest c i a j b f, cc)
+
+  extended-nearest : (c : Def) → Declared s c → (a : Attribute) → In a (c .own) → a .extended ≡ true → (b : Attribute) × Nearest s a b
+  extended-nearest c i a j e = which (attributeAt (a .name .bytes) (c .inherited)) refl (sym (every-in (GoodOwn (c .inherited)) (known-in c i .good .own) j .extended) ∙ e)
+    where
+      which : (o : Option Attribute) → attributeAt (a .name .bytes) (c .inherited) ≡ o → isFound o ≡ true → (b : Attribute) × Nearest s a b
+      which none f h = never h
+      which (some b) f h = (b, found-nearest c i a j b f)
+
+  has-base : (t : Ty) (bs : List Link) → Chained K t bs → (bs ≡ []) ⊎ ((b : Def) × (firstOf s bs ≡ some b))
+  has-base t [] h = inl refl
+  has-base t (l ∷ bs) h = inr (h .1 .0, h .1 .1)
+
+  base-number : (t : Ty) (bs : List Link) → Chained K t bs → (b : Def) → firstOf s bs ≡ some b → baseNumber bs ≡ b .number
+  base-number t [] h b e = let z : _≡_ {A = ℕ} 0 1 = cc in absurd (omega arith)
+  base-number t (l ∷ bs) h b e = let q : some (h .1 .0) ≡ some b = sym (h .1 .1) ∙ e in let r : h .1 .0 ≡ b = cc in ap (λ (x : Link). x .number) (sym (h .1 .2)) ∙ ap (λ (x : Def). x .number) r
 
   pub booked-bases : BookedBases s
   booked-bases = record {
-    definition = λ d i l bs e. bases-booked (d .type) (d .bases) (known-in d i .good .chained) l bs e;
+    definition = λ d b i e. base-number (d .type) (d .bases) (known-in d i .good .chained) b e;
+    based = λ d i. has-base (d .type) (d .bases) (known-in d i .good .chained);
     attribute = λ a b n. own-in a b n .base ∙ ap baseOfAttribute (nearest-found a b n);
     nearest = based-nearest;
+    flagged = λ c i a j. (extended-nearest c i a j, λ q. own-in a (q .0) (q .1) .extended ∙ ap isFound (nearest-found a (q .0) (q .1)));
   }

@@ -1,8 +1,8 @@
--- Document 01, "Types and bases", as claims about `check`: what is accepted reads legally all the way up; 17 refuses nothing else, and
--- everything else.
+-- Document 01, "Types and bases", as claims about `check`: what is accepted reads legally all the way up; 17 refuses only where a value shows
+-- it, and nothing is accepted where one does.
 use mathlib.Core.Path.{_≡_}
-use mathlib.Core.Bool.{Bool, true, false, _&&_}
-use mathlib.Core.Option.{Option, none, some}
+use mathlib.Core.Bool.{false, _&&_}
+use mathlib.Core.Option.{none, some}
 use mathlib.Core.List.{List}
 use Prim.Native.Nat.{ℕ, _≤_}
 use Rattle.rules.specs.Units as U
@@ -10,25 +10,26 @@ use Rattle.rules.specs.Types.{Ty, kindOf}
 use Rattle.rules.specs.Declarations.{tyOf, Attribute, Def, isFound, State}
 use Rattle.rules.specs.Judge as J
 use Rattle.rules.specs.Judge.{judge, resolved, domainType, attributeUse, referenceIn, descends}
-use Rattle.rules.specs.Check.{kept, run, Answer, accepted, refusal, check}
+use Rattle.rules.specs.Check.{kept, run, accepted, refusal, check}
 use Rattle.claims.specs.Readings.{Outside}
-use Rattle.claims.specs.Steps.{Inherits, EveryReading, BookedBases}
+use Rattle.claims.specs.Steps.{Inherits, EveryReading, BookedBases, RecordNumbers}
 use Rattle.claims.specs.Reached.{Judges}
 
--- ---- accepted: the text declares s, every class of it is closed, every legal value reads legally at every base, and the bases are the book's
+-- ---- accepted: the text declares a state, with every class closed; every legal value reads legally at every base; the bases are the book's
 pub record ModelReads (t : List ℕ) (m : ℕ) : Type 0 where
   pub state : State
   pub runs : run t m ≡ kept state
   pub closed : state .open-class ≡ none
   pub reads : EveryReading state
   pub bases : BookedBases state
+  pub numbers : RecordNumbers state
 
 abbrev pub AcceptedReads : Type 0
 AcceptedReads = (t : List ℕ) (m n k : ℕ) → check t m .answer ≡ accepted n k → ModelReads t m
 
--- ---- 17: the unit u, judged in the state s, puts a type over a base's, and 17 judges the step between the two
--- a domain with its EXTENDS; an attribute over the nearest inherited one, unless it names the base's domain or structure or a descendant of it:
--- the steps then are those of that domain, which were judged where it was declared
+-- ---- 17: the unit u, judged in the state s, puts the type t over the base's type b, and 17 judges that one step
+-- a domain over what it extends; an attribute over the nearest inherited one, unless it names the base's domain or structure or a descendant:
+-- its steps are then those of the domains between, each judged where that domain was declared
 abbrev pub Extends : State → U.Unit → Ty → Ty → Type 0
 Extends s (U.header v) t b = ⊥
 Extends s (U.model n) t b = ⊥
@@ -55,8 +56,8 @@ pub record Misfit (t : List ℕ) (m p : ℕ) : Type 0 where
 abbrev pub RefusedHasValue : Type 0
 RefusedHasValue = (t : List ℕ) (m p : ℕ) → check t m .answer ≡ refusal 17 p → Misfit t m p
 
--- where there is such a value, that unit is refused, and by 17 or what comes before it
-pub record RefusedBy17 (t : List ℕ) (m : ℕ) (s : State) (u : U.Unit) : Type 0 where
+-- where there is such a value, the text is refused at that unit, by 17 or by a number before it
+pub record RefusedThere (t : List ℕ) (m : ℕ) (s : State) (u : U.Unit) : Type 0 where
   pub number : ℕ
   pub place : ℕ
   pub answers : check t m .answer ≡ refusal number place
@@ -64,4 +65,9 @@ pub record RefusedBy17 (t : List ℕ) (m : ℕ) (s : State) (u : U.Unit) : Type 
   pub by : number ≤ 17
 
 abbrev pub ValueRefuses : Type 0
-ValueRefuses = (t : List ℕ) (m : ℕ) (s : State) (u : U.Unit) → Judges t m s u → (x b : Ty) → Extends s u x b → Outside x b → RefusedBy17 t m s u
+ValueRefuses = (t : List ℕ) (m : ℕ) (s : State) (u : U.Unit) → Judges t m s u → (x b : Ty) → Extends s u x b → Outside x b → RefusedThere t m s u
+
+pub record Demand3 : Type 0 where
+  pub accepted-reads : AcceptedReads
+  pub refused-has-value : RefusedHasValue
+  pub value-refuses : ValueRefuses

@@ -6,6 +6,7 @@ use Prim.Native.Nat.{ℕ, _≤_}
 use lib.ListN.{length, take, drop}
 use Rattle.rules.specs.Declarations.{State}
 use Rattle.rules.specs.Book.{records, book, definitions}
+use Rattle.rules.specs.Show.{recordsFrom}
 use Rattle.rules.specs.Check.{kept, run, Answer, accepted, refusal, check}
 use Rattle.claims.specs.Steps.{In}
 
@@ -30,7 +31,8 @@ Zeros b = (x : ℕ) → In x b → x ≡ 0
 abbrev pub RefusedZeros : Type 0
 RefusedZeros = (t : List ℕ) (m n p : ℕ) (b : List ℕ) → Promise t m (refusal n p) b → (length b ≡ m) × Zeros b
 
--- ---- on acceptance it holds the book, which fits, and then zeros; the answer is the book's length and its count of definitions
+-- ---- on acceptance it holds the book, which fits, and then zeros; read record by record, up to the first zero for a kind, it gives the records
+-- again; the answer is the book's length and the count of its definitions
 pub record Booked (t : List ℕ) (m n k : ℕ) (b : List ℕ) : Type 0 where
   pub state : State
   pub runs : run t m ≡ kept state
@@ -41,6 +43,7 @@ pub record Booked (t : List ℕ) (m n k : ℕ) (b : List ℕ) : Type 0 where
   pub whole : length b ≡ m
   pub front : take n b ≡ book state
   pub back : Zeros (drop n b)
+  pub again : recordsFrom 0 b ≡ records state
 
 abbrev pub AcceptedBook : Type 0
 AcceptedBook = (t : List ℕ) (m n k : ℕ) (b : List ℕ) → Promise t m (accepted n k) b → Booked t m n k b

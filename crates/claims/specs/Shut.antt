@@ -1,10 +1,11 @@
 -- Document 01, "What a reader may rely on" and "Errors that look right": ways to check a text that the promise of `check` shuts out.
 use mathlib.Core.Path.{_≡_}
-use mathlib.Core.Bool.{true, false}
 use mathlib.Core.List.{List}
 use Prim.Native.Nat.{ℕ}
 use lib.ListN.{length, take, replicate}
-use Rattle.rules.specs.Check.{Answer, accepted, refusal, Checked}
+use Rattle.rules.specs.Book.{definitions}
+use Rattle.rules.specs.Show.{recordsFrom}
+use Rattle.rules.specs.Check.{accepted, refusal, Checked}
 use Rattle.claims.specs.Cases.{modelOf}
 use Rattle.claims.specs.Promise.{Promise}
 
@@ -25,8 +26,9 @@ RefusesAll f = (t b : List ℕ) → (n p : ℕ) × (f t b .answer ≡ refusal n 
 abbrev pub FixedBook : Way → Type 0
 FixedBook f = (x : List ℕ) × ((t b : List ℕ) (n k : ℕ) → f t b .answer ≡ accepted n k → take n (f t b .buffer) ≡ x)
 
-abbrev pub FixedCount : Way → Type 0
-FixedCount f = (c : ℕ) × ((t b : List ℕ) (n k : ℕ) → f t b .answer ≡ accepted n k → k ≡ c)
+-- of some text the count is not that of the definitions among the records in the buffer
+abbrev pub InventedCount : Way → Type 0
+InventedCount f = (t b : List ℕ) × (n k : ℕ) × (f t b .answer ≡ accepted n k) × (¬ (k ≡ definitions (recordsFrom 0 (f t b .buffer))))
 
 -- the buffer is left as it was lent
 abbrev pub IdleRefusing : Way → Type 0
@@ -35,7 +37,7 @@ IdleRefusing f = (t b : List ℕ) (n p : ℕ) → f t b .answer ≡ refusal n p 
 abbrev pub IdleAccepting : Way → Type 0
 IdleAccepting f = (t b : List ℕ) (n k : ℕ) → f t b .answer ≡ accepted n k → f t b .buffer ≡ b
 
--- ---- of a text with 256 bytes lent
+-- ---- what is done with one text, where 256 bytes are lent
 abbrev pub Accepts : List ℕ → Way → Type 0
 Accepts t f = (n k : ℕ) × (f t (replicate 256 0) .answer ≡ accepted n k)
 
@@ -56,15 +58,16 @@ stepwiseDomain = modelOf "DOMAIN A=1..7;B EXTENDS A=0.5..7.0;C EXTENDS B=0.45..7
 abbrev pub stepwiseAttribute : List ℕ
 stepwiseAttribute = modelOf "DOMAIN A=1..7;B EXTENDS A=0.5..7.0;C EXTENDS B=0.45..7.00;CLASS P=a:A;END P;CLASS Q EXTENDS P=a(EXTENDED):C;END Q;"
 
+-- the same step taken straight
 abbrev pub straightDomain : List ℕ
 straightDomain = modelOf "DOMAIN A=1..7;C EXTENDS A=0.45..7.00;"
 
 pub record Shut : Type 0 where
-  -- one way keeps it
+  -- there is a way that keeps it
   pub open-way : (f : Way) × Keeps f
   pub refusing : ShutOut RefusesAll
   pub one-book : ShutOut FixedBook
-  pub one-count : ShutOut FixedCount
+  pub invented-count : ShutOut InventedCount
   pub idle-refusing : ShutOut IdleRefusing
   pub idle-accepting : ShutOut IdleAccepting
   pub later-domain : ShutOut (Accepts laterDomain)

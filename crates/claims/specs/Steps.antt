@@ -1,13 +1,16 @@
 -- Document 01, "Types and bases": the base steps of what a text declares, and what a value reads as along them. A step is read off the
 -- declarations by record number, as the book gives it; nothing here asks how a declaration was judged.
 use mathlib.Core.Path.{_≡_}
-use mathlib.Core.Bool.{Bool, true, false}
+use mathlib.Core.Logic.{_⊎_, _↔_}
+use mathlib.Core.Bool.{true, false}
 use mathlib.Core.Option.{Option, none, some}
-use mathlib.Core.List.{List, [], _∷_}
+use mathlib.Core.List.{List, [], _∷_, _++_}
 use Prim.Native.Nat.{ℕ}
+use lib.ListN.{length}
 use lib.Dec.{eqb}
 use Rattle.rules.specs.Types.{Value, legal, reading}
-use Rattle.rules.specs.Declarations.{Link, Use, inline, named, struct, tyOf, Attribute, Def, linkOf, State, known, lookup, attributeAt}
+use Rattle.rules.specs.Declarations.{Link, Use, inline, named, struct, tyOf, Attribute, Def, def, State, known, lookup, attributeAt}
+use Rattle.rules.specs.Book.{Record, baseNumber, records, declRecords, attributeRecords}
 use Rattle.rules.specs.Judge.{isDomain}
 
 -- a member of a list
@@ -81,8 +84,22 @@ pub record EveryReading (s : State) : Type 0 where
   pub domains : (d : Def) → Declared s d → (v : Value) → legal (d .type) v ≡ true → (b : Def) (w : Value) → Climbs s d v b w → DomainHolds s b w
   pub attributes : (c : Def) → Declared s c → (a : Attribute) → In a (c .own) → (v : Value) → legal (tyOf (a .use-of)) v ≡ true → (b : Attribute) (w : Value) → Rises s a v b w → AttributeHolds s b w
 
--- the steps are those of the book: the number that it gives as a base is the record number of the base, and where it gives one there is a base
+-- the steps are those of the book: what it gives as a base is the base's number, and there is a base where it gives one; an attribute has one
+-- exactly if it is EXTENDED
 pub record BookedBases (s : State) : Type 0 where
-  pub definition : (d : Def) → Declared s d → (l : Link) (bs : List Link) → d .bases ≡ l ∷ bs → (b : Def) × (baseOf s d ≡ some b) × (linkOf b ≡ l) × (b .bases ≡ bs)
+  pub definition : (d b : Def) → Declared s d → baseOf s d ≡ some b → baseNumber (d .bases) ≡ b .number
+  pub based : (d : Def) → Declared s d → (d .bases ≡ []) ⊎ ((b : Def) × (baseOf s d ≡ some b))
   pub attribute : (a b : Attribute) → Nearest s a b → a .base ≡ some (b .number)
   pub nearest : (c : Def) → Declared s c → (a : Attribute) → In a (c .own) → (k : ℕ) → a .base ≡ some k → (b : Attribute) × Nearest s a b × (b .number ≡ k)
+  pub flagged : (c : Def) → Declared s c → (a : Attribute) → In a (c .own) → (a .extended ≡ true) ↔ ((b : Attribute) × Nearest s a b)
+
+-- and a definition's or attribute's number is that of its first record: so many records stand before those that the book has of it
+pub record StandsAt (s : State) (k : ℕ) (l : List Record) : Type 0 where
+  pub before : List Record
+  pub behind : List Record
+  pub split : records s ≡ before ++ (l ++ behind)
+  pub count : length before ≡ k
+
+pub record RecordNumbers (s : State) : Type 0 where
+  pub definition : (d : Def) → Declared s d → StandsAt s (d .number) (declRecords (def d))
+  pub attribute : (c : Def) → Declared s c → (a : Attribute) → In a (c .own) → StandsAt s (a .number) (attributeRecords a)

@@ -1,3 +1,4 @@
 pub mod PartLaws
 pub mod BufferLaws
 pub mod SignLaws
+pub mod TableLaws

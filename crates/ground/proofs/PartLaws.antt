@@ -3,13 +3,15 @@ use mathlib.Core.Path.{_≡_, refl, sym, ap, _∙_}
 use mathlib.Core.Bool.{Bool, true, false}
 use mathlib.Core.List.{List, [], _∷_}
 use Prim.Native.Nat.{ℕ, zero, suc, _+_, _-_, _≤_, _<_}
+use native.Mathlib.Nat.{add-assoc}
 use native.Mathlib.Numerals.{add-one, sub-one}
 use native.Mathlib.Omega.{arith}
 use lib.ListN.{length, getD, drop, length-drop}
-use lib.Seq.{drop-cons, length-take-le}
+use lib.Seq.{drop-cons, length-take-le, getD-take, getD-drop}
 use lib.Dec.{eqb}
 use borrow.Author.Tests.{eq-eqb, ne-eqb}
 use Rattle.rules.specs.Bytes.{same}
+use Rattle.rules.specs.Show.{read4}
 use Rattle.rules.proofs.Tests.{fail-r}
 use Rattle.ground.specs.Parts.{part}
 
@@ -50,3 +52,12 @@ pub same-done : (t : List ℕ) (a b m i : ℕ) → m ≤ i → sameFrom t a b m 
 same-done t a b m i h =
     let e : m - i ≡ 0 = omega arith in
     rw e
+
+-- a number of four bytes, read in a part
+pub read4-part : (b : List ℕ) (i n j : ℕ) → j + 4 ≤ n → read4 (part b i n) j ≡ read4 b (i + j)
+read4-part b i n j h =
+    rw (getD-take n (drop i b) j 0 (omega arith), getD-take n (drop i b) (j + 1) 0 (omega arith), getD-take n (drop i b) (j + 2) 0 (omega arith), getD-take n (drop i b) (j + 3) 0 (omega arith))
+    (simp (getD-drop, add-assoc))
+
+pub getD-part : (b : List ℕ) (i n j : ℕ) → j < n → getD (part b i n) j 0 ≡ getD b (i + j) 0
+getD-part b i n j h = getD-take n (drop i b) j 0 h ∙ getD-drop i b j 0

@@ -65,7 +65,7 @@ pub fn put(out: &mut [u8], at: usize, src: &[u8])
 }
 
 // ---- numbers, their low byte first
-pub fn low4(n: u32) -> [u8; 4]
+pub fn low4(n: usize) -> [u8; 4]
     ensures { λ r. ⌜ r ≡ low 4 n ⌝ }
 {
     let b = n / 256;

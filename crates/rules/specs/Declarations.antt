@@ -1,14 +1,15 @@
 -- Document 01, "Names" and "Types and bases": what a text has declared so far, and looking it up.
-use mathlib.Core.Bool.{Bool, true, false, cond, not, _&&_, _||_}
+use mathlib.Core.Bool.{Bool, true, false, cond, _&&_, _||_}
 use mathlib.Core.Option.{Option, none, some}
 use mathlib.Core.List.{List, [], _∷_, _++_}
-use Prim.Native.Nat.{ℕ, zero, suc}
+use Prim.Native.Nat.{ℕ, suc}
 use lib.Dec.{eqb}
 use Rattle.rules.specs.Bytes.{same}
 use Rattle.rules.specs.Names.{Name}
 use Rattle.rules.specs.Grammar as G
 use Rattle.rules.specs.Grammar.{Reference}
 use Rattle.rules.specs.Types.{Ty, structure}
+pub use Rattle.rules.specs.Units.{isGiven as isFound}
 
 -- ---- bases
 -- a domain or structure as its descendants know it: its record number and type
@@ -74,10 +75,6 @@ attributesOf d = d .own ++ d .inherited
 abbrev pub attributeAt : List ℕ → List Attribute → Option Attribute
 attributeAt n [] = none
 attributeAt n (a ∷ l) = let r = attributeAt n l in cond (same n (a .name .bytes)) (some a) r
-
-abbrev pub isFound : {A : Type 0} → Option A → Bool
-isFound none = false
-isFound (some a) = true
 
 -- "Sizes": attributes are counted by different names
 abbrev pub nameCount : List Attribute → ℕ

@@ -3,14 +3,14 @@
 use mathlib.Core.Bool.{Bool, true, false, cond, not, _&&_, _||_}
 use mathlib.Core.Option.{Option, none, some}
 use mathlib.Core.List.{List, [], _∷_, _++_}
-use Prim.Native.Nat.{ℕ, zero, suc}
+use Prim.Native.Nat.{ℕ}
 use lib.ListN.{length}
 use lib.Signed.{ltZ}
 use lib.Dec.{eqb, leb}
 use Rattle.rules.specs.Bytes.{ascii, same, isOneOf}
 use Rattle.rules.specs.Names.{Name}
 use Rattle.rules.specs.Symbols.{Symbol}
-use Rattle.rules.specs.Numbers.{Range, digits, valueOf, decimalsOf}
+use Rattle.rules.specs.Numbers.{digits, valueOf, decimalsOf}
 use Rattle.rules.specs.Enumerations.{Enum, isLeaf, merge, twice}
 use Rattle.rules.specs.Grammar as G
 use Rattle.rules.specs.Grammar.{Reference, WrittenType, Written}
@@ -37,7 +37,7 @@ abbrev pub unless : List Rule → State → Judged
 unless [] s = ok s
 unless (r ∷ l) s = let x = unless l s in cond (r .broken) (refused (r .number) (r .place)) x
 
--- ---- what stands for a base that is not there: nothing looks at it but a rule that an earlier one hides
+-- ---- what stands for a base that is not there: not FINAL, not mandatory, without attributes, of a type into which nothing merges
 abbrev pub noName : Name
 noName = record { offset = 0; bytes = [] }
 
@@ -240,9 +240,9 @@ newClass s c n p o = record {
   inherited = attributesOf (orNoDef o);
 }
 
--- 9 to 12 of what EXTENDS a reference
-unfoldable pub extendsRules : State → Sort → Option Reference → Option Def → List Rule
-extendsRules s c b o =
+-- 10 to 12 of what EXTENDS a reference
+unfoldable pub extendsRules : Sort → Option Reference → Option Def → List Rule
+extendsRules c b o =
     rule 10 (placeOf b) (isFound b && not (isFound o))
     ∷ rule 11 (placeOf b) (isFound o && not (mayExtend c (orNoDef o .sort)))
     ∷ rule 12 (placeOf b) (orNoDef o .final)
@@ -251,7 +251,7 @@ extendsRules s c b o =
 unfoldable pub classRules : State → Sort → Name → List (List ℕ) → Option Reference → Option Def → List Rule
 classRules s c n p b o =
     rule 9 (n .offset) (isFound (atHand s (n .bytes)))
-    ∷ (extendsRules s c b o
+    ∷ (extendsRules c b o
     ++ (rule 13 (n .offset) (hasTwice p || (isAbstract p && isFinal p)) ∷ []))
 
 unfoldable pub judgeClass : State → Sort → Name → List (List ℕ) → Option Reference → Option Def → Judged
@@ -279,7 +279,7 @@ domainEarly s n p b w o =
     let e = newDomain s n p w o in
     rule 9 (n .offset) (isFound (atHand s (n .bytes)))
     ∷ elementRule (w .type)
-    ∷ (extendsRules s domain b o
+    ∷ (extendsRules domain b o
     ++ (rule 13 (n .offset) (hasTwice p || ((isAbstract p && isFinal p) || (isNumeric (e .type) && not (isAbstract p))))
     ∷ (typeRules (isFound o) (w .place) (w .type)
     ++ (kindRule (w .place) (isFound o) (e .type) (orNoDef o .type) ∷ []))))
@@ -335,7 +335,7 @@ withAttribute c a = record {
 abbrev pub mayType : Sort → Bool
 mayType b = isSort domain b || isSort D.struct b
 
--- 4 and 9 to 16
+-- 4 and 9 to 16; where an attribute is inherited and not EXTENDED, 9 comes first, so behind it an inherited one is the base
 unfoldable pub attributeEarly : State → Def → Name → List (List ℕ) → Written → Option Attribute → Option Def → List Rule
 attributeEarly s c n p w o g =
     let u = newAttribute s n p w o g .use-of in

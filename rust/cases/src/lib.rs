@@ -2,12 +2,14 @@
 //! to three places, each with the length of a buffer to lend.
 #![forbid(unsafe_code)]
 
+mod chosen;
 mod damage;
 mod layout;
 mod random;
 mod shapes;
 mod sketch;
 
+pub use chosen::chosen;
 use peer::Answer;
 pub use random::Random;
 use sketch::{Fault, Sketch, Style};

@@ -1,5 +1,6 @@
 //! Writes what the independent checker answers as facts about the definitions,
-//! for the prover to compute: `facts [--large] FIRST COUNT FOLDER`.
+//! for the prover to compute: `facts [--large] FIRST COUNT FOLDER`, or `facts
+//! --chosen FOLDER` for the larger cases drawn up by hand, a module each.
 //!
 //! FOLDER is the crate that takes them; it gets a module of 25 facts for each 25
 //! cases, and with every tenth case one of reading a number and one of showing a
@@ -9,7 +10,7 @@ use std::fmt::Write as _;
 use std::path::Path;
 use std::{fs, io};
 
-use cases::{gen, gen_small, Case, Random};
+use cases::{chosen, gen, gen_small, Case, Random};
 use peer::Answer;
 
 /// How many cases a module holds.
@@ -128,7 +129,8 @@ fn show_fact(name: &str, case: &Case, random: &mut Random) -> String {
     )
 }
 
-fn module(first: u64, count: u64, large: bool) -> String {
+/// A module of facts, each with its proof: that both sides compute to the same.
+fn module(facts: &[String]) -> String {
     let mut text = String::from(
         "use mathlib.Core.Path.{_≡_, refl}\nuse mathlib.Core.List.{List, [], _∷_}\nuse Prim.Native.Nat.{ℕ}\n\
          use lib.IntN.{ℤ, pos, negsuc}\nuse Rattle.rules.specs.Bytes.{ascii}\nuse Rattle.rules.specs.Book.{padded}\n\
@@ -138,57 +140,80 @@ fn module(first: u64, count: u64, large: bool) -> String {
     let mut opened = String::from("unfolding");
     for (module, names) in OPENED {
         let names: Vec<&str> = names.split_whitespace().collect();
-        writeln!(
-            text,
-            "use Rattle.rules.specs.{module}.{{{}}}",
-            names.join(", ")
-        )
-        .expect("a string takes all");
+        let listed = names.join(", ");
+        writeln!(text, "use Rattle.rules.specs.{module}.{{{listed}}}").expect("a string takes all");
         write!(opened, " {}", names.join(" ")).expect("a string takes all");
     }
-    for seed in first..first + count {
-        let case = if large { gen(seed) } else { gen_small(seed) };
-        let mut random = Random::new(seed ^ 0xFAC7);
-        let mut facts = vec![check_fact(&format!("c{seed}"), &case)];
-        if seed % 10 == 0 {
-            facts.push(read_fact(&format!("r{seed}"), &mut random));
-            facts.push(show_fact(&format!("s{seed}"), &case, &mut random));
-        }
-        for fact in facts {
-            let name = fact.split(' ').next().expect("a fact has a name");
-            writeln!(text, "\n{fact}\n{opened}\n{name} = refl").expect("a string takes all");
-        }
+    for fact in facts {
+        let name = fact.split(' ').next().expect("a fact has a name");
+        writeln!(text, "\n{fact}\n{opened}\n{name} = refl").expect("a string takes all");
     }
     text
 }
 
-fn main() -> io::Result<()> {
-    let mut arguments: Vec<String> = std::env::args().skip(1).collect();
-    let large = arguments.first().is_some_and(|first| first == "--large");
-    if large {
-        arguments.remove(0);
+/// The facts of one seed: of its case, and of every tenth a reading and a name.
+fn seed_facts(seed: u64, large: bool) -> Vec<String> {
+    let case = if large { gen(seed) } else { gen_small(seed) };
+    let mut random = Random::new(seed ^ 0xFAC7);
+    let mut facts = vec![check_fact(&format!("c{seed}"), &case)];
+    if seed.is_multiple_of(10) {
+        facts.push(read_fact(&format!("r{seed}"), &mut random));
+        facts.push(show_fact(&format!("s{seed}"), &case, &mut random));
     }
-    let [first, count, folder] = &arguments[..] else {
-        eprintln!("facts [--large] FIRST COUNT FOLDER");
-        std::process::exit(2);
-    };
-    let (Ok(first), Ok(count)) = (first.parse::<u64>(), count.parse::<u64>()) else {
-        eprintln!("FIRST and COUNT are numbers");
-        std::process::exit(2);
-    };
+    facts
+}
+
+/// Writes the crate: a root that names the modules, and the modules.
+fn write_crate(folder: &str, modules: &[(String, String)]) -> io::Result<()> {
     let specs = Path::new(folder).join("specs");
     fs::create_dir_all(&specs)?;
     fs::create_dir_all(Path::new(folder).join("src"))?;
     fs::write(Path::new(folder).join("src/lib.rt"), "")?;
     let mut root = String::new();
-    for begin in (first..first + count).step_by(MODULE as usize) {
-        let name = format!("Facts{begin}");
+    for (name, text) in modules {
         writeln!(root, "pub mod {name}").expect("a string takes all");
-        let here = MODULE.min(first + count - begin);
-        fs::write(
-            specs.join(format!("{name}.antt")),
-            module(begin, here, large),
-        )?;
+        fs::write(specs.join(format!("{name}.antt")), text)?;
     }
     fs::write(specs.join("Lib.antt"), root)
+}
+
+fn generated(first: u64, count: u64, large: bool) -> Vec<(String, String)> {
+    let begins = (first..first + count).step_by(MODULE as usize);
+    let one = |begin: u64| {
+        let end = (begin + MODULE).min(first + count);
+        let facts: Vec<String> = (begin..end)
+            .flat_map(|seed| seed_facts(seed, large))
+            .collect();
+        (format!("Facts{begin}"), module(&facts))
+    };
+    begins.map(one).collect()
+}
+
+/// A module for each, with what the case is in a comment.
+fn by_hand() -> Vec<(String, String)> {
+    let one = |(i, (word, case)): (usize, (String, Case))| {
+        let fact = check_fact(&format!("h{i}"), &case);
+        let about = format!("-- {word}, {} bytes\n", case.text.len());
+        (format!("Facts{i}"), about + &module(&[fact]))
+    };
+    chosen().into_iter().enumerate().map(one).collect()
+}
+
+fn main() -> io::Result<()> {
+    let arguments: Vec<String> = std::env::args().skip(1).collect();
+    let words: Vec<&str> = arguments.iter().map(String::as_str).collect();
+    let (range, folder, large) = match words[..] {
+        ["--chosen", folder] => return write_crate(folder, &by_hand()),
+        ["--large", first, count, folder] => ((first, count), folder, true),
+        [first, count, folder] => ((first, count), folder, false),
+        _ => {
+            eprintln!("facts [--large] FIRST COUNT FOLDER, or facts --chosen FOLDER");
+            std::process::exit(2);
+        }
+    };
+    let (Ok(first), Ok(count)) = (range.0.parse::<u64>(), range.1.parse::<u64>()) else {
+        eprintln!("FIRST and COUNT are numbers");
+        std::process::exit(2);
+    };
+    write_crate(folder, &generated(first, count, large))
 }

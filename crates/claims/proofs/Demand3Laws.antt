@@ -2,11 +2,11 @@
 use mathlib.Core.Path.{_≡_, refl, sym, ap, _∙_, subst}
 use mathlib.Core.Bool.{Bool, true, false, cond, not, _&&_}
 use mathlib.Core.Option.{Option, none, some}
-use mathlib.Core.List.{List, [], _∷_, _++_}
-use Prim.Native.Nat.{ℕ, _≤_}
+use mathlib.Core.List.{List, [], _∷_}
+use Prim.Native.Nat.{ℕ}
 use native.Mathlib.Omega.{arith}
 use lib.ListN.{length}
-use lib.Dec.{eqb, ltb}
+use lib.Dec.{ltb}
 use borrow.Author.Tests.{eqb-true}
 use Rattle.rules.specs.Names.{Name}
 use Rattle.rules.specs.Symbols.{Fault, too-long, no-symbol, unclosed, too-large, impossible, reserved, numberOf}
@@ -18,19 +18,19 @@ use Rattle.rules.specs.Types.{Ty, kindOf, fits}
 use Rattle.rules.specs.Declarations.{Use, inline, named, struct, tyOf, Attribute, Def, attributeAt, isFound, State, known}
 use Rattle.rules.specs.Book.{records, book}
 use Rattle.rules.specs.Judge as J
-use Rattle.rules.specs.Judge.{Rule, Judged, ok, refused, unless, orNoAttribute, resolved, domainType, attributeUse, referenceIn, descends, elementRule, doubled, typeRules, extendsRules, classRules, judgeTopic, judgeClass, newDomain, domainEarly, domainFit, domainRules, judgeDomain, newAttribute, attributeEarly, attributeFit, attributeDescent, attributeRules, judgeAttribute, judgeMember, judgeClose, judge}
-use Rattle.rules.specs.Check.{Outcome, kept, unread, broken, unitPlace, capacity, room, judged, run, answerOf, Answer, accepted, refusal, check}
+use Rattle.rules.specs.Judge.{Rule, Judged, ok, refused, orNoAttribute, resolved, domainType, attributeUse, referenceIn, descends, elementRule, doubled, typeRules, extendsRules, classRules, judgeTopic, judgeClass, domainEarly, domainFit, domainRules, judgeDomain, newAttribute, attributeEarly, attributeFit, attributeDescent, attributeRules, judgeAttribute, judgeMember, judgeClose, judge}
+use Rattle.rules.specs.Check.{Outcome, kept, unread, broken, unitPlace, capacity, room, run, answerOf, accepted, refusal}
 use Rattle.rules.proofs.Tests.{never, both, split, not-both, is-false, not-is}
 use Rattle.claims.specs.Readings.{proper, Outside}
 use Rattle.claims.specs.Steps.{Inherits}
-use Rattle.claims.specs.Reached.{Judges}
-use Rattle.claims.specs.Demand3.{ModelReads, AcceptedReads, Extends, Misfit, RefusedHasValue, RefusedBy17, ValueRefuses}
+use Rattle.claims.specs.Demand3.{ModelReads, AcceptedReads, Extends, Misfit, RefusedHasValue, ValueRefuses, Demand3}
 use Rattle.claims.proofs.TypeLaws.{fits-reads, misfit}
 use Rattle.claims.proofs.StateLaws.{Every, Maybe, GoodUse, GoodDef, KnownDef, GoodOpen, Sound}
 use Rattle.claims.proofs.RuleLaws as RL
 use Rattle.claims.proofs.RuleLaws.{unless-came, unless-never, unless-hit, under, under-append, Refuses, unless-refuses}
 use Rattle.claims.proofs.JudgeLaws.{type-proper, domain-types, domain-kind, good-use, attribute-types, attribute-kind, based, inherited-use}
-use Rattle.claims.proofs.RunLaws.{Ending, Ended, Blamed, run-ends, judged-run, reached-sound, ended-sound}
+use Rattle.claims.proofs.RunLaws.{Ending, Blamed, run-ends, judged-run, reached-sound, ended-closed}
+use Rattle.claims.proofs.RecordLaws.{record-numbers}
 use Rattle.claims.proofs.StepLaws.{every-reading, booked-bases, inherits-found, found-inherits}
 
 -- ---- the numbers of the rules before 17
@@ -211,13 +211,13 @@ fault-17 too-large e = omega arith
 fault-17 impossible e = omega arith
 fault-17 reserved e = omega arith
 
-pub accepted-reads : AcceptedReads
+accepted-reads : AcceptedReads
 accepted-reads t m n k a = go (run t m) refl (run-ends t m) a
   where
     go : (o : Outcome) → run t m ≡ o → Ending t m o → answerOf o ≡ accepted n k → ModelReads t m
     go (kept s) e h z =
-        let r = ended-sound t m s h in
-        record { state = s; runs = e; closed = r .1; reads = every-reading s (r .0); bases = booked-bases s (r .0) }
+        let r = reached-sound t m (h .reaches) in
+        record { state = s; runs = e; closed = ended-closed t m s h; reads = every-reading s r; bases = booked-bases s r; numbers = record-numbers t m s h }
     go (unread f q) e h z = let y : _≡_ {A = ℕ} 0 1 = cc in absurd (omega arith)
     go (broken i q) e h z = let y : _≡_ {A = ℕ} 0 1 = cc in absurd (omega arith)
 
@@ -225,10 +225,10 @@ blamed-misfit : (t : List ℕ) (m p : ℕ) → Blamed t m 17 p → Misfit t m p
 blamed-misfit t m p b =
     let h = reached-sound t m (b .judges .reaches) in
     let z = room-17 m (unitPlace (b .unit)) (judge (b .state) (b .unit)) p (b .refuses) in
-    let r = judge-misfit (b .state) (b .unit) p (h .0) z in
+    let r = judge-misfit (b .state) (b .unit) p h z in
     record { state = b .state; unit = b .unit; judges = b .judges; refuses = z; type = r .type; base = r .base; extends = r .extends; kind = r .kind; outside = r .outside }
 
-pub refused-has-value : RefusedHasValue
+refused-has-value : RefusedHasValue
 refused-has-value t m p a = go (run t m) refl (run-ends t m) a
   where
     go : (o : Outcome) → run t m ≡ o → Ending t m o → answerOf o ≡ refusal 17 p → Misfit t m p
@@ -239,9 +239,12 @@ refused-has-value t m p a = go (run t m) refl (run-ends t m) a
         let y : q ≡ p = cc in
         blamed-misfit t m p (subst (λ (j : ℕ). Blamed t m j p) x (subst (λ (j : ℕ). Blamed t m i j) y h))
 
-pub value-refuses : ValueRefuses
+value-refuses : ValueRefuses
 value-refuses t m s u j x b e o =
     let h = reached-sound t m (j .reaches) in
-    let (n, p, z, l) = judge-value s u (h .0) x b e o in
+    let (n, p, z, l) = judge-value s u h x b e o in
     let r = judged-run t m j n p (ap (room m (unitPlace u)) z) in
     record { number = n; place = p; answers = ap answerOf r; refuses = z; by = l }
+
+pub demand3 : Demand3
+demand3 = record { accepted-reads = accepted-reads; refused-has-value = refused-has-value; value-refuses = value-refuses }

@@ -1,0 +1,110 @@
+-- The bytes of a book give its records again.
+use mathlib.Core.Path.{_≡_, refl, ap, _∙_}
+use mathlib.Core.Bool.{true, false}
+use mathlib.Core.Option.{Option, none, some}
+use mathlib.Core.List.{List, [], _∷_, _++_, append-assoc, append-nil}
+use Prim.Native.Nat.{ℕ, zero, suc, _-_}
+use native.Mathlib.Omega.{arith}
+use lib.ListN.{length, replicate, length-append}
+use lib.Seq.{take-append-seam}
+use lib.Dec.{leb}
+use borrow.Author.Tests.{le-leb, ne-eqb}
+use Rattle.rules.specs.Enumerations.{Enum, end, elem}
+use Rattle.rules.specs.Types.{Ty, text, range, numeric, structure, enum}
+use Rattle.rules.specs.Declarations as D
+use Rattle.rules.specs.Declarations.{Use, inline, named, struct, Attribute, Sort, Def, Decl, State}
+use Rattle.rules.specs.Book.{Record, openRecord, innerRecords, elementRecords, typeRecords, useRecords, attributeRecords, attributesRecords, headRecords, endRecords, declRecords, declsRecords, openRecords, records, bytes, book, padded}
+use Rattle.rules.specs.Show.{sizeOf, recordsFrom}
+use Rattle.claims.proofs.StateLaws.{Every, every-append}
+
+-- ---- a record has the size of its kind
+abbrev Sized : Record → Type 0
+Sized [] = ⊥
+Sized (b ∷ r) = sizeOf b ≡ suc (length r)
+
+elements-sized : (e : Enum) → Every Sized (elementRecords e)
+unfolding sizeOf
+elements-sized (end f) = (refl, tt)
+elements-sized (elem n i r) = (refl, every-append Sized (innerRecords i (openRecord i ∷ elementRecords i)) (elementRecords r) (inner i (elements-sized i)) (elements-sized r))
+  where
+    inner : (i : Enum) → Every Sized (elementRecords i) → Every Sized (innerRecords i (openRecord i ∷ elementRecords i))
+    inner (end false) h = tt
+    inner (end true) h = (refl, h)
+    inner (elem m j k) h = (refl, h)
+
+type-sized : (t : Ty) → Every Sized (typeRecords t)
+unfolding sizeOf
+type-sized (text true n) = (refl, tt)
+type-sized (text false n) = (refl, tt)
+type-sized (range r) = (refl, tt)
+type-sized numeric = (refl, tt)
+type-sized (enum e) = (refl, elements-sized e)
+type-sized structure = tt
+
+use-sized : (u : Use) → Every Sized (useRecords u)
+unfolding sizeOf
+use-sized (inline t) = type-sized t
+use-sized (named l bs) = (refl, tt)
+use-sized (struct l bs) = (refl, tt)
+
+attributes-sized : (l : List Attribute) → Every Sized (attributesRecords l)
+unfolding sizeOf
+attributes-sized [] = tt
+attributes-sized (a ∷ l) = every-append Sized (attributeRecords a) (attributesRecords l) (refl, use-sized (a .use-of)) (attributes-sized l)
+
+head-sized : (x : Sort) (d : Def) → Every Sized (headRecords x d)
+unfolding sizeOf
+head-sized D.topic d = (refl, tt)
+head-sized D.class d = (refl, attributes-sized (d .own))
+head-sized D.struct d = (refl, attributes-sized (d .own))
+head-sized D.domain d = (refl, type-sized (d .type))
+
+end-sized : (x : Sort) → Every Sized (endRecords x)
+unfolding sizeOf
+end-sized D.topic = tt
+end-sized D.class = (refl, tt)
+end-sized D.struct = (refl, tt)
+end-sized D.domain = tt
+
+decls-sized : (l : List Decl) → Every Sized (declsRecords l)
+unfolding sizeOf
+decls-sized [] = tt
+decls-sized (D.model n ∷ l) = (refl, decls-sized l)
+decls-sized (D.def d ∷ l) = every-append Sized (declRecords (D.def d)) (declsRecords l) (every-append Sized (headRecords (d .sort) d) (endRecords (d .sort)) (head-sized (d .sort) d) (end-sized (d .sort))) (decls-sized l)
+decls-sized (D.endTopic ∷ l) = (refl, decls-sized l)
+
+records-sized : (s : State) → Every Sized (records s)
+records-sized s = every-append Sized (declsRecords (s .decls)) (openRecords (s .open-class)) (decls-sized (s .decls)) (go (s .open-class))
+  where
+    go : (o : Option Def) → Every Sized (openRecords o)
+    go none = tt
+    go (some c) = head-sized (c .sort) c
+
+-- ---- reading them again
+skip : (l rest : List ℕ) → recordsFrom (length l) (l ++ rest) ≡ recordsFrom 0 rest
+unfolding recordsFrom
+skip [] rest = refl
+skip (b ∷ l) rest = skip l rest
+
+one : (b : ℕ) (r rest : List ℕ) → sizeOf b ≡ suc (length r) → recordsFrom 0 (b ∷ (r ++ rest)) ≡ (b ∷ r) ∷ recordsFrom 0 rest
+unfolding recordsFrom
+one b r rest e =
+    let x = ne-eqb (suc (length r)) 0 (λ q. omega arith) in
+    let l = length-append r rest in
+    let y : leb (suc (length r)) (length (b ∷ (r ++ rest))) ≡ true = le-leb (suc (length r)) (length (b ∷ (r ++ rest))) (omega arith) in
+    let z : suc (length r) - 1 ≡ length r = omega arith in
+    rw (e, x, y, z, skip r rest, take-append-seam r rest)
+
+all : (l : List Record) (rest : List ℕ) → Every Sized l → recordsFrom 0 (bytes l ++ rest) ≡ l ++ recordsFrom 0 rest
+all [] rest h = refl
+all ([] ∷ l) rest h = absurd (h .0)
+all ((b ∷ r) ∷ l) rest h = rw append-assoc (one b r (bytes l ++ rest) (h .0) ∙ ap (λ (x : List Record). (b ∷ r) ∷ x) (all l rest (h .1)))
+
+-- kind 0 ends the book
+ends : (n : ℕ) → recordsFrom 0 (replicate n 0) ≡ []
+unfolding recordsFrom sizeOf
+ends zero = refl
+ends (suc n) = refl
+
+pub records-again : (s : State) (m : ℕ) → recordsFrom 0 (padded (book s) m) ≡ records s
+records-again s m = all (records s) (replicate (m - length (book s)) 0) (records-sized s) ∙ rw (ends (m - length (book s))) (append-nil (records s))
