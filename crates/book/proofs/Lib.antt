@@ -1,0 +1,5 @@
+pub mod WalkLaws
+pub mod NameLaws
+pub mod FormLaws
+pub mod IndexLaws
+pub mod SizedLaws

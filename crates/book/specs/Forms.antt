@@ -1,0 +1,21 @@
+-- The records' bytes, by the numbers that stand in them.
+use mathlib.Core.List.{_∷_, _++_}
+use Prim.Native.Nat.{ℕ}
+use lib.IntN.{ℤ}
+use Rattle.rules.specs.Book.{Record, low, twos}
+
+-- kind, and a name's offset and length
+abbrev pub nameForm : ℕ → ℕ → ℕ → Record
+nameForm k o n = k ∷ (low 4 o ++ low 1 n)
+
+-- kind, name, flags, base
+abbrev pub headForm : ℕ → ℕ → ℕ → ℕ → ℕ → Record
+headForm k o n f b = k ∷ (low 4 o ++ low 1 n ++ (f ∷ low 4 b))
+
+-- decimals and both bounds
+abbrev pub rangeForm : ℕ → ℤ → ℤ → Record
+rangeForm d l h = 10 ∷ d ∷ (low 8 (twos l) ++ low 8 (twos h))
+
+-- kind, and a length or a record number
+abbrev pub lengthForm : ℕ → ℕ → Record
+lengthForm k n = k ∷ low 4 n

@@ -1,0 +1,237 @@
+// The book: sizes of records, where a record begins, the name that it shows, the bytes of new records, an index of places.
+ghost use mathlib.Core.Path.{_≡_};
+ghost use mathlib.Core.List.{List};
+ghost use Prim.Native.Nat.{ℕ, _+_, _≤_, _<_};
+ghost use lib.ListN.{length, take};
+ghost use Rattle.rules.specs.Show.{sizeOf, isNamed, recordsFrom, showName};
+ghost use Rattle.book.specs.Places.{recordsAt, sizeAt, recordStart, starts, Indexed};
+ghost use Rattle.book.specs.Forms.{nameForm, headForm, rangeForm, lengthForm};
+ghost use Rattle.book.specs.Names.{partOf, Written, nameHere, Shows};
+
+// ---- what the kind of a record fixes
+// The sizes of records of the kinds 0 to 17, the byte of kind with them.
+const SIZES: [usize; 18] = [0, 6, 6, 1, 11, 11, 11, 11, 5, 5, 18, 1, 5, 2, 6, 1, 1, 5];
+
+// The kinds 0 to 14 that have names.
+const NAMED: [bool; 15] = [
+    false,
+    true,
+    true,
+    false,
+    true,
+    true,
+    true,
+    true,
+    false,
+    false,
+    false,
+    false,
+    false,
+    false,
+    true,
+];
+
+// Where the parts of a name stand in a record that has one.
+pub const OFFSET: usize = 1;
+
+pub const LENGTH: usize = 5;
+
+// Zero for what is no kind.
+pub fn record_size(kind: u8) -> usize
+    ensures { λ r. ⌜ r ≡ sizeOf kind ⌝ }
+{
+    if kind < 18 { SIZES[kind as usize] } else { 0 }
+}
+
+pub fn has_name(kind: u8) -> bool
+    ensures { λ r. ⌜ r ≡ isNamed kind ⌝ }
+{
+    if kind < 15 {
+        NAMED[kind as usize]
+    } else {
+        false
+    }
+}
+
+// ---- where a record begins
+pub enum Found {
+    At(usize),
+    Nothing,
+}
+
+// The size of the record that begins at a place, if one is whole there; else zero.
+pub fn size_at(book: &[u8], at: usize) -> usize
+    ensures { λ r. ⌜ r ≡ sizeAt (now (book .entry)) at ⌝ }
+{
+    if book.len() <= at {
+        return 0;
+    }
+    let n = record_size(book[at]);
+    if n <= book.len() - at { n } else { 0 }
+}
+
+pub fn record_start(book: &[u8], k: usize) -> Found
+    ensures { λ r. ⌜ r ≡ recordStart (now (book .entry)) k ⌝ }
+{
+    let mut at = 0;
+    let mut left = k;
+    loop {
+        let n = size_at(book, at);
+        if n == 0 {
+            return Found::Nothing;
+        }
+        if left == 0 {
+            return Found::At(at);
+        }
+        at += n;
+        left -= 1;
+    }
+}
+
+// ---- the name that a record shows
+pub struct Part {
+    pub start: usize,
+    pub len: usize,
+}
+
+// The name that is written in the record at a place.
+pub fn written_name(book: &[u8], at: usize) -> Part
+    requires { ⌜ at + 6 ≤ length (now book) ⌝ }
+    ensures { λ r. ⌜ Written (now (book .entry)) at r ⌝ }
+{
+    let start = ground::wide4(ground::get4(book, at + OFFSET));
+    let len = ground::wide(book[at + LENGTH]);
+    Part { start, len }
+}
+
+// The part of the text that is the name of the record at a place; the empty part at the text's start where there is none.
+pub fn name_at(text: &[u8], book: &[u8], at: usize) -> Part
+    ensures { λ r. ⌜ r ≡ partOf (nameHere (now (text .entry)) (now (book .entry)) at) ⌝ }
+{
+    if size_at(book, at) == 0 {
+        return Part { start: 0, len: 0 };
+    }
+    if has_name(book[at]) {
+        let p = written_name(book, at);
+        if p.start + p.len <= text.len() {
+            return p;
+        }
+    }
+    Part { start: 0, len: 0 }
+}
+
+pub fn name_part(text: &[u8], book: &[u8], k: usize) -> Part
+    ensures { λ r. ⌜ r ≡ partOf (showName (now (text .entry)) (now (book .entry)) k) ⌝ }
+{
+    let f = record_start(book, k);
+    match f {
+        Found::At(at) => name_at(text, book, at),
+        Found::Nothing => Part { start: 0, len: 0 },
+    }
+}
+
+// The part of the text that is the name of the record with this number; the empty part at the text's start where there is none.
+pub fn show_name<'a>(text: &'a [u8], book: &[u8], k: usize) -> &'a [u8]
+    ensures { λ r. ⌜ Shows (text .entry) (now (book .entry)) k r ⌝ }
+{
+    let p = name_part(text, book, k);
+    let start = p.start;
+    let end = start + p.len;
+    &text[start..end]
+}
+
+// ---- the bytes of new records
+pub fn name_record(kind: u8, offset: usize, len: usize) -> [u8; 6]
+    ensures { λ r. ⌜ r ≡ nameForm kind offset len ⌝ }
+{
+    let o = ground::low4(offset);
+    [kind, o[0], o[1], o[2], o[3], (len % 256) as u8]
+}
+
+pub fn head_record(kind: u8, offset: usize, len: usize, flags: u8, base: usize) -> [u8; 11]
+    ensures { λ r. ⌜ r ≡ headForm kind offset len flags base ⌝ }
+{
+    let o = ground::low4(offset);
+    let b = ground::low4(base);
+    [
+        kind,
+        o[0],
+        o[1],
+        o[2],
+        o[3],
+        (len % 256) as u8,
+        flags,
+        b[0],
+        b[1],
+        b[2],
+        b[3],
+    ]
+}
+
+const RANGE: u8 = 10;
+
+pub fn range_record(decimals: u8, low: i64, high: i64) -> [u8; 18]
+    ensures { λ r. ⌜ r ≡ rangeForm decimals low high ⌝ }
+{
+    let l = ground::low8(low);
+    let h = ground::low8(high);
+    [
+        RANGE,
+        decimals,
+        l[0],
+        l[1],
+        l[2],
+        l[3],
+        l[4],
+        l[5],
+        l[6],
+        l[7],
+        h[0],
+        h[1],
+        h[2],
+        h[3],
+        h[4],
+        h[5],
+        h[6],
+        h[7],
+    ]
+}
+
+pub fn length_record(kind: u8, n: usize) -> [u8; 5]
+    ensures { λ r. ⌜ r ≡ lengthForm kind n ⌝ }
+{
+    let b = ground::low4(n);
+    [kind, b[0], b[1], b[2], b[3]]
+}
+
+// ---- an index of places
+// The places of the records from a place on are added behind the first `count` places.
+pub fn index_more(book: &[u8], from: usize, index: &mut [u32], count: usize) -> usize
+    requires { ⌜ (from ≤ length (now book)) × (length (now book) < 4294967296) ⌝ }
+    requires { ⌜ count + length (recordsAt (now book) from) ≤ length (now index) ⌝ }
+    ensures { λ r. ⌜ Indexed (recordsAt (now (book .entry)) from) from (now (index .entry)) count (now (index .exit)) r ⌝ }
+{
+    let mut at = from;
+    let mut n = count;
+    loop {
+        let size = size_at(book, at);
+        if size == 0 {
+            return n;
+        }
+        index[n] = at as u32;
+        n += 1;
+        at += size;
+    }
+}
+
+// Where a record begins, by an index of the book's first `count` records.
+pub fn indexed_start(index: &[u32], count: usize, k: usize) -> Found
+    requires { ⌜ count ≤ length (now index) ⌝ }
+    ensures { λ r. ⌜ ((b : List ℕ) → take count (now (index .entry)) ≡ starts 0 (recordsFrom 0 b) → r ≡ recordStart b k) ⌝ }
+{
+    if k < count {
+        Found::At(ground::wide4(index[k]))
+    } else {
+        Found::Nothing
+    }
+}

@@ -1,0 +1,6 @@
+pub mod PowerLaws
+pub mod SignedLaws
+pub mod FloorLaws
+pub mod WrittenLaws
+pub mod ReadLaws
+pub mod SymbolLaws
