@@ -399,26 +399,38 @@ impl<'r> Sketch<'r> {
         self.random.any(&fitting).copied()
     }
 
-    fn domain(&mut self) {
-        let name = self.new_name();
-        let base = self.domain_base();
-        let is_abstract = self.rarely(Fault::AbstractDomain);
-        let is_final = !is_abstract && self.rarely(Fault::FinalBase);
-        self.put(&name);
+    /// Properties and EXTENDS, behind the name of a domain or class.
+    fn rest_of_head(
+        &mut self,
+        is_abstract: bool,
+        is_final: bool,
+        base: Option<(String, Option<usize>)>,
+    ) {
         let chosen: &[&str] = match (is_abstract, is_final) {
             (true, _) => &["ABSTRACT"],
             (_, true) => &["FINAL"],
             _ => &[],
         };
         self.properties(chosen, "ABSTRACT");
-        if let Some(number) = base {
+        if let Some((name, topic)) = base {
             self.put("EXTENDS");
-            let (name, topic) = (
-                self.domains[number].name.clone(),
-                self.domains[number].topic,
-            );
             self.reference(&name, topic);
         }
+    }
+
+    fn domain(&mut self) {
+        let name = self.new_name();
+        let base = self.domain_base();
+        let is_abstract = self.rarely(Fault::AbstractDomain);
+        let is_final = !is_abstract && self.rarely(Fault::FinalBase);
+        self.put(&name);
+        let named = base.map(|number| {
+            (
+                self.domains[number].name.clone(),
+                self.domains[number].topic,
+            )
+        });
+        self.rest_of_head(is_abstract, is_final, named);
         self.put("=");
         let over = base.map(|number| self.domains[number].shape.clone());
         let shape = self.domain_type(over.as_ref(), is_abstract);
@@ -531,20 +543,13 @@ impl<'r> Sketch<'r> {
         let is_abstract = !is_final && self.random.chance(1, 6);
         self.put(if is_structure { "STRUCTURE" } else { "CLASS" });
         self.put(&name);
-        let chosen: &[&str] = match (is_abstract, is_final) {
-            (true, _) => &["ABSTRACT"],
-            (_, true) => &["FINAL"],
-            _ => &[],
-        };
-        self.properties(chosen, "ABSTRACT");
-        if let Some(number) = base {
-            self.put("EXTENDS");
-            let (name, topic) = (
+        let named = base.map(|number| {
+            (
                 self.classes[number].name.clone(),
                 self.classes[number].topic,
-            );
-            self.reference(&name, topic);
-        }
+            )
+        });
+        self.rest_of_head(is_abstract, is_final, named);
         self.put("=");
         if self.random.chance(1, 5) {
             self.put("ATTRIBUTE");
