@@ -17,7 +17,7 @@ use Rattle.rules.specs.Judge as J
 use Rattle.rules.specs.Judge.{Judged, ok, judge, doubled, elementRule, mergedInto, domainType, attributeUse, orNoDef, orNoAttribute, resolved, referenceIn, newTopic, newClass, newDomain, newAttribute, withAttribute, judgeTopic, judgeClass, judgeDomain, judgeAttribute, judgeMember, judgeClose, domainEarly, domainRules, attributeEarly, attributeRules}
 use Rattle.rules.specs.Book.{book}
 use Rattle.rules.specs.Check.{unitPlace, capacity, room, judged}
-use Rattle.claims.specs.Merging.{distinct, addsNothing}
+use Rattle.rules.proofs.MergeLaws.{distinct, addsNothing}
 use Rattle.claims.specs.Steps.{In}
 use Rattle.claims.specs.Reached.{Reaches, begin, pass}
 use Rattle.claims.specs.Distinct.{distinctIn, Distinct, AllDistinct}

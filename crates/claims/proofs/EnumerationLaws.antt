@@ -10,30 +10,13 @@ use Rattle.rules.specs.Names.{Name}
 use Rattle.rules.specs.Enumerations.{Enum, end, elem, isLeaf, final, at, Path, here, others, into, through, legalIn, legalPath, beyond, under, readPath, orElse, fitsIn, enumFits}
 use Rattle.rules.proofs.Tests.{never, both, split, either-fails, or-l, or-r, or-split, not-is, not-fails}
 use Rattle.rules.proofs.ByteLaws.{same-eq, same-refl}
-
--- ---- what the definitions say of an element that is there, or is not
-pub at-hit : (n : List ℕ) (m : Name) (i r : Enum) → same n (m .bytes) ≡ true → at n (elem m i r) ≡ some i
-at-hit n m i r e = rw (e, at)
-
-pub at-miss : (n : List ℕ) (m : Name) (i r : Enum) → same n (m .bytes) ≡ false → at n (elem m i r) ≡ at n r
-at-miss n m i r e = rw (e, at)
-
--- it is the first element, or is looked for in the rest
-pub at-cases : (n : List ℕ) (m : Name) (i r : Enum) (P : Option Enum → Type 0) → (same n (m .bytes) ≡ true → P (some i)) → (same n (m .bytes) ≡ false → P (at n r)) → P (at n (elem m i r))
-at-cases n m i r P h k = go (same n (m .bytes)) refl
-  where
-    go : (t : Bool) → same n (m .bytes) ≡ t → P (at n (elem m i r))
-    go true e = rw (at-hit n m i r e) (h e)
-    go false e = rw (at-miss n m i r e) (k e)
+use Rattle.rules.proofs.MergeLaws.{at-cases, fits-parts}
 
 read-some : (b : Enum) (n : List ℕ) (p : Path) {i : Enum} → at n b ≡ some i → readPath b (into n p) ≡ under n (readPath i p)
 read-some b n p e = rw (e, readPath)
 
 read-none : (b : Enum) (n : List ℕ) (p : Path) → at n b ≡ none → readPath b (into n p) ≡ beyond b
 read-none b n p e = rw (e, readPath)
-
-pub fits-parts : (n : Name) (i r b : Enum) → fitsIn (elem n i r) b ≡ true → (orElse (at (n .bytes) b) (not (final b)) (enumFits i) ≡ true) × (fitsIn r b ≡ true)
-fits-parts n i r b p = split p
 
 -- ---- legal paths
 others-legal : (b : Enum) → final b ≡ false → legalIn b others ≡ true

@@ -10,7 +10,7 @@ use Rattle.rules.specs.Types.{Ty, text, range, numeric, structure, enum, fits}
 use Rattle.rules.specs.Units.{Where}
 use Rattle.rules.specs.Declarations.{tyOf, Attribute, Def, attributesOf, State}
 use Rattle.rules.specs.Judge.{mergedInto}
-use Rattle.claims.specs.Merging.{distinct, addsNothing}
+use Rattle.rules.proofs.MergeLaws.{distinct, addsNothing}
 use Rattle.claims.specs.Steps.{In, Declared}
 use Rattle.claims.specs.Reached.{Reaches}
 

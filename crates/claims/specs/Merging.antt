@@ -2,31 +2,12 @@
 -- and when 17 refuses it.
 use mathlib.Core.Path.{_≡_}
 use mathlib.Core.Logic.{_↔_}
-use mathlib.Core.Bool.{Bool, true, cond, not, _&&_, _||_}
+use mathlib.Core.Bool.{true, _||_}
 use mathlib.Core.Option.{none, some}
-use mathlib.Core.List.{List, [], _∷_, _++_}
+use mathlib.Core.List.{List, [], _++_}
 use Prim.Native.Nat.{ℕ}
-use Rattle.rules.specs.Names.{Name}
-use Rattle.rules.specs.Enumerations.{Enum, end, elem, final, at, has, merge, orElse, enumFits, twice}
-
--- ---- the names of a list, each with its place, and of those of x the ones that b lacks
-abbrev pub names : Enum → List Name
-names (end f) = []
-names (elem n i r) = n ∷ names r
-
-abbrev pub newNames : Enum → Enum → List Name
-newNames b (end f) = []
-newNames b (elem n i r) = let l = newNames b r in cond (has (n .bytes) b) l (n ∷ l)
-
--- no list has an element twice, at any level
-abbrev pub distinct : Enum → Bool
-distinct (end f) = true
-distinct (elem n i r) = not (has (n .bytes) r) && (distinct i && distinct r)
-
--- the written x has no element that a FINAL list of b lacks, and none below a FINAL leaf of b
-abbrev pub addsNothing : Enum → Enum → Bool
-addsNothing (end f) b = true
-addsNothing (elem n i r) b = orElse (at (n .bytes) b) (not (final b)) (λ j. addsNothing i j) && addsNothing r b
+use Rattle.rules.specs.Enumerations.{Enum, final, at, merge, enumFits, twice}
+use Rattle.rules.proofs.MergeLaws.{names, newNames, distinct, addsNothing}
 
 -- ---- the claims on the written x merged into the base's b; within a shared element they hold again, of what is merged there
 pub record Merged (b x : Enum) : Type 0 where

@@ -1,0 +1,14 @@
+pub mod ListLaws
+pub mod StepLaws
+pub mod RunLaws
+pub mod StandLaws
+pub mod FrameLaws
+pub mod DeepLaws
+pub mod SimulateLaws
+pub mod WholeLaws
+pub mod AddsLaws
+pub mod WrittenLaws
+pub mod MergedLaws
+pub mod HoldLaws
+pub mod TwiceLaws
+pub mod KeptLaws

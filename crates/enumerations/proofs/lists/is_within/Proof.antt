@@ -1,0 +1,16 @@
+use native.Mathlib.Omega.{arith}
+use mathlib.Core.Path.{sym}
+use borrow.Author.Tests.{lt-leb}
+use Prim.Native.Nat.{_+_}
+use Rattle.enumerations.proofs.ListLaws.{within-leb}
+use Rattle.enumerations.proofs.lists.is_within.Statement.{statement}
+use Rattle.enumerations.proofs.lists.is_within.Tie as tie
+
+returns : tie.Need-returns
+returns c = sym (lt-leb (c .before .before .args .p .start + c .before .before .args .p .len) (c .before .before .args .size) (omega arith))
+
+returns-2 : tie.Need-returns-2
+returns-2 c = within-leb (c .before .before .before .before .args .p .start) (c .before .before .before .before .args .p .len) (c .before .before .before .before .args .size) (omega arith)
+
+pub is-within-spec : {M : Type 1} → statement M
+is-within-spec = tie.close (tie.spec returns returns-2)

@@ -1,0 +1,53 @@
+use native.Mathlib.Omega.{arith}
+use mathlib.Core.Path.{sym, _∙_}
+use Prim.Native.Nat.{_+_}
+use lib.ListN.{length}
+use Rattle.enumerations.proofs.ListLaws.{as-written, element-in}
+use Rattle.enumerations.proofs.StepLaws.{add-known, add-barred, add-new, add-end}
+use borrow.Author.Needs.{needs}
+use Rattle.enumerations.proofs.walk.adding.Statement.{statement}
+use Rattle.enumerations.proofs.walk.adding.Tie as tie
+
+written-name-requires : tie.Need-written-name-requires
+written-name-requires c κs = element-in _ _ (sym (c .before .is-element .ensures) ∙ c .if1 .taken) .0
+
+add-past-inner : tie.Need-add-past-inner
+add-past-inner c = omega (arith, element-in _ _ (sym (c .before .before .is-element .ensures) ∙ c .before .if1 .taken))
+
+returns : tie.Need-returns
+returns c =
+    let a = c .before .before .before .before .before .before .before .before .before .args in
+    add-known (a .text .now) (a .b .now) (a .x .now) (a .p) (c .before .before .before .written-name .result) (c .before .find .result) (c .before .before .past-inner .result) (sym (c .before .before .before .before .before .is-element .ensures) ∙ c .before .before .before .before .if1 .taken) (as-written (c .before .before .before .written-name .ensures)) (c .before .find .ensures (length (a .b .now) + 1) (omega arith)) (c .before .before .past-inner .ensures .0) (omega arith)
+
+returns-2 : tie.Need-returns-2
+returns-2 c =
+    let a = c .before .before .before .before .before .before .before .before .before .before .args in
+    add-barred (a .text .now) (a .b .now) (a .x .now) (a .p) (c .before .before .before .before .written-name .result) (c .before .before .find .result) (c .before .before .before .past-inner .result) (sym (c .before .before .before .before .before .before .is-element .ensures) ∙ c .before .before .before .before .before .if1 .taken) (as-written (c .before .before .before .before .written-name .ensures)) (c .before .before .find .ensures (length (a .b .now) + 1) (omega arith)) (c .before .before .before .past-inner .ensures .0) (omega arith) (c .if3 .taken)
+
+add-inner-at : tie.Need-add-inner-at
+add-inner-at c = omega (arith, element-in _ _ (sym (c .before .before .before .before .before .before .is-element .ensures) ∙ c .before .before .before .before .before .if1 .taken))
+
+returns-3 : tie.Need-returns-3
+returns-3 c =
+    let a = c .before .before .before .before .before .before .before .before .before .before .before .before .args in
+    c .added .ensures ∙ add-new (a .text .now) (a .b .now) (a .x .now) (a .p) (c .before .before .before .before .before .before .written-name .result) (c .before .before .before .before .find .result) (c .before .before .before .before .before .past-inner .result) (sym (c .before .before .before .before .before .before .before .before .is-element .ensures) ∙ c .before .before .before .before .before .before .before .if1 .taken) (as-written (c .before .before .before .before .before .before .written-name .ensures)) (c .before .before .before .before .find .ensures (length (a .b .now) + 1) (omega arith)) (c .before .before .before .before .before .past-inner .ensures .0) (c .before .inner-at .result) (c .before .inner-at .ensures) (omega arith) (c .before .before .if3 .left)
+
+returns-4 : tie.Need-returns-4
+returns-4 c = add-end (c .before .before .before .before .before .args .text .now) (c .before .before .before .before .before .args .b .now) (c .before .before .before .before .before .args .x .now) (c .before .before .before .before .before .args .p) (sym (c .before .is-element .ensures) ∙ c .if1 .left)
+
+pub adding-spec : {M : Type 1} → statement M
+adding-spec =
+    tie.close
+    (tie.spec
+    (λ c κs. search needs)
+    written-name-requires
+    add-past-inner
+    (λ c κs. search needs)
+    (λ c κs. search needs)
+    returns
+    returns-2
+    add-inner-at
+    (λ c κs. search needs)
+    (λ c κs. search needs)
+    returns-3
+    returns-4)

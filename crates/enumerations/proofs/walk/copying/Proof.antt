@@ -1,0 +1,44 @@
+use native.Mathlib.Omega.{arith}
+use mathlib.Core.Path.{sym, _∙_}
+use Prim.Native.Nat.{_+_}
+use lib.ListN.{length}
+use Rattle.enumerations.proofs.ListLaws.{as-written, element-in}
+use Rattle.enumerations.proofs.StepLaws.{copy-element, copy-end}
+use borrow.Author.Needs.{needs}
+use Rattle.enumerations.proofs.walk.copying.Statement.{statement}
+use Rattle.enumerations.proofs.walk.copying.Tie as tie
+
+written-name-requires : tie.Need-written-name-requires
+written-name-requires c κs = element-in _ _ (sym (c .before .is-element .ensures) ∙ c .if1 .taken) .0
+
+add-inner-at : tie.Need-add-inner-at
+add-inner-at c = omega (arith, element-in _ _ (sym (c .before .before .is-element .ensures) ∙ c .before .if1 .taken))
+
+add-past-inner : tie.Need-add-past-inner
+add-past-inner c = omega (arith, element-in _ _ (sym (c .before .before .before .before .before .is-element .ensures) ∙ c .before .before .before .before .if1 .taken))
+
+returns : tie.Need-returns
+returns c =
+    let a = c .before .before .before .before .before .before .before .before .before .before .before .before .before .args in
+    c .element-move .ensures ∙ copy-element (a .text .now) (a .b .now) (a .x .now) (a .p) (c .before .before .before .before .before .before .before .written-name .result) (c .before .before .before .before .before .find .result) (c .before .before .before .past-inner .result) (c .before .before .before .before .before .before .inner-at .result) (c .before .before .before .before .inner-at2 .result) (c .before .before .either .result) (c .before .either2 .result) (sym (c .before .before .before .before .before .before .before .before .before .is-element .ensures) ∙ c .before .before .before .before .before .before .before .before .if1 .taken) (as-written (c .before .before .before .before .before .before .before .written-name .ensures)) (c .before .before .before .before .before .before .inner-at .ensures) (c .before .before .before .before .before .find .ensures (length (a .x .now) + 1) (omega arith)) (c .before .before .before .before .inner-at2 .ensures) (c .before .before .before .past-inner .ensures .0) (c .before .before .either .ensures) (c .before .either2 .ensures)
+
+returns-2 : tie.Need-returns-2
+returns-2 c = copy-end (c .before .before .before .before .before .args .text .now) (c .before .before .before .before .before .args .b .now) (c .before .before .before .before .before .args .x .now) (c .before .before .before .before .before .args .p) (sym (c .before .is-element .ensures) ∙ c .if1 .left)
+
+pub copying-spec : {M : Type 1} → statement M
+copying-spec =
+    tie.close
+    (tie.spec
+    (λ c κs. search needs)
+    written-name-requires
+    add-inner-at
+    (λ c κs. search needs)
+    (λ c κs. search needs)
+    (λ c κs. search needs)
+    add-past-inner
+    (λ c κs. search needs)
+    (λ c κs. search needs)
+    (λ c κs. search needs)
+    (λ c κs. search needs)
+    returns
+    returns-2)

@@ -1,0 +1,126 @@
+// One enumeration held against another: whether every legal value of the first has a legal reading in the second.
+ghost use mathlib.Core.Path.{_≡_};
+ghost use mathlib.Core.Bool.{_||_, not};
+ghost use Prim.Native.Nat.{_+_, _≤_, _<_};
+ghost use lib.ListN.{length};
+ghost use Rattle.rules.specs.Enumerations.{Enum, fitsIn, enumFits};
+ghost use Rattle.enumerations.specs.Lists.{isElement};
+ghost use Rattle.enumerations.specs.Standing.{Deep, Stands};
+ghost use Rattle.enumerations.specs.Holding.{heldOf, pairAt, Reads};
+use crate::lists::Inner;
+use crate::lists::NOWHERE;
+use crate::lists::find;
+use crate::lists::inner_at;
+use crate::lists::is_element;
+use crate::lists::past_inner;
+use book::written_name;
+
+// It fits, or not, or as the two lists say.
+pub enum Held {
+    Fits,
+    Misfit,
+    Deeper,
+}
+
+pub struct Pair {
+    pub held: Held,
+    pub own: Inner,
+    pub base: Inner,
+}
+
+// What is inside an element of the first, held against what is inside the second's: a leaf against a leaf, or their lists.
+fn held_inside(s: &[u8], own: Inner, base: Inner) -> Held
+    ensures { λ r. ⌜ r ≡ heldOf (isElement (now (s .entry)) (own .list)) (isElement (now (s .entry)) (base .list)) ⌝ }
+{
+    if is_element(s, own.list) {
+        return Held::Deeper;
+    }
+    if is_element(s, base.list) {
+        return Held::Misfit;
+    }
+    Held::Fits
+}
+
+// The first's element at a place, held against the second's list: one that this lacks is added to it.
+fn held_element(text: &[u8], s: &[u8], at: usize, base: Inner) -> Pair
+    requires { ⌜ at + 6 ≤ length (now s) ⌝ }
+    ensures { λ r. ⌜ r ≡ pairAt (now (text .entry)) (now (s .entry)) at base ⌝ }
+{
+    let m = find(text, s, base.list, written_name(s, at));
+    if m < NOWHERE {
+        let i = inner_at(s, at + 6);
+        let j = inner_at(s, m);
+        return Pair {
+            held: held_inside(s, i, j),
+            own: i,
+            base: j,
+        };
+    }
+    if base.last {
+        return Pair {
+            held: Held::Misfit,
+            own: base,
+            base,
+        };
+    }
+    Pair {
+        held: Held::Fits,
+        own: base,
+        base,
+    }
+}
+
+// OTHERS of a list not FINAL is a legal value, which a FINAL list does not take.
+fn others_fit(own: bool, base: bool) -> bool
+    ensures { λ r. ⌜ r ≡ (own || not base) ⌝ }
+{
+    if own {
+        return true;
+    }
+    if base {
+        return false;
+    }
+    true
+}
+
+// A list of the first held against a list of the second, nested at most `left` deep inside.
+fn fits_in(text: &[u8], s: &[u8], own: Inner, base: Inner, left: usize) -> bool
+    requires { ⌜ length (now s) < 4294967295 ⌝ }
+    ensures { λ r. ⌜ ((e b : Enum) → Reads (now (text .entry)) (now (s .entry)) e own → Reads (now (text .entry)) (now (s .entry)) b base → Deep left e → r ≡ fitsIn e b) ⌝ }
+{
+    let mut at = own.list;
+    while is_element(s, at) {
+        let p = held_element(text, s, at, base);
+        let held = p.held;
+        at = past_inner(s, at + 6);
+        match held {
+            Held::Fits => continue,
+            Held::Misfit => return false,
+            Held::Deeper => {
+                if left == 0 {
+                    return false;
+                }
+                if fits_in(text, s, p.own, p.base, left - 1) {
+                    continue;
+                }
+                return false;
+            }
+        }
+    }
+    others_fit(own.last, base.last)
+}
+
+// The enumeration at `own` held against the one at `base`.
+pub fn fits(text: &[u8], s: &[u8], own: usize, base: usize) -> bool
+    requires { ⌜ length (now s) < 4294967295 ⌝ }
+    ensures { λ r. ⌜ ((e b : Enum) → Stands (now (text .entry)) (now (s .entry)) e own → Stands (now (text .entry)) (now (s .entry)) b base → r ≡ enumFits e b) ⌝ }
+{
+    let i = inner_at(s, own);
+    let j = inner_at(s, base);
+    let held = held_inside(s, i, j);
+    match held {
+        Held::Fits => true,
+        Held::Misfit => false,
+        Held::Deeper => fits_in(text, s, i, j, 7),
+    }
+}

@@ -1,0 +1,6 @@
+pub mod MemberLaws
+pub mod NearLaws
+pub mod FillLaws
+pub mod HeldLaws
+pub mod OpenLaws
+pub mod StateLaws

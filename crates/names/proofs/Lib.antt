@@ -1,0 +1,4 @@
+pub mod IndexLaws
+pub mod BaseLaws
+pub mod ChainLaws
+pub mod KnownLaws

@@ -1,0 +1,14 @@
+use mathlib.Core.Path.{refl, _∙_}
+use mathlib.Core.Option.{none}
+use Rattle.names.specs.References.{bytesOf}
+use Rattle.rules.specs.Declarations.{known}
+use Rattle.names.proofs.IndexLaws.{at-home}
+use borrow.Author.Needs.{needs}
+use Rattle.names.proofs.find_in_model.Statement.{statement}
+use Rattle.names.proofs.find_in_model.Tie as tie
+
+returns : tie.Need-returns
+returns c = (c .find .ensures .0, λ s k z. c .find .ensures .1 (known (s .decls)) k z ∙ at-home s (bytesOf (c .before .before .before .before .args .text .now) (c .before .before .before .before .args .name)) none 0 refl)
+
+pub find-in-model-spec : {M : Type 1} → statement M
+find-in-model-spec = tie.close (tie.spec (λ c κs. search needs) returns)

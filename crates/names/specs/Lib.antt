@@ -1,0 +1,4 @@
+pub mod Index
+pub mod References
+pub mod Chains
+pub mod Rows

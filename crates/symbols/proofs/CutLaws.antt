@@ -1,0 +1,188 @@
+-- For the floors above: what holds of every symbol of a text, and the tests of the rules as tests of a symbol's code.
+-- The place and the end of `symbolAt t i` lie in the text by `next-lies` of the rules; they are those of its cut as they stand.
+use mathlib.Core.Path.{_≡_, refl, sym, ap, _∙_}
+use mathlib.Core.Logic.{_⊎_, inl, inr}
+use mathlib.Core.Bool.{true, _&&_, _||_}
+use mathlib.Core.List.{List, [], _∷_}
+use Prim.Native.Nat.{ℕ, zero, suc, _+_, _≤_, _<_}
+use Prim.Native.Char.{Char, code}
+use native.Mathlib.Omega.{arith}
+use lib.ListN.{length, take, drop, getD}
+use lib.Dec.{eqb, leb, ltb}
+use borrow.Author.Tests.{ltb-true, ltb-false, leb-true, eqb-true, eq-eqb, ne-eqb}
+use Rattle.rules.specs.Bytes.{same, isOneOf, is, from, isLetter, isDigit, isWordByte, span}
+use Rattle.rules.specs.Reserved.{forms, table}
+use Rattle.rules.specs.Symbols.{Fault, Kind, word, name, number, quoted, dots, stop, mark, fault, Symbol, symbol, tag, Gap, upTo, open-at, apart, gap, Quote, closed, bad, endless, quote, unsignedLength, digitCount, wordKind, numberKind, aWord, aNumber, aString, isMarkByte, symbolOf, beyond, symbolAt, isKind, isMark, isWord, isOneWord}
+use Rattle.rules.proofs.Tests.{never, alike, or-split, split}
+use Rattle.rules.proofs.ByteLaws.{same-eq, same-refl}
+use Rattle.rules.proofs.SymbolLaws.{either}
+use Rattle.symbols.specs.Cut.{position, codeOf, cut}
+use Rattle.symbols.proofs.RangeLaws.{test}
+
+-- ---- what holds of a symbol's kind and bytes
+abbrev pub Sound : Kind → List ℕ → Type 0
+Sound word b = isOneOf b forms ≡ true
+Sound name b = length b ≤ 255
+Sound number b = digitCount b ≤ 18
+Sound (mark m) b = (40 ≤ m) × (m ≤ 61)
+Sound quoted b = Unit {0}
+Sound dots b = Unit {0}
+Sound stop b = Unit {0}
+Sound (fault f) b = Unit {0}
+
+pub record Cut (t : List ℕ) (y : Symbol) : Type 0 where
+  pub stands : y .bytes ≡ take (length (y .bytes)) (drop (y .place) t)
+  pub sound : Sound (y .kind) (y .bytes)
+
+take-take-length : (n : ℕ) (s : List ℕ) → take n s ≡ take (length (take n s)) s
+take-take-length zero s = refl
+take-take-length (suc n) [] = refl
+take-take-length (suc n) (b ∷ s) = ap (λ (l : List ℕ). b ∷ l) (take-take-length n s)
+
+word-sound : (b : List ℕ) → Sound (wordKind b) b
+word-sound b =
+    either (λ k. Sound k b) (ltb 255 (length b)) (λ _. tt)
+    (λ e. either (λ k. Sound k b) (isOneOf b forms) (λ f. f)
+    (λ _. either (λ k. Sound k b) (isOneOf b table) (λ _. tt) (λ _. ltb-false 255 (length b) e)))
+
+number-sound : (b : List ℕ) → Sound (numberKind b) b
+number-sound b = either (λ k. Sound k b) (ltb 18 (digitCount b)) (λ _. tt) (λ e. ltb-false 18 (digitCount b) e)
+
+mark-sound : (b : ℕ) → isMarkByte b ≡ true → (40 ≤ b) × (b ≤ 61)
+mark-sound b e = one (or-split {x = from "(" "*" b} e)
+  where
+    range : (c d : ℕ) → 40 ≤ c → d ≤ 61 → (leb c b && leb b d) ≡ true → (40 ≤ b) × (b ≤ 61)
+    range c d h l p = let (x, y) = split {x = leb c b} p in (omega (arith, leb-true c b x), omega (arith, leb-true b d y))
+
+    three : (from ":" ";" b ≡ true) ⊎ (is "=" b ≡ true) → (40 ≤ b) × (b ≤ 61)
+    three (inl p) = range 58 59 (omega arith) (omega arith) p
+    three (inr p) = let q = eqb-true b 61 p in (omega arith, omega arith)
+
+    two : (is "," b ≡ true) ⊎ ((from ":" ";" b || is "=" b) ≡ true) → (40 ≤ b) × (b ≤ 61)
+    two (inl p) = let q = eqb-true b 44 p in (omega arith, omega arith)
+    two (inr p) = three (or-split {x = from ":" ";" b} p)
+
+    one : (from "(" "*" b ≡ true) ⊎ ((is "," b || (from ":" ";" b || is "=" b)) ≡ true) → (40 ≤ b) × (b ≤ 61)
+    one (inl p) = range 40 42 (omega arith) (omega arith) p
+    one (inr p) = two (or-split {x = is "," b} p)
+
+module _ (t : List ℕ) (k : ℕ) where
+  empty-cut : (f : Fault) (p : ℕ) → Cut t (symbol (fault f) p [])
+  empty-cut f p = record { stands = refl; sound = tt }
+
+  first-cut : (y : Kind) (n : ℕ) → Sound y (take n (drop k t)) → Cut t (symbol y k (take n (drop k t)))
+  first-cut y n h = record { stands = take-take-length n (drop k t); sound = h }
+
+  word-cut : (n : ℕ) → Cut t (aWord k (take n (drop k t)))
+  word-cut n = first-cut (wordKind (take n (drop k t))) n (word-sound (take n (drop k t)))
+
+  number-cut : (n : ℕ) → Cut t (aNumber k (take n (drop k t)))
+  number-cut n = first-cut (numberKind (take n (drop k t))) n (number-sound (take n (drop k t)))
+
+  string-cut : (q : Quote) → Cut t (aString k (drop k t) q)
+  string-cut (closed n) = first-cut quoted (suc (suc n)) tt
+  string-cut (bad n) = empty-cut _ _
+  string-cut endless = empty-cut _ _
+
+  of-cut : (s : List ℕ) → drop k t ≡ s → Cut t (symbolOf k s)
+  unfolding symbolOf
+  of-cut [] e = record { stands = refl; sound = tt }
+  of-cut (b ∷ s) e =
+      let marked : (40 ≤ b) × (b ≤ 61) → Cut t (symbol (mark b) k (b ∷ [])) = λ h. rw e at (first-cut (mark b) 1 h) in
+      either (Cut t) (isLetter b) (λ _. rw e at (word-cut (suc (span isWordByte s))))
+      (λ _. either (Cut t) (isDigit b) (λ _. rw e at (number-cut (unsignedLength (b ∷ s))))
+      (λ _. either (Cut t) ((is "+" b || is "-" b) && isDigit (getD s 0 0)) (λ _. rw e at (number-cut (suc (unsignedLength s))))
+      (λ _. either (Cut t) (is "\"" b) (λ _. rw e at (string-cut (quote s 0 0)))
+      (λ _. either (Cut t) (isMarkByte b) (λ m. marked (mark-sound b m))
+      (λ _. either (Cut t) (is "." b)
+      (λ p. either (Cut t) (is "." (getD s 0 0)) (λ _. rw e at (first-cut dots 2 tt)) (λ _. let q = eqb-true b 46 p in marked (omega arith, omega arith)))
+      (λ _. empty-cut _ _))))))
+
+beyond-cut : (t : List ℕ) (g : Gap) → Cut t (beyond t g)
+beyond-cut t (upTo k) = of-cut t k (drop k t) refl
+beyond-cut t (open-at k) = empty-cut t 0 _ k
+
+pub cut-at : (t : List ℕ) (i : ℕ) → Cut t (symbolAt t i)
+unfolding symbolAt
+cut-at t i = beyond-cut t (gap (drop i t) apart i)
+
+-- ---- tests
+neither : (a b c d : ℕ) → ¬ (a ≡ b) → ¬ (c ≡ d) → eqb a b ≡ eqb c d
+neither a b c d p q = ne-eqb a b p ∙ sym (ne-eqb c d q)
+
+mark-of : (m : ℕ) → 5 < m → m < 64 → (k : Kind) (b : List ℕ) → eqb (tag k) (7 + m) ≡ eqb (codeOf k b) m
+mark-of m h l word b = neither 0 (7 + m) (64 + position b forms) m (λ e. omega arith) (λ e. omega arith)
+mark-of m h l name b = neither 1 (7 + m) 1 m (λ e. omega arith) (λ e. omega arith)
+mark-of m h l number b = neither 2 (7 + m) 2 m (λ e. omega arith) (λ e. omega arith)
+mark-of m h l quoted b = neither 3 (7 + m) 3 m (λ e. omega arith) (λ e. omega arith)
+mark-of m h l dots b = neither 4 (7 + m) 4 m (λ e. omega arith) (λ e. omega arith)
+mark-of m h l stop b = neither 5 (7 + m) 0 m (λ e. omega arith) (λ e. omega arith)
+mark-of m h l (fault f) b = neither 6 (7 + m) 5 m (λ e. omega arith) (λ e. omega arith)
+mark-of m h l (mark x) b =
+    alike (λ p. let e = eqb-true (7 + x) (7 + m) p in eq-eqb x m (omega arith)) (λ p. let e = eqb-true x m p in eq-eqb (7 + x) (7 + m) (omega arith))
+
+-- a mark is its byte
+pub is-mark : (y : Symbol) (c : Char) → (ltb 5 (code c) && ltb (code c) 64) ≡ true → isMark c y ≡ eqb (cut y .code) (code c)
+is-mark y c h = let (p, q) = split {x = ltb 5 (code c)} h in mark-of (code c) (ltb-true _ _ p) (ltb-true _ _ q) (y .kind) (y .bytes)
+
+kind-of : (n : ℕ) → 0 < n → n < 5 → (k : Kind) (b : List ℕ) → Sound k b → eqb (tag k) n ≡ eqb (codeOf k b) n
+kind-of n h l word b s = neither 0 n (64 + position b forms) n (λ e. omega arith) (λ e. omega arith)
+kind-of n h l name b s = refl
+kind-of n h l number b s = refl
+kind-of n h l quoted b s = refl
+kind-of n h l dots b s = refl
+kind-of n h l stop b s = neither 5 n 0 n (λ e. omega arith) (λ e. omega arith)
+kind-of n h l (fault f) b s = neither 6 n 5 n (λ e. omega arith) (λ e. omega arith)
+kind-of n h l (mark x) b s = neither (7 + x) n x n (λ e. omega arith) (λ e. omega arith)
+
+-- name 1, number 2, quoted 3, dots 4
+pub is-kind : {t : List ℕ} (y : Symbol) → Cut t y → (k : Kind) → (ltb 0 (tag k) && ltb (tag k) 5) ≡ true → isKind k y ≡ eqb (cut y .code) (tag k)
+is-kind y c k h = let (p, q) = split {x = ltb 0 (tag k)} h in kind-of (tag k) (ltb-true _ _ p) (ltb-true _ _ q) (y .kind) (y .bytes) (c .sound)
+
+stop-of : (k : Kind) (b : List ℕ) → Sound k b → eqb (tag k) 5 ≡ eqb (codeOf k b) 0
+stop-of word b s = neither 0 5 (64 + position b forms) 0 (λ e. omega arith) (λ e. omega arith)
+stop-of name b s = refl
+stop-of number b s = refl
+stop-of quoted b s = refl
+stop-of dots b s = refl
+stop-of stop b s = refl
+stop-of (fault f) b s = refl
+stop-of (mark x) b s = neither (7 + x) 5 x 0 (λ e. omega arith) (λ e. omega arith)
+
+pub is-stop : {t : List ℕ} (y : Symbol) → Cut t y → isKind stop y ≡ eqb (cut y .code) 0
+is-stop y c = stop-of (y .kind) (y .bytes) (c .sound)
+
+-- two words of the same position in a list that has one of them are the same
+position-same : (b w : List ℕ) (l : List (List ℕ)) → isOneOf w l ≡ true → position b l ≡ position w l → same b w ≡ true
+position-same b w [] h e = never h
+position-same b w (v ∷ l) h e =
+    let go = position-same b w l in
+    test (same w v)
+    (λ p.
+    test (same b v) (λ q. let x = same-eq b v q in let y = same-eq w v p in let z : b ≡ w = cc in rw z (same-refl w))
+    (λ q. absurd (let z : suc (position b l) ≡ 0 = rw (p, q) at e in omega arith)))
+    (λ p.
+    test (same b v) (λ q. absurd (let z : 0 ≡ suc (position w l) = rw (p, q) at e in omega arith))
+    (λ q.
+    let z : suc (position b l) ≡ suc (position w l) = rw (p, q) at e in
+    go (rw p at h) (omega arith)))
+
+word-of : (w : List ℕ) → isOneOf w forms ≡ true → (k : Kind) (b : List ℕ) → Sound k b → (eqb (tag k) 0 && same b w) ≡ eqb (codeOf k b) (64 + position w forms)
+word-of w h word b s =
+    alike (λ p. eq-eqb (64 + position b forms) (64 + position w forms) (ap (λ (x : List ℕ). 64 + position x forms) (same-eq b w p)))
+    (λ p. let e = eqb-true (64 + position b forms) (64 + position w forms) p in position-same b w forms h (omega arith))
+word-of w h name b s = sym (ne-eqb 1 (64 + position w forms) (λ e. omega arith))
+word-of w h number b s = sym (ne-eqb 2 (64 + position w forms) (λ e. omega arith))
+word-of w h quoted b s = sym (ne-eqb 3 (64 + position w forms) (λ e. omega arith))
+word-of w h dots b s = sym (ne-eqb 4 (64 + position w forms) (λ e. omega arith))
+word-of w h stop b s = sym (ne-eqb 0 (64 + position w forms) (λ e. omega arith))
+word-of w h (fault f) b s = sym (ne-eqb 5 (64 + position w forms) (λ e. omega arith))
+word-of w h (mark x) b s = rw (ne-eqb (7 + x) 0 (λ e. omega arith)) (sym (ne-eqb x (64 + position w forms) (λ e. omega arith)))
+
+-- a word of the forms is 64 and its position
+pub is-word : {t : List ℕ} (y : Symbol) → Cut t y → (w : List ℕ) → isOneOf w forms ≡ true → isWord w y ≡ eqb (cut y .code) (64 + position w forms)
+is-word y c w h = word-of w h (y .kind) (y .bytes) (c .sound)
+
+-- one of several words is the first or one of the others
+pub is-one-word : (y : Symbol) (w : List ℕ) (l : List (List ℕ)) → isOneWord (w ∷ l) y ≡ (isWord w y || isOneWord l y)
+is-one-word y w l = test (isKind word y) (λ e. rw e) (λ e. rw e)

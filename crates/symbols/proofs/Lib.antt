@@ -1,0 +1,9 @@
+pub mod RangeLaws
+pub mod ClassLaws
+pub mod ScanLaws
+pub mod GapLaws
+pub mod WordLaws
+pub mod NumberLaws
+pub mod StringLaws
+pub mod BeginLaws
+pub mod CutLaws

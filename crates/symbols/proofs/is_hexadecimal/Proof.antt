@@ -1,0 +1,22 @@
+use mathlib.Core.Path.{sym, _∙_}
+use borrow.Author.Needs.{needs}
+use Rattle.symbols.proofs.is_hexadecimal.Statement.{statement}
+use Rattle.symbols.proofs.is_hexadecimal.Tie as tie
+
+returns : tie.Need-returns
+returns c = rw (sym (c .before .is-digit .ensures) ∙ c .if1 .taken)
+
+returns-2 : tie.Need-returns-2
+returns-2 c = rw (sym (c .before .before .before .is-digit .ensures) ∙ c .before .before .if1 .left, sym (c .before .between .ensures) ∙ c .if2 .taken)
+
+returns-3 : tie.Need-returns-3
+returns-3 c =
+    rw (
+      sym (c .before .before .before .before .is-digit .ensures) ∙ c .before .before .before .if1 .left,
+      sym (c .before .before .between .ensures) ∙ c .before .if2 .left,
+    ) (c .between2 .ensures)
+
+pub is-hexadecimal-spec : {M : Type 1} → statement M
+is-hexadecimal-spec =
+    tie.close
+    (tie.spec (λ c κs. search needs) returns (λ c κs. search needs) returns-2 (λ c κs. search needs) returns-3)
