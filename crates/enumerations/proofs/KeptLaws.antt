@@ -1,16 +1,16 @@
 -- What a merged enumeration keeps of its two, so that it can be a base again; and that it stands where it is written.
-use mathlib.Core.Path.{_≡_}
+use mathlib.Core.Path.{_≡_, ap, _∙_}
 use mathlib.Core.Bool.{Bool, true, false, cond}
 use mathlib.Core.Option.{none, some}
 use mathlib.Core.List.{List, [], _++_, append-assoc}
 use Prim.Native.Nat.{ℕ, _+_, _≤_}
 use lib.ListN.{length, take, drop}
-use lib.Seq.{length-take-le, drop-at, drop-append-seam}
+use lib.Seq.{length-take-le, drop-at, drop-append-seam, take-append-seam}
 use Rattle.rules.specs.Bytes.{same}
 use Rattle.rules.specs.Enumerations.{Enum, end, elem, at, inner, has, news, mergeFrom, merge, twice}
 use Rattle.rules.specs.Book.{bytes}
 use Rattle.rules.proofs.MergeLaws.{distinct-merge, once-distinct, distinct-once}
-use Rattle.ground.specs.Parts.{splice}
+use Rattle.ground.specs.Parts.{part, splice}
 use Rattle.enumerations.specs.Standing.{Named, Deep, Stands}
 use Rattle.enumerations.specs.Merging.{records}
 use Rattle.enumerations.proofs.DeepLaws.{deep-merge}
@@ -64,3 +64,7 @@ laid-stands t o o₁ i e h l q =
       named = h .named;
       deep = h .deep;
     }
+
+-- the bytes from there on are its own: copied, it stands elsewhere too
+pub part-stands : (t s : List ℕ) (e : Enum) (p : ℕ) → Stands t s e p → part s p (length (bytes (records e))) ≡ bytes (records e)
+part-stands t s e p h = ap (take (length (bytes (records e)))) (h .here) ∙ take-append-seam (bytes (records e)) (h .more)

@@ -12,3 +12,4 @@ pub mod MergedLaws
 pub mod HoldLaws
 pub mod TwiceLaws
 pub mod KeptLaws
+pub mod CopyLaws

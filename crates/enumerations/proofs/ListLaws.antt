@@ -8,6 +8,7 @@ use lib.ListN.{length, getD}
 use lib.Dec.{eqb, leb}
 use borrow.Author.Tests.{le-leb, lt-leb, ne-eqb, leb-true, leb-false, eqb-true}
 use Rattle.rules.specs.Bytes.{same}
+use Rattle.rules.specs.Book.{bit}
 use Rattle.rules.proofs.Tests.{split, fail-r}
 use Rattle.ground.specs.Parts.{part}
 use Rattle.enumerations.specs.Lists.{nowhere, isElement, isOpening, endFrom, pastInner, written, sameNames, findFrom}
@@ -42,6 +43,11 @@ opening-short s p h = rw (lt-leb (p + 2) (length s) h)
 pub opening-byte : (s : List ℕ) (p : ℕ) → p + 2 ≤ length s → isOpening s p ≡ eqb (getD s p 0) 13
 unfolding isOpening
 opening-byte s p h = rw (le-leb (p + 2) (length s) h)
+
+-- the flag of an opening, read again
+pub bit-one : (f : Bool) → eqb (bit f 1) 1 ≡ f
+bit-one true = refl
+bit-one false = refl
 
 -- ---- a step towards the end of a list
 pub end-out : (f : ℕ) (s : List ℕ) (p k c : ℕ) → length s ≤ p → endFrom f s p k c ≡ record { at = p; records = c }
@@ -103,7 +109,7 @@ find-none zero t s p n e = refl
 find-none (suc f) t s p n e = rw e
 
 -- ---- parts of the text
-part-is : {a b c d : ℕ} → a ≡ c → b ≡ d → _≡_ {A = Part} (record { start = a; len = b }) (record { start = c; len = d })
+pub part-is : {a b c d : ℕ} → a ≡ c → b ≡ d → _≡_ {A = Part} (record { start = a; len = b }) (record { start = c; len = d })
 part-is p q = rw (p, q)
 
 -- the name in a record

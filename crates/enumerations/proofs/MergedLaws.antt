@@ -6,7 +6,6 @@ use Prim.Native.Nat.{ℕ, _+_, _-_, _*_, _≤_, _<_}
 use native.Mathlib.Nat.{mul-le-mul}
 use native.Mathlib.Omega.{arith}
 use lib.ListN.{length, getD, take, length-append}
-use lib.Dec.{eqb}
 use lib.Seq.{length-take-le}
 use Rattle.rules.specs.Enumerations.{Enum, final, at, merge, enumFits}
 use Rattle.rules.specs.Book.{Record, bit, openRecord, elementRecords, bytes}
@@ -19,6 +18,7 @@ use Rattle.enumerations.specs.Steps.{putAt}
 use Rattle.enumerations.specs.Walks.{noPosition, wrote, barred, runFrom, RanTo, Starts}
 use Rattle.enumerations.specs.Standing.{Stands}
 use Rattle.enumerations.specs.Merging.{records, sizeOf, LaidAs, Merges}
+use Rattle.enumerations.proofs.ListLaws.{bit-one}
 use Rattle.enumerations.proofs.StepLaws.{put-fits, length-put, take-put}
 use Rattle.enumerations.proofs.RunLaws.{size-is}
 use Rattle.enumerations.proofs.WrittenLaws.{Whole, stands-whole, end-bytes, count-records}
@@ -31,10 +31,6 @@ use Rattle.enumerations.specs.declared.lists.Size.{Size}
 use Rattle.enumerations.specs.declared.walk.Walk.{Walk}
 use Rattle.enumerations.specs.declared.walk.Laid.{Laid}
 use Rattle.enumerations.specs.declared.walk.Laid.the-variants as laid
-
-bit-one : (f : Bool) → eqb (bit f 1) 1 ≡ f
-bit-one true = refl
-bit-one false = refl
 
 -- what is read where an enumeration stands
 pub inner-stands : (t s : List ℕ) (e : Enum) (p : ℕ) → Stands t s e p → innerAt s p ≡ record { list = p + 2; there = true; last = final e }

@@ -80,7 +80,7 @@ module _ (t b x : List ℕ) (lb : length b < nowhere) (lx : length x < nowhere) 
       let Z : Bool = innerAt b (p .at + 6) .last || innerAt x m .last in
       let ey : Y ≡ not (plain i && plain j) = rw (I .there, J .there) (not-and (plain i) (plain j)) in
       let ez : Z ≡ (final i || final j) = rw (I .last, J .last) in
-      rw (sym (copy-element t b x p a m (pastInner b (p .at + 6)) (innerAt b (p .at + 6)) (innerAt x m) Y Z (e .there) refl refl refl refl refl refl refl))
+      rw (sym (copy-element t b x p a m (pastInner b (p .at + 6)) (innerAt b (p .at + 6)) (innerAt x m) (e .there) refl refl refl refl refl))
       (heading-simulates t b x n (plain i && plain j) (final i || final j) (copy i i j) (copy w r y) a Y Z _ _ (e .name) ey ez
       (record { phase = refl; whole = I .list; rest = I .list; own = J .list; last = I .last })
       (record { phase = refl; whole = h .whole; rest = rw (past-inside t b i (p .at + 6) wi) (h .rest .2); own = h .own; last = h .last }))

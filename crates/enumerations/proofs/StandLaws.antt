@@ -7,16 +7,15 @@ use Prim.Native.Nat.{ℕ, zero, suc, _+_, _-_, _≤_, _<_}
 use native.Mathlib.Numerals.{add-one, sub-one}
 use native.Mathlib.Omega.{arith}
 use lib.ListN.{length, getD}
-use lib.Dec.{eqb, ltb, leb}
+use lib.Dec.{ltb, leb}
 use borrow.Author.Tests.{lt-ltb, le-leb}
 use Rattle.rules.specs.Bytes.{same}
 use Rattle.rules.specs.Names.{Name}
 use Rattle.rules.specs.Enumerations.{Enum, end, elem, final, at, inner, has}
-use Rattle.rules.specs.Book.{bit}
 use Rattle.rules.proofs.Tests.{fail-r}
 use Rattle.enumerations.specs.Lists.{nowhere, isElement, isOpening, endFrom, pastInner, innerAt, written, sameNames, findFrom}
 use Rattle.enumerations.specs.Standing.{InText, plain, partOf, endOf, InsideBy, ListAt, InsideAt, ElementsAt}
-use Rattle.enumerations.proofs.ListLaws.{element-in, element-short, opening-in, opening-short, end-element, end-opening, end-last, end-close, names-in, find-here, find-next, find-none}
+use Rattle.enumerations.proofs.ListLaws.{bit-one, element-in, element-short, opening-in, opening-short, end-element, end-opening, end-last, end-close, names-in, find-here, find-next, find-none}
 use Rattle.enumerations.specs.declared.lists.End.{End}
 use Rattle.enumerations.specs.declared.lists.Inner.{Inner}
 
@@ -156,10 +155,6 @@ module _ (t s : List ℕ) where
       pub there : v .there ≡ not (plain i)
       pub last : v .last ≡ final i
       pub list : ElementsAt t s i (v .list)
-
-    bit-one : (f : Bool) → eqb (bit f 1) 1 ≡ f
-    bit-one true = refl
-    bit-one false = refl
 
     pub inside-is : (i : Enum) (m : ℕ) → InsideAt t s i m → Inside i (innerAt s m)
     unfolding innerAt

@@ -1,6 +1,6 @@
 -- The laws by which the code takes a step of the walk, and writes what it writes.
 use mathlib.Core.Path.{_≡_, refl, sym, _∙_}
-use mathlib.Core.Bool.{Bool, true, false, cond, _||_}
+use mathlib.Core.Bool.{Bool, true, false, cond}
 use mathlib.Core.List.{List, _++_}
 use Prim.Native.Nat.{ℕ, _+_, _-_, _≤_, _<_}
 use native.Mathlib.Omega.{arith}
@@ -12,7 +12,7 @@ use Rattle.rules.specs.Book.{bytes}
 use Rattle.ground.specs.Parts.{splice}
 use Rattle.ground.proofs.BufferLaws.{length-splice}
 use Rattle.enumerations.specs.Lists.{nowhere, isElement, pastInner, innerAt, written, findFrom}
-use Rattle.enumerations.specs.Steps.{emitted, pieceOf, sizeWith, putAt, elementMove, addedMove, copyMove, addMove, lookMove}
+use Rattle.enumerations.specs.Steps.{emitted, pieceOf, sizeWith, putAt, elementMove, sharedMove, addedMove, copyMove, addMove, lookMove}
 use Rattle.enumerations.specs.Walks.{gone, movedBy}
 use Rattle.book.specs.declared.Part.{Part}
 use Rattle.enumerations.specs.declared.lists.Inner.{Inner}
@@ -27,12 +27,11 @@ use Rattle.enumerations.specs.declared.walk.Walk.{Walk}
 
 -- ---- what a step does
 module _ (t b x : List ℕ) (p : Position) where
-  pub copy-element : (n : Part) (m nx : ℕ) (i j : Inner) (y z : Bool) → isElement b (p .at) ≡ true → n ≡ written b (p .at) → i ≡ innerAt b (p .at + 6) →
-      m ≡ findFrom (length x + 1) t x (p .own) n → j ≡ innerAt x m → nx ≡ pastInner b (p .at + 6) → y ≡ (i .there || j .there) → z ≡ (i .last || j .last) →
-      elementMove n y z (record { base = p .base; at = nx; own = p .own; adding = false; last = p .last })
-      (record { base = i .list; at = i .list; own = j .list; adding = false; last = i .last }) ≡ copyMove t b x p
+  pub copy-element : (n : Part) (m nx : ℕ) (i j : Inner) → isElement b (p .at) ≡ true → n ≡ written b (p .at) → i ≡ innerAt b (p .at + 6) →
+      m ≡ findFrom (length x + 1) t x (p .own) n → j ≡ innerAt x m → nx ≡ pastInner b (p .at + 6) →
+      sharedMove i j n (record { base = p .base; at = nx; own = p .own; adding = false; last = p .last }) ≡ copyMove t b x p
   unfolding copyMove
-  copy-element n m nx i j y z e en ei em ej ex ey ez = rw (e, ← en, ← em, ← ej, ← ei, ← ex, ey, ez)
+  copy-element n m nx i j e en ei em ej ex = rw (e, ← en, ← em, ← ej, ← ei, ← ex)
 
   pub copy-end : isElement b (p .at) ≡ false →
       record { emit = Quiet; turn = Go; next = record { base = p .base; at = p .own; own = p .own; adding = true; last = p .last }; child = p } ≡ copyMove t b x p

@@ -13,9 +13,9 @@ use Rattle.rules.specs.Names.{Name}
 use Rattle.rules.specs.Enumerations.{Enum, end, elem, final}
 use Rattle.rules.specs.Book.{Record, bit, nameRecord, openRecord, innerRecords, elementRecords, bytes}
 use Rattle.rules.proofs.Tests.{fail-r}
-use Rattle.book.specs.declared.Part.{Part}
 use Rattle.enumerations.specs.Lists.{isElement, isOpening}
 use Rattle.enumerations.specs.Standing.{InText, Named, plain, Stands, ElementAt, endOf, InsideBy, ListAt}
+use Rattle.enumerations.proofs.ListLaws.{part-is}
 use Rattle.enumerations.proofs.RunLaws.{bytes-append}
 use Rattle.enumerations.proofs.FrameLaws.{inner-records}
 use Rattle.enumerations.proofs.StandLaws.{count}
@@ -51,9 +51,6 @@ low4 v h =
     let e : v / 256 / 256 / 256 * 256 + v / 256 / 256 % 256 ≡ v / 256 / 256 = omega arith in
     let f : v / 256 / 256 / 256 % 256 ≡ v / 256 / 256 / 256 = omega arith in
     omega arith
-
-part-eq : {a b c d : ℕ} → a ≡ c → b ≡ d → _≡_ {A = Part} (record { start = a; len = b }) (record { start = c; len = d })
-part-eq p q = rw (p, q)
 
 -- the bytes of a list, as the places in it are counted
 abbrev listBytes : Enum → List ℕ
@@ -110,7 +107,7 @@ module _ (t s : List ℕ) where
       let z : length (n .bytes) % 256 ≡ length (n .bytes) = omega (arith, h .short) in
       record {
         there = rw (le-leb (p + 6) (length s) l, k);
-        name = part-eq (rw (e1, e2, e3, b .byte 1 (omega arith), b .byte 2 (omega arith), b .byte 3 (omega arith), b .byte 4 (omega arith)) (low4 (n .offset) (h .low)))
+        name = part-is (rw (e1, e2, e3, b .byte 1 (omega arith), b .byte 2 (omega arith), b .byte 3 (omega arith), b .byte 4 (omega arith)) (low4 (n .offset) (h .low)))
             (b .byte 5 (omega arith) ∙ z);
         in-text = h;
       }

@@ -63,6 +63,11 @@ elementMove n there last next child =
     cond there (record { emit = Opening n last; turn = Enter; next = next; child = child })
     (record { emit = Element n; turn = Go; next = next; child = child })
 
+abbrev pub sharedMove : Inner → Inner → Part → Position → Move
+sharedMove i j n next =
+    elementMove n (i .there || j .there) (i .last || j .last) next
+    (record { base = i .list; at = i .list; own = j .list; adding = false; last = i .last })
+
 abbrev pub addedMove : Inner → Part → Position → Move
 addedMove i n next =
     elementMove n (i .there) (i .last) next (record { base = nowhere; at = i .list; own = nowhere; adding = true; last = false })
@@ -74,9 +79,7 @@ copyMove t b x p =
     (let n = written b (p .at) in
     let i = innerAt b (p .at + 6) in
     let j = innerAt x (findFrom (length x + 1) t x (p .own) n) in
-    elementMove n (i .there || j .there) (i .last || j .last)
-    (record { base = p .base; at = pastInner b (p .at + 6); own = p .own; adding = false; last = p .last })
-    (record { base = i .list; at = i .list; own = j .list; adding = false; last = i .last }))
+    sharedMove i j n (record { base = p .base; at = pastInner b (p .at + 6); own = p .own; adding = false; last = p .last }))
     (record { emit = Quiet; turn = Go; next = record { base = p .base; at = p .own; own = p .own; adding = true; last = p .last }; child = p })
 
 -- the next element of the extension, unless the base has it; behind the last one, the list is closed

@@ -5,6 +5,7 @@ ghost use Prim.Native.Nat.{ℕ, _+_, _-_, _≤_, _<_};
 ghost use lib.ListN.{length};
 ghost use lib.Dec.{leb};
 ghost use Rattle.rules.specs.Enumerations.{Enum};
+ghost use Rattle.ground.specs.Parts.{part, splice};
 ghost use Rattle.enumerations.specs.Lists.{isElement, isOpening, endFrom, pastInner, innerAt, sameNames, findFrom};
 ghost use Rattle.enumerations.specs.Standing.{Stands};
 ghost use Rattle.enumerations.specs.Merging.{records, sizeOf};
@@ -163,5 +164,17 @@ pub fn size_of(s: &[u8], at: usize) -> Size
     Size {
         bytes: 0,
         records: 0,
+    }
+}
+
+// The n bytes at `from` once more, at a place behind them.
+pub fn copy_within(out: &mut [u8], from: usize, n: usize, at: usize)
+    requires { ⌜ (from + n ≤ at) × (at + n ≤ length (now out)) ⌝ }
+    ensures { λ _. ⌜ now (out .exit) ≡ splice (now (out .entry)) at (part (now (out .entry)) from n) ⌝ }
+{
+    let mut i = 0;
+    while i < n {
+        out[at + i] = out[from + i];
+        i += 1;
     }
 }

@@ -6,7 +6,7 @@ ghost use Prim.Native.Nat.{_+_, _*_, _≤_, _<_};
 ghost use lib.ListN.{length, take};
 ghost use Rattle.rules.specs.Enumerations.{Enum};
 ghost use Rattle.rules.specs.Book.{bit, bytes};
-ghost use Rattle.enumerations.specs.Steps.{goes, emitted, elementMove, addedMove, copyMove, addMove, lookMove, elementPiece, pieceOf, sizeWith, putAt};
+ghost use Rattle.enumerations.specs.Steps.{goes, emitted, elementMove, sharedMove, addedMove, copyMove, addMove, lookMove, elementPiece, pieceOf, sizeWith, putAt};
 ghost use Rattle.enumerations.specs.Walks.{topOf, movedBy, runFrom, RanTo, Starts};
 ghost use Rattle.enumerations.specs.Standing.{Stands};
 ghost use Rattle.enumerations.specs.Merging.{Merges};
@@ -86,6 +86,26 @@ fn element_move(name: Part, there: bool, last: bool, next: Position, child: Posi
     }
 }
 
+// An element of the base, with what the extension has of it: inside it both are merged.
+fn shared(i: Inner, j: Inner, name: Part, next: Position) -> Move
+    ensures { λ r. ⌜ r ≡ sharedMove i j name next ⌝ }
+{
+    let child = Position {
+        base: i.list,
+        at: i.list,
+        own: j.list,
+        adding: false,
+        last: i.last,
+    };
+    element_move(
+        name,
+        either(i.there, j.there),
+        either(i.last, j.last),
+        next,
+        child,
+    )
+}
+
 // A step while the base's elements are written, under their own names.
 fn copying(text: &[u8], b: &[u8], x: &[u8], p: Position) -> Move
     ensures { λ r. ⌜ r ≡ copyMove (now (text .entry)) (now (b .entry)) (now (x .entry)) p ⌝ }
@@ -102,20 +122,7 @@ fn copying(text: &[u8], b: &[u8], x: &[u8], p: Position) -> Move
             adding: false,
             last: p.last,
         };
-        let child = Position {
-            base: i.list,
-            at: i.list,
-            own: j.list,
-            adding: false,
-            last: i.last,
-        };
-        return element_move(
-            name,
-            either(i.there, j.there),
-            either(i.last, j.last),
-            next,
-            child,
-        );
+        return shared(i, j, name, next);
     }
     Move {
         emit: Emit::Quiet,

@@ -19,8 +19,8 @@ add-past-inner c = omega (arith, element-in _ _ (sym (c .before .before .before 
 
 returns : tie.Need-returns
 returns c =
-    let a = c .before .before .before .before .before .before .before .before .before .before .before .before .before .args in
-    c .element-move .ensures ∙ copy-element (a .text .now) (a .b .now) (a .x .now) (a .p) (c .before .before .before .before .before .before .before .written-name .result) (c .before .before .before .before .before .find .result) (c .before .before .before .past-inner .result) (c .before .before .before .before .before .before .inner-at .result) (c .before .before .before .before .inner-at2 .result) (c .before .before .either .result) (c .before .either2 .result) (sym (c .before .before .before .before .before .before .before .before .before .is-element .ensures) ∙ c .before .before .before .before .before .before .before .before .if1 .taken) (as-written (c .before .before .before .before .before .before .before .written-name .ensures)) (c .before .before .before .before .before .before .inner-at .ensures) (c .before .before .before .before .before .find .ensures (length (a .x .now) + 1) (omega arith)) (c .before .before .before .before .inner-at2 .ensures) (c .before .before .before .past-inner .ensures .0) (c .before .before .either .ensures) (c .before .either2 .ensures)
+    let a = c .before .before .before .before .before .before .before .before .before .before .before .args in
+    c .shared .ensures ∙ copy-element (a .text .now) (a .b .now) (a .x .now) (a .p) (c .before .before .before .before .before .written-name .result) (c .before .before .before .find .result) (c .before .past-inner .result) (c .before .before .before .before .inner-at .result) (c .before .before .inner-at2 .result) (sym (c .before .before .before .before .before .before .before .is-element .ensures) ∙ c .before .before .before .before .before .before .if1 .taken) (as-written (c .before .before .before .before .before .written-name .ensures)) (c .before .before .before .before .inner-at .ensures) (c .before .before .before .find .ensures (length (a .x .now) + 1) (omega arith)) (c .before .before .inner-at2 .ensures) (c .before .past-inner .ensures .0)
 
 returns-2 : tie.Need-returns-2
 returns-2 c = copy-end (c .before .before .before .before .before .args .text .now) (c .before .before .before .before .before .args .b .now) (c .before .before .before .before .before .args .x .now) (c .before .before .before .before .before .args .p) (sym (c .before .is-element .ensures) ∙ c .if1 .left)
@@ -36,8 +36,6 @@ copying-spec =
     (λ c κs. search needs)
     (λ c κs. search needs)
     add-past-inner
-    (λ c κs. search needs)
-    (λ c κs. search needs)
     (λ c κs. search needs)
     (λ c κs. search needs)
     returns

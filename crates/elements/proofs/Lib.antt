@@ -1,0 +1,4 @@
+pub mod PutLaws
+pub mod ListLaws
+pub mod LoopLaws
+pub mod SizeLaws

@@ -1,0 +1,12 @@
+use Rattle.elements.proofs.ListLaws.{closes-final}
+use native.Mathlib.Omega.{arith}
+use borrow.Author.Needs.{needs}
+use Rattle.elements.proofs.close_final.Statement.{statement}
+use Rattle.elements.proofs.close_final.Tie as tie
+
+returns : tie.Need-returns
+returns c = closes-final (c .before .before .before .before .before .expect .ensures) (c .before .before .before .before .expect2 .ensures) (c .before .before .put-close .ensures)
+
+pub close-final-spec : {M : Type 1} → statement M
+close-final-spec =
+    tie.close (tie.spec (λ c κs. search needs) (λ c κs. search needs) (λ c κs. search needs) (λ c. search needs) returns)

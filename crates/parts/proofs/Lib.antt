@@ -1,0 +1,3 @@
+pub mod PropertyLaws
+pub mod ReferenceLaws
+pub mod TypeLaws

@@ -1,0 +1,33 @@
+use Rattle.parts.proofs.ReferenceLaws.{one-part, two-parts, three-parts}
+use native.Mathlib.Omega.{arith}
+use borrow.Author.Needs.{needs}
+use Rattle.parts.proofs.read_reference.Statement.{statement}
+use Rattle.parts.proofs.read_reference.Tie as tie
+
+returns : tie.Need-returns
+returns c = three-parts (c .before .before .before .before .before .before .before .before .before .before .before .expect .ensures) (c .before .before .before .name-of .ensures) (c .before .before .before .before .before .before .before .before .before .if1 .taken) (c .before .before .before .before .before .before .before .before .expect2 .ensures) (c .before .before .before .before .before .before .before .expect3 .ensures) (c .before .before .name-of2 .ensures) (c .before .before .before .before .before .if2 .taken) (c .before .before .before .before .expect4 .ensures) (c .expect5 .ensures) (c .before .name-of3 .ensures)
+
+returns-2 : tie.Need-returns-2
+returns-2 c = two-parts (c .before .before .before .before .before .before .before .before .expect .ensures) (c .before .name-of4 .ensures) (c .before .before .before .before .before .before .if1 .taken) (c .before .before .before .before .before .expect2 .ensures) (c .before .before .before .before .expect3 .ensures) (c .name-of5 .ensures) (c .before .before .if2 .left)
+
+returns-3 : tie.Need-returns-3
+returns-3 c = one-part (c .before .before .before .expect .ensures) (c .name-of6 .ensures) (c .before .if1 .left)
+
+pub read-reference-spec : {M : Type 1} → statement M
+read-reference-spec =
+    tie.close
+    (tie.spec
+    (λ c κs. search needs)
+    (λ c κs. search needs)
+    (λ c κs. search needs)
+    (λ c κs. search needs)
+    (λ c κs. search needs)
+    (λ c κs. search needs)
+    (λ c κs. search needs)
+    (λ c κs. search needs)
+    returns
+    (λ c κs. search needs)
+    (λ c κs. search needs)
+    returns-2
+    (λ c κs. search needs)
+    returns-3)

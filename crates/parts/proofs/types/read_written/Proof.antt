@@ -1,0 +1,30 @@
+use Rattle.parts.proofs.TypeLaws.{with-mandatory, not-mandatory}
+use Rattle.readers.proofs.ReadLaws.{held, expected}
+use Rattle.readers.proofs.CodeLaws.{is-word}
+use Rattle.rules.specs.Bytes.{ascii}
+use mathlib.Core.Path.{refl}
+use native.Mathlib.Omega.{arith}
+use borrow.Author.Needs.{needs}
+use Rattle.parts.proofs.types.read_written.Statement.{statement}
+use Rattle.parts.proofs.types.read_written.Tie as tie
+
+after-mandatory-requires : tie.Need-after-mandatory-requires
+after-mandatory-requires c κs = (held (expected (is-word (ascii "MANDATORY") 78 refl) (c .before .expect .ensures)) (c .before .before .before .before .before .before .pre .0), c .before .before .before .before .before .before .pre .1)
+
+returns : tie.Need-returns
+returns c = with-mandatory (c .before .before .before .before .before .before .before .before .before .before .args .based) (c .before .before .before .before .before .before .before .before .before .before .args .or) (c .before .before .before .before .before .before .if1 .taken) (c .before .before .before .before .before .expect .ensures) (c .before .before .before .after-mandatory .ensures)
+
+returns-2 : tie.Need-returns-2
+returns-2 c = not-mandatory (c .before .before .before .before .before .before .before .before .before .args .based) (c .before .before .before .before .before .before .before .before .before .args .or) (c .before .before .before .before .before .if1 .left) (c .before .before .before .type-by .ensures)
+
+pub read-written-spec : {M : Type 1} → statement M
+read-written-spec =
+    tie.close
+    (tie.spec
+    (λ c κs. search needs)
+    after-mandatory-requires
+    (λ c. search needs)
+    returns
+    (λ c κs. search needs)
+    (λ c. search needs)
+    returns-2)

@@ -1,0 +1,20 @@
+use Rattle.parts.proofs.TypeLaws.{held-behind, text-limited, text-free}
+use Rattle.readers.proofs.ReadLaws.{held, expected, taken}
+use Rattle.readers.proofs.CodeLaws.{is-mark}
+use native.Mathlib.Omega.{arith}
+use borrow.Author.Needs.{needs}
+use Rattle.parts.proofs.types.text_type.Statement.{statement}
+use Rattle.parts.proofs.types.text_type.Tie as tie
+
+text-length-requires : tie.Need-text-length-requires
+text-length-requires c κs = held (expected (is-mark "*" (omega arith) (omega arith)) (c .expect2 .ensures)) (held-behind (c .before .before .before .before .before .pre) (c .before .before .before .expect .ensures))
+
+returns : tie.Need-returns
+returns c = λ m k q. text-limited m k (c .before .before .before .before .expect .ensures) (c .before .before .if1 .taken) (c .before .expect2 .ensures) (c .text-length .ensures m q)
+
+returns-2 : tie.Need-returns-2
+returns-2 c = λ m k q. text-free m k (c .before .before .expect .ensures) q (c .if1 .left)
+
+pub text-type-spec : {M : Type 1} → statement M
+text-type-spec =
+    tie.close (tie.spec (λ c κs. search needs) (λ c κs. search needs) text-length-requires returns returns-2)

@@ -1,0 +1,21 @@
+use native.Mathlib.Omega.{arith}
+use borrow.Author.Needs.{needs}
+use Rattle.parts.proofs.types.type_by.Statement.{statement}
+use Rattle.parts.proofs.types.type_by.Tie as tie
+
+returns : tie.Need-returns
+returns c = rw (c .before .before .before .before .if1 .taken) (c .before .before .type-or-reference .ensures)
+
+returns-2 : tie.Need-returns-2
+returns-2 c = rw (c .before .before .before .before .if1 .left) (c .before .before .type-of .ensures)
+
+pub type-by-spec : {M : Type 1} → statement M
+type-by-spec =
+    tie.close
+    (tie.spec
+    (λ c κs. search needs)
+    (λ c. search needs)
+    returns
+    (λ c κs. search needs)
+    (λ c. search needs)
+    returns-2)

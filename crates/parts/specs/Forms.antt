@@ -1,0 +1,128 @@
+-- The parts of units as the code hands them on.
+use mathlib.Core.Path.{_≡_}
+use mathlib.Core.Bool.{Bool, true, false, cond, _&&_, _||_}
+use mathlib.Core.Option.{Option, none, some}
+use mathlib.Core.List.{List, [], _∷_}
+use Prim.Native.Nat.{ℕ}
+use lib.ListN.{length, getD}
+use lib.Dec.{eqb}
+use Rattle.rules.specs.Bytes.{ascii, isOneOf, isDigit}
+use Rattle.rules.specs.Symbols as rules
+use Rattle.rules.specs.Numbers.{digits, valueOf, decimalsOf}
+use Rattle.rules.specs.Grammar as G
+use Rattle.rules.specs.Grammar.{WrittenType, text, range, numeric, enum, named, typeOf, typeOrReference}
+use Rattle.rules.specs.Symbols.{isMark}
+use Rattle.rules.specs.Readers.{Reader, _>>=_, ret, ifNext}
+use Rattle.rules.specs.Judge.{hasTwice}
+use Rattle.ground.specs.Parts.{splice}
+use Rattle.numbers.specs.declared.Number.{Number}
+use Rattle.readers.specs.Reads.{nameCut}
+use Rattle.elements.specs.Noted.{listBytes}
+use Rattle.parts.specs.declared.Properties.{Properties}
+use Rattle.parts.specs.declared.Reference.{Reference}
+use Rattle.parts.specs.declared.Reference.the-variants.{Bare, InModel, InTopic}
+use Rattle.parts.specs.declared.Extends.{Extends}
+use Rattle.parts.specs.declared.Extends.the-variants.{Nothing, Base}
+use Rattle.parts.specs.declared.types.Whole.{Whole}
+use Rattle.parts.specs.declared.types.Whole.the-variants.{Count, Other}
+use Rattle.parts.specs.declared.types.Meant.{Meant}
+use Rattle.parts.specs.declared.types.Meant.the-variants.{Alone, Text, Limited, Range, Numeric, Enumeration, Named}
+use Rattle.parts.specs.declared.types.Written.{Written}
+
+-- ---- properties
+-- FINAL, and EXTENDED of an attribute or ABSTRACT of another unit
+abbrev pub wordsOf : Bool → List (List ℕ)
+wordsOf attribute = cond attribute (ascii "EXTENDED") (ascii "ABSTRACT") ∷ ascii "FINAL" ∷ []
+
+abbrev pub otherOf : Bool → ℕ
+otherOf attribute = cond attribute 76 71
+
+abbrev pub flagsOf : List (List ℕ) → Properties
+flagsOf p = record { «is_abstract» = isOneOf (ascii "ABSTRACT") p; «is_final» = isOneOf (ascii "FINAL") p; extended = isOneOf (ascii "EXTENDED") p; twice = hasTwice p }
+
+-- the properties p and one more, by its code
+abbrev pub withWord : Properties → ℕ → Properties
+withWord p k =
+    cond (eqb k 72) (record { «is_abstract» = p .«is_abstract»; «is_final» = true; extended = p .extended; twice = p .twice || p .«is_final» })
+    (cond (eqb k 71) (record { «is_abstract» = true; «is_final» = p .«is_final»; extended = p .extended; twice = p .twice || p .«is_abstract» })
+    (record { «is_abstract» = p .«is_abstract»; «is_final» = p .«is_final»; extended = true; twice = p .twice || p .extended }))
+
+-- ---- references
+abbrev pub referenceOf : G.Reference → Reference
+referenceOf (G.bare a) = Bare (nameCut a)
+referenceOf (G.inModel a b) = InModel (nameCut a) (nameCut b)
+referenceOf (G.inTopic a b c) = InTopic (nameCut a) (nameCut b) (nameCut c)
+
+abbrev pub extendsOf : Option G.Reference → Extends
+extendsOf none = Nothing
+extendsOf (some r) = Base (referenceOf r)
+
+abbrev pub givenOf : Extends → Bool
+givenOf Nothing = false
+givenOf (Base r) = true
+
+-- ---- types
+abbrev pub numberOf : List ℕ → Number
+numberOf b = record { value = valueOf b; decimals = decimalsOf b }
+
+-- an unsigned whole number
+abbrev pub wholeOf : List ℕ → Whole
+wholeOf b = cond (isDigit (getD b 0 0) && eqb (decimalsOf b) 0) (Count (digits b 0)) Other
+
+abbrev pub kindOf : Bool → ℕ
+kindOf m = cond m 9 8
+
+abbrev pub textCode : Bool → ℕ
+textCode m = cond m 80 79
+
+abbrev pub limitOf : Bool → Option rules.Symbol → Meant
+limitOf m none = Text (kindOf m)
+limitOf m (some y) = Limited (kindOf m) (digits (y .bytes) 0) (y .place)
+
+abbrev pub meantOf : WrittenType → Meant
+meantOf (text m n) = limitOf m n
+meantOf (range a b) = Range (numberOf (a .bytes)) (numberOf (b .bytes))
+meantOf numeric = Numeric
+meantOf (enum e) = Enumeration (length (listBytes e))
+meantOf (named r) = Named (referenceOf r)
+
+abbrev pub anyOf : Option WrittenType → Meant
+anyOf none = Alone
+anyOf (some x) = meantOf x
+
+abbrev pub writtenOf : G.Written → Written
+writtenOf w = record { mandatory = w .mandatory; place = w .place; meant = anyOf (w .type) }
+
+-- the scratch o has become p: the records of an enumeration stand at its start
+abbrev pub Scratch : List ℕ → List ℕ → WrittenType → Type 0
+Scratch o p (text m n) = Unit {0}
+Scratch o p (range a b) = Unit {0}
+Scratch o p numeric = Unit {0}
+Scratch o p (enum e) = p ≡ splice o 0 (listBytes e)
+Scratch o p (named r) = Unit {0}
+
+abbrev pub Scratches : List ℕ → List ℕ → Option WrittenType → Type 0
+Scratches o p none = Unit {0}
+Scratches o p (some x) = Scratch o p x
+
+-- m is what x means, and x is no enumeration
+abbrev pub Plainly : Meant → WrittenType → Type 0
+Plainly m x = (m ≡ meantOf x) × ((o p : List ℕ) → Scratch o p x)
+
+-- m is what the type x means
+abbrev pub Means : List ℕ → List ℕ → Meant → WrittenType → Type 0
+Means o p m x = (m ≡ meantOf x) × Scratch o p x
+
+abbrev pub MeansAny : List ℕ → List ℕ → Meant → Option WrittenType → Type 0
+MeansAny o p m x = (m ≡ anyOf x) × Scratches o p x
+
+abbrev pub MeansAll : List ℕ → List ℕ → Written → G.Written → Type 0
+MeansAll o p v w = (v ≡ writtenOf w) × Scratches o p (w .type)
+
+-- a reference may stand where `or` says so
+abbrev pub typeBy : Bool → Reader WrittenType
+typeBy or = cond or typeOrReference typeOf
+
+-- behind MANDATORY
+abbrev pub mandatoryBy : Bool → Reader WrittenType → Reader (Option WrittenType)
+mandatoryBy based q = ifNext (λ y. based && isMark ";" y) (ret none) (q >>= λ x. ret (some x))

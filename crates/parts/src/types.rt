@@ -1,0 +1,282 @@
+// Types, and what stands behind the `=` of a domain or the `:` of an attribute.
+use crate::Reference;
+use numbers::Number;
+use readers::expect;
+use readers::faulty;
+use symbols::Symbol;
+ghost use mathlib.Core.Path.{_≡_};
+ghost use mathlib.Core.Bool.{Bool, true, cond};
+ghost use mathlib.Core.Option.{some};
+ghost use Prim.Native.Nat.{_+_, _*_, _≤_, _<_};
+ghost use lib.ListN.{length};
+ghost use Rattle.rules.specs.Symbols.{digitCount};
+ghost use Rattle.rules.specs.Symbols.{Symbol as rules·Symbol};
+ghost use Rattle.rules.specs.Grammar.{textLength, textType, rangeType, typeOf, typeOrReference, written};
+ghost use Rattle.rules.specs.Bytes.{isDigit};
+ghost use Rattle.ground.specs.Parts.{part};
+ghost use Rattle.readers.specs.Reads.{Cuts, Held, Reads};
+ghost use Rattle.parts.specs.Forms.{numberOf, wholeOf, limitOf, kindOf, textCode, Plainly, Means, MeansAny, MeansAll, typeBy, mandatoryBy};
+
+// What is written: MANDATORY alone; TEXT or MTEXT, by the kind of its record, and with a length that stands at a place; a range; NUMERIC;
+// an enumeration, whose records stand in the scratch up to a place; a reference.
+pub enum Meant {
+    Alone,
+    Text { kind: u8 },
+    Limited { kind: u8, length: u64, place: usize },
+    Range { first: Number, second: Number },
+    Numeric,
+    Enumeration { bytes: usize },
+    Named(Reference),
+}
+
+pub struct MeantRead {
+    pub meant: Meant,
+    pub next: Symbol,
+}
+
+// MANDATORY, the place of the type's first symbol, and the type.
+pub struct Written {
+    pub mandatory: bool,
+    pub place: usize,
+    pub meant: Meant,
+}
+
+pub struct WrittenRead {
+    pub written: Written,
+    pub next: Symbol,
+}
+
+// An unsigned whole number, or another.
+pub enum Whole {
+    Count(u64),
+    Other,
+}
+
+fn is_digit(b: u8) -> bool
+    ensures { λ r. ⌜ r ≡ isDigit b ⌝ }
+{
+    if b'0' <= b {
+        return b <= b'9';
+    }
+    false
+}
+
+fn whole_number(text: &[u8], place: usize, len: usize) -> Whole
+    requires { ⌜ (place + len ≤ length (now text)) × (0 < len) ⌝ }
+    requires { ⌜ digitCount (part (now text) place len) ≤ 18 ⌝ }
+    ensures { λ r. ⌜ r ≡ wholeOf (part (now (text .entry)) place len) ⌝ }
+{
+    if is_digit(text[place]) {
+        let n = numbers::number_at(text, place, len);
+        if n.decimals == 0 {
+            return Whole::Count(numbers::digits_at(text, place, len));
+        }
+    }
+    Whole::Other
+}
+
+// The length behind `*`.
+fn text_length(text: &[u8], kind: u8, y: Symbol) -> MeantRead
+    requires { ⌜ Held (now text) y ⌝ }
+    ensures { λ r. ⌜ ((m : Bool) → kind ≡ kindOf m → Reads (now (text .entry)) textLength (λ s. r .meant ≡ limitOf m (some s)) y (r .next)) ⌝ }
+{
+    let place = y.place;
+    if y.code == readers::NUMBER {
+        let w = whole_number(text, place, y.len);
+        match w {
+            Whole::Count(n) => {
+                if 4294967295 < n {
+                    return MeantRead {
+                        meant: Meant::Alone,
+                        next: faulty(4, place),
+                    };
+                }
+                return MeantRead {
+                    meant: Meant::Limited {
+                        kind: kind,
+                        length: n,
+                        place: place,
+                    },
+                    next: expect(text, y, readers::NUMBER),
+                };
+            }
+            Whole::Other => {
+                return MeantRead {
+                    meant: Meant::Alone,
+                    next: faulty(y.no, place),
+                };
+            }
+        }
+    }
+    MeantRead {
+        meant: Meant::Alone,
+        next: faulty(y.no, place),
+    }
+}
+
+// TEXT or MTEXT, which is y.
+fn text_type(text: &[u8], kind: u8, y: Symbol) -> MeantRead
+    requires { ⌜ Held (now text) y ⌝ }
+    ensures { λ r. ⌜ ((m : Bool) → y .code ≡ textCode m → kind ≡ kindOf m → Reads (now (text .entry)) textType (Plainly (r .meant)) y (r .next)) ⌝ }
+{
+    let z = expect(text, y, y.code);
+    if z.code == readers::STAR {
+        let n = expect(text, z, readers::STAR);
+        return text_length(text, kind, n);
+    }
+    MeantRead {
+        meant: Meant::Text { kind: kind },
+        next: z,
+    }
+}
+
+// What a number symbol writes.
+fn number(text: &[u8], y: Symbol) -> Number
+    requires { ⌜ Held (now text) y ⌝ }
+    ensures { λ r. ⌜ ((z : rules·Symbol) → Cuts (now (text .entry)) z y → y .code ≡ 2 → r ≡ numberOf (z .bytes)) ⌝ }
+{
+    if y.code == readers::NUMBER {
+        return numbers::number_at(text, y.place, y.len);
+    }
+    Number {
+        value: 0,
+        decimals: 0,
+    }
+}
+
+fn range_type(text: &[u8], y: Symbol) -> MeantRead
+    requires { ⌜ Held (now text) y ⌝ }
+    ensures { λ r. ⌜ Reads (now (text .entry)) rangeType (Plainly (r .meant)) y (r .next) ⌝ }
+{
+    let d = expect(text, y, readers::NUMBER);
+    let z = expect(text, d, readers::DOTS);
+    let first = number(text, y);
+    let second = number(text, z);
+    MeantRead {
+        meant: Meant::Range {
+            first: first,
+            second: second,
+        },
+        next: expect(text, z, readers::NUMBER),
+    }
+}
+
+fn plain_type(text: &[u8], y: Symbol) -> MeantRead
+    requires { ⌜ Held (now text) y ⌝ }
+    ensures { λ r. ⌜ ((y .code ≡ 40 → ⊥) → Reads (now (text .entry)) typeOf (Plainly (r .meant)) y (r .next)) ⌝ }
+{
+    if y.code == readers::TEXT {
+        return text_type(text, 8, y);
+    }
+    if y.code == readers::MTEXT {
+        return text_type(text, 9, y);
+    }
+    if y.code == readers::NUMERIC {
+        return MeantRead {
+            meant: Meant::Numeric,
+            next: expect(text, y, readers::NUMERIC),
+        };
+    }
+    range_type(text, y)
+}
+
+fn type_of(text: &[u8], records: &mut [u8], y: Symbol) -> MeantRead
+    requires { ⌜ Held (now text) y ⌝ }
+    requires { ⌜ 3 * length (now text) ≤ length (now records) ⌝ }
+    ensures { λ r. ⌜ Reads (now (text .entry)) typeOf (Means (now (records .entry)) (now (records .exit)) (r .meant)) y (r .next) ⌝ }
+{
+    if y.code == readers::ROUND {
+        let e = elements::outermost(text, records, y);
+        let next = e.next;
+        return MeantRead {
+            meant: Meant::Enumeration { bytes: e.bytes },
+            next: next,
+        };
+    }
+    plain_type(text, y)
+}
+
+fn type_or_reference(text: &[u8], records: &mut [u8], y: Symbol) -> MeantRead
+    requires { ⌜ Held (now text) y ⌝ }
+    requires { ⌜ 3 * length (now text) ≤ length (now records) ⌝ }
+    ensures { λ r. ⌜ Reads (now (text .entry)) typeOrReference (Means (now (records .entry)) (now (records .exit)) (r .meant)) y (r .next) ⌝ }
+{
+    if y.code == readers::NAME {
+        let r = crate::read_reference(text, y);
+        let reference = r.reference;
+        let next = r.next;
+        return MeantRead {
+            meant: Meant::Named(reference),
+            next: next,
+        };
+    }
+    type_of(text, records, y)
+}
+
+fn type_by(text: &[u8], records: &mut [u8], y: Symbol, or: bool) -> MeantRead
+    requires { ⌜ Held (now text) y ⌝ }
+    requires { ⌜ 3 * length (now text) ≤ length (now records) ⌝ }
+    ensures { λ r. ⌜ Reads (now (text .entry)) (typeBy or) (Means (now (records .entry)) (now (records .exit)) (r .meant)) y (r .next) ⌝ }
+{
+    if or {
+        return type_or_reference(text, records, y);
+    }
+    type_of(text, records, y)
+}
+
+// Behind MANDATORY: nothing, where `based` allows that and the unit ends, or a type.
+fn after_mandatory(text: &[u8], records: &mut [u8], y: Symbol, based: bool, or: bool) -> MeantRead
+    requires { ⌜ Held (now text) y ⌝ }
+    requires { ⌜ 3 * length (now text) ≤ length (now records) ⌝ }
+    ensures { λ r. ⌜ Reads (now (text .entry)) (mandatoryBy based (typeBy or)) (MeansAny (now (records .entry)) (now (records .exit)) (r .meant)) y (r .next) ⌝ }
+{
+    if based {
+        if y.code == readers::SEMICOLON {
+            return MeantRead {
+                meant: Meant::Alone,
+                next: y,
+            };
+        }
+        return type_by(text, records, y, or);
+    }
+    type_by(text, records, y, or)
+}
+
+// MANDATORY, perhaps, and a type; a reference too, where `or` allows it.
+pub fn read_written(
+    text: &[u8],
+    records: &mut [u8],
+    y: Symbol,
+    based: bool,
+    or: bool,
+) -> WrittenRead
+    requires { ⌜ Held (now text) y ⌝ }
+    requires { ⌜ 3 * length (now text) ≤ length (now records) ⌝ }
+    ensures { λ r. ⌜ Reads (now (text .entry)) (written based (typeBy or)) (MeansAll (now (records .entry)) (now (records .exit)) (r .written)) y (r .next) ⌝ }
+{
+    if y.code == readers::MANDATORY {
+        let z = expect(text, y, readers::MANDATORY);
+        let m = after_mandatory(text, records, z, based, or);
+        let meant = m.meant;
+        let next = m.next;
+        return WrittenRead {
+            written: Written {
+                mandatory: true,
+                place: z.place,
+                meant: meant,
+            },
+            next: next,
+        };
+    }
+    let m = type_by(text, records, y, or);
+    let meant = m.meant;
+    let next = m.next;
+    WrittenRead {
+        written: Written {
+            mandatory: false,
+            place: y.place,
+            meant: meant,
+        },
+        next: next,
+    }
+}

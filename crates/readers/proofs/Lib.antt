@@ -1,0 +1,3 @@
+pub mod CodeLaws
+pub mod StandLaws
+pub mod ReadLaws

@@ -1,0 +1,12 @@
+use Rattle.units.proofs.StepLaws.{header-steps}
+use native.Mathlib.Omega.{arith}
+use borrow.Author.Needs.{needs}
+use Rattle.units.proofs.header.Statement.{statement}
+use Rattle.units.proofs.header.Tie as tie
+
+returns : tie.Need-returns
+returns c = λ o. header-steps o (c .before .before .before .expect .ensures) (c .before .before .expect2 .ensures) (c .before .name-of .ensures) (c .ended .ensures)
+
+pub header-spec : {M : Type 1} → statement M
+header-spec =
+    tie.close (tie.spec (λ c κs. search needs) (λ c κs. search needs) (λ c κs. search needs) (λ c κs. search needs) returns)

@@ -1,0 +1,32 @@
+use Rattle.units.proofs.StepLaws.{members-open, members-attribute, members-close, mark-steps}
+use Rattle.readers.proofs.CodeLaws.{is-word}
+use Rattle.rules.specs.Units as U
+use Rattle.rules.specs.Bytes.{ascii}
+use mathlib.Core.Path.{sym, refl, _∙_}
+use mathlib.Core.Bool.{true, false}
+use native.Mathlib.Omega.{arith}
+use borrow.Author.Needs.{needs}
+use Rattle.units.proofs.member_unit.Statement.{statement}
+use Rattle.units.proofs.member_unit.Tie as tie
+
+returns : tie.Need-returns
+returns c = members-open _ _ (sym (c .before .before .allowed .ensures) ∙ c .before .if1 .taken) (mark-steps _ (ascii "ATTRIBUTE") 75 (U.members (c .before .before .before .before .before .args .in-topic) false) (is-word (ascii "ATTRIBUTE") 75 refl) (c .ended .ensures))
+
+returns-2 : tie.Need-returns-2
+returns-2 c = members-attribute _ _ (sym (c .before .before .before .before .before .before .before .allowed .ensures) ∙ c .before .before .before .before .before .before .if1 .left) (c .before .before .before .before .if2 .taken) (c .before .before .attribute .ensures)
+
+returns-3 : tie.Need-returns-3
+returns-3 c = members-close _ _ (sym (c .before .before .before .before .allowed .ensures) ∙ c .before .before .before .if1 .left) (c .before .if2 .left) (c .close .ensures _)
+
+pub member-unit-spec : {M : Type 1} → statement M
+member-unit-spec =
+    tie.close
+    (tie.spec
+    (λ c κs. search needs)
+    (λ c κs. search needs)
+    returns
+    (λ c κs. search needs)
+    (λ c. search needs)
+    returns-2
+    (λ c κs. search needs)
+    returns-3)

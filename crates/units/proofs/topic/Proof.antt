@@ -1,0 +1,12 @@
+use Rattle.units.proofs.StepLaws.{topic-steps}
+use native.Mathlib.Omega.{arith}
+use borrow.Author.Needs.{needs}
+use Rattle.units.proofs.topic.Statement.{statement}
+use Rattle.units.proofs.topic.Tie as tie
+
+returns : tie.Need-returns
+returns c = λ o. topic-steps o (c .before .before .before .expect .ensures) (c .before .before .expect2 .ensures) (c .before .name-of .ensures) (c .ended .ensures)
+
+pub topic-spec : {M : Type 1} → statement M
+topic-spec =
+    tie.close (tie.spec (λ c κs. search needs) (λ c κs. search needs) (λ c κs. search needs) (λ c κs. search needs) returns)

@@ -1,0 +1,84 @@
+-- Units as the code hands them on, and what it promises of the units of the rules.
+use mathlib.Core.Path.{_≡_}
+use mathlib.Core.Bool.{Bool, cond}
+use mathlib.Core.Option.{Option, none, some}
+use mathlib.Core.List.{List}
+use Prim.Native.Nat.{ℕ}
+use Prim.Native.Char.{Char}
+use lib.ListN.{length}
+use lib.Dec.{eqb}
+use Rattle.rules.specs.Symbols as rules
+use Rattle.rules.specs.Symbols.{Fault, numberOf, symbolAt, isMark}
+use Rattle.rules.specs.Readers.{Result, done, refused, Reader, _>>_, aName, theMark, optional}
+use Rattle.rules.specs.Units as U
+use Rattle.symbols.specs.declared.Symbol.{Symbol}
+use Rattle.symbols.specs.Cut.{cut}
+use Rattle.readers.specs.declared.Name.{Name}
+use Rattle.readers.specs.Reads.{nameCut, faultAt, Cuts}
+use Rattle.parts.specs.Forms.{flagsOf, extendsOf, writtenOf, Scratches}
+use Rattle.units.specs.declared.Where.{Where}
+use Rattle.units.specs.declared.Where.the-variants.{Start, AfterHeader, Body, Members, Over}
+use Rattle.units.specs.declared.ModelHead.{ModelHead}
+use Rattle.units.specs.declared.Unit as code
+use Rattle.units.specs.declared.Unit.the-variants.{Header, Model, Topic, Class, Domain, Attribute, Close, Mark}
+use Rattle.units.specs.declared.Step.{Step}
+use Rattle.units.specs.declared.Step.the-variants.{Read, Unread}
+
+abbrev pub whereOf : U.Where → Where
+whereOf U.start = Start
+whereOf U.afterHeader = AfterHeader
+whereOf U.over = Over
+whereOf (U.body t r) = Body t r
+whereOf (U.members t f) = Members t f
+
+abbrev pub placeOf : Where → U.Where
+placeOf Start = U.start
+placeOf AfterHeader = U.afterHeader
+placeOf (Body t r) = U.body t r
+placeOf (Members t f) = U.members t f
+placeOf Over = U.over
+
+-- the mark after END and a name: the model ends with `.`
+abbrev pub endMark : Bool → Char
+endMark last = cond last "." ";"
+
+-- a name in parentheses, perhaps
+abbrev pub language : Reader (Option rules.Symbol)
+language = optional (isMark "(") (theMark "(" >> (aName >> theMark ")"))
+
+abbrev pub anything : Option rules.Symbol → Type 0
+anything o = Unit {0}
+
+-- where a symbol stands
+abbrev pub partOf : rules.Symbol → Name
+partOf s = record { offset = s .place; len = length (s .bytes) }
+
+-- u is the unit, and the scratch o has become p. The rules of a model's strings are those of their symbols alone
+abbrev pub Is : List ℕ → List ℕ → U.Unit → code.Unit → Type 0
+Is o p (U.header s) u = u ≡ Header (partOf s)
+Is o p (U.model n) u = (h : ModelHead) × (u ≡ Model h) × (h .name ≡ nameCut n)
+Is o p (U.topic n) u = u ≡ Topic (nameCut n)
+Is o p (U.close n) u = u ≡ Close (nameCut n)
+Is o p (U.class s n ps b) u = u ≡ Class (record { structure = s; name = nameCut n; properties = flagsOf ps; base = extendsOf b })
+Is o p (U.domain n ps b w) u =
+    (u ≡ Domain (record { name = nameCut n; properties = flagsOf ps; base = extendsOf b; written = writtenOf w })) × Scratches o p (w .type)
+Is o p (U.attribute n ps w) u = (u ≡ Attribute (record { name = nameCut n; properties = flagsOf ps; written = writtenOf w })) × Scratches o p (w .type)
+
+-- DOMAIN and ATTRIBUTE are marks
+abbrev pub IsAny : List ℕ → List ℕ → Option U.Unit → code.Unit → Type 0
+IsAny o p none u = u ≡ Mark
+IsAny o p (some x) u = Is o p x u
+
+-- a unit, where the next one stands, and the first symbol behind it; or the number and the place of the refusal
+abbrev pub StepIs : List ℕ → List ℕ → List ℕ → Result U.Step → Step → Type 0
+StepIs t o p (done q z) r = (u : code.Unit) × (r ≡ Read u (whereOf (q .next)) (cut (symbolAt t (q .behind)))) × IsAny o p (q .unit) u
+StepIs t o p (refused f k) r = r ≡ Unread (numberOf f) k
+
+-- from the symbol y on, the code steps as R does; a faulty y is the refusal
+pub record Steps (t o p : List ℕ) (R : Reader U.Step) (y : Symbol) (r : Step) : Type 0 where
+  pub steps : (z : rules.Symbol) → Cuts t z y → StepIs t o p (R t z) r
+  pub faults : (f : Fault) (k : ℕ) → Cuts t (faultAt f k) y → r ≡ Unread (numberOf f) k
+
+-- what the last symbol of a unit, y, makes of it
+abbrev pub endedOf : List ℕ → Symbol → ℕ → code.Unit → Where → Step
+endedOf t y k u w = cond (eqb (y .code) k) (Read u w (cut (symbolAt t (y .next .at)))) (Unread (y .no) (y .place))

@@ -1,0 +1,349 @@
+// The readers of units: a unit is read from its first symbol on, and the symbol behind it is handed on. A fault goes on as a faulty symbol, which
+// no reader takes; the unit's end finds it.
+use parts::Extends;
+use parts::Properties;
+use parts::types::Written;
+use readers::Name;
+use readers::expect;
+use readers::name_of;
+use symbols::Symbol;
+ghost use mathlib.Core.Path.{_≡_};
+ghost use mathlib.Core.Bool.{true, cond, not, _&&_, _||_};
+ghost use mathlib.Core.List.{List};
+ghost use Prim.Native.Nat.{ℕ, _*_, _≤_};
+ghost use lib.ListN.{length};
+ghost use lib.Dec.{eqb};
+ghost use Rattle.rules.specs.Units.{headerUnit, modelUnit, topicUnit, classUnit, domainUnit, attributeUnit, endUnit, bodyEnd, bodyUnit, memberUnit, unitAt};
+ghost use Rattle.readers.specs.Reads.{Held, Reads};
+ghost use Rattle.units.specs.Steps.{placeOf, endMark, language, anything, Steps, endedOf};
+
+// Where the next unit stands: before the header; behind it; in the model or a topic, perhaps in a run of domains; in a class, perhaps right
+// after its head; behind the model's END.
+pub enum Where {
+    Start,
+    AfterHeader,
+    Body { topic: bool, run: bool },
+    Members { topic: bool, first: bool },
+    Over,
+}
+
+// The model's name, and where the strings behind AT and VERSION stand.
+pub struct ModelHead {
+    pub name: Name,
+    pub at: Name,
+    pub version: Name,
+}
+
+pub struct ClassHead {
+    pub structure: bool,
+    pub name: Name,
+    pub properties: Properties,
+    pub base: Extends,
+}
+
+pub struct DomainUnit {
+    pub name: Name,
+    pub properties: Properties,
+    pub base: Extends,
+    pub written: Written,
+}
+
+pub struct AttributeUnit {
+    pub name: Name,
+    pub properties: Properties,
+    pub written: Written,
+}
+
+// The header's number; names of a topic and after END; DOMAIN, ATTRIBUTE and the end of the text are marks.
+pub enum Unit {
+    Header(Name),
+    Model(ModelHead),
+    Topic(Name),
+    Class(ClassHead),
+    Domain(DomainUnit),
+    Attribute(AttributeUnit),
+    Close(Name),
+    Mark,
+}
+
+pub enum Step {
+    Read { unit: Unit, at: Where, next: Symbol },
+    Unread { number: u8, place: usize },
+}
+
+// The unit's last symbol, which is to have the code.
+fn ended(text: &[u8], y: Symbol, code: u8, unit: Unit, at: Where) -> Step
+    ensures { λ r. ⌜ r ≡ endedOf (now (text .entry)) y code unit at ⌝ }
+{
+    if y.code == code {
+        let c = y.next;
+        let next = c.next(text);
+        return Step::Read {
+            unit: unit,
+            at: at,
+            next: next,
+        };
+    }
+    Step::Unread {
+        number: y.no,
+        place: y.place,
+    }
+}
+
+fn header(text: &[u8], y: Symbol) -> Step
+    ensures { λ r. ⌜ ((o : List ℕ) → Steps (now (text .entry)) o o headerUnit y r) ⌝ }
+{
+    let v = expect(text, y, readers::INTERLIS);
+    let e = expect(text, v, readers::NUMBER);
+    let unit = Unit::Header(name_of(v));
+    ended(text, e, readers::SEMICOLON, unit, Where::AfterHeader)
+}
+
+// A name in parentheses, if there is one.
+fn language_part(text: &[u8], y: Symbol) -> Symbol
+    ensures { λ r. ⌜ Reads (now (text .entry)) language anything y r ⌝ }
+{
+    if y.code == readers::ROUND {
+        let n = expect(text, y, readers::ROUND);
+        let c = expect(text, n, readers::NAME);
+        return expect(text, c, readers::CLOSE);
+    }
+    y
+}
+
+fn model(text: &[u8], y: Symbol) -> Step
+    ensures { λ r. ⌜ ((o : List ℕ) → Steps (now (text .entry)) o o modelUnit y r) ⌝ }
+{
+    let n = expect(text, y, readers::MODEL);
+    let l = expect(text, n, readers::NAME);
+    let a = language_part(text, l);
+    let s = expect(text, a, readers::AT);
+    let v = expect(text, s, readers::QUOTED);
+    let w = expect(text, v, readers::VERSION);
+    let e = expect(text, w, readers::QUOTED);
+    let head = ModelHead {
+        name: name_of(n),
+        at: name_of(s),
+        version: name_of(w),
+    };
+    let at = Where::Body {
+        topic: false,
+        run: false,
+    };
+    ended(text, e, readers::EQUALS, Unit::Model(head), at)
+}
+
+fn topic(text: &[u8], y: Symbol) -> Step
+    ensures { λ r. ⌜ ((o : List ℕ) → Steps (now (text .entry)) o o topicUnit y r) ⌝ }
+{
+    let n = expect(text, y, readers::TOPIC);
+    let e = expect(text, n, readers::NAME);
+    let at = Where::Body {
+        topic: true,
+        run: false,
+    };
+    let unit = Unit::Topic(name_of(n));
+    ended(text, e, readers::EQUALS, unit, at)
+}
+
+fn is_class(code: u8) -> bool
+    ensures { λ r. ⌜ r ≡ (eqb code 69 || eqb code 70) ⌝ }
+{
+    if code == readers::CLASS {
+        return true;
+    }
+    code == readers::STRUCTURE
+}
+
+// CLASS or STRUCTURE, which is y.
+fn class(text: &[u8], y: Symbol, in_topic: bool) -> Step
+    requires { ⌜ Held (now text) y ⌝ }
+    ensures { λ r. ⌜ ((o : List ℕ) → (eqb (y .code) 69 || eqb (y .code) 70) ≡ true → Steps (now (text .entry)) o o (classUnit «in_topic») y r) ⌝ }
+{
+    let n = expect(text, y, y.code);
+    let l = expect(text, n, readers::NAME);
+    let p = parts::read_properties(text, l, false);
+    let o = p.next;
+    let b = parts::read_extends(text, o);
+    let properties = p.properties;
+    let base = b.base;
+    let head = ClassHead {
+        structure: y.code == readers::STRUCTURE,
+        name: name_of(n),
+        properties: properties,
+        base: base,
+    };
+    let at = Where::Members {
+        topic: in_topic,
+        first: true,
+    };
+    let m = b.next;
+    ended(text, m, readers::EQUALS, Unit::Class(head), at)
+}
+
+fn domain(text: &[u8], records: &mut [u8], y: Symbol, in_topic: bool) -> Step
+    requires { ⌜ Held (now text) y ⌝ }
+    requires { ⌜ 3 * length (now text) ≤ length (now records) ⌝ }
+    ensures { λ r. ⌜ Steps (now (text .entry)) (now (records .entry)) (now (records .exit)) (domainUnit «in_topic») y r ⌝ }
+{
+    let l = expect(text, y, readers::NAME);
+    let p = parts::read_properties(text, l, false);
+    let o = p.next;
+    let b = parts::read_extends(text, o);
+    let m = b.next;
+    let q = expect(text, m, readers::EQUALS);
+    let properties = p.properties;
+    let base = b.base;
+    let w = parts::types::read_written(text, records, q, parts::is_given(base), false);
+    let written = w.written;
+    let unit = DomainUnit {
+        name: name_of(y),
+        properties: properties,
+        base: base,
+        written: written,
+    };
+    let at = Where::Body {
+        topic: in_topic,
+        run: true,
+    };
+    let e = w.next;
+    ended(text, e, readers::SEMICOLON, Unit::Domain(unit), at)
+}
+
+fn attribute(text: &[u8], records: &mut [u8], y: Symbol, in_topic: bool) -> Step
+    requires { ⌜ Held (now text) y ⌝ }
+    requires { ⌜ 3 * length (now text) ≤ length (now records) ⌝ }
+    ensures { λ r. ⌜ Steps (now (text .entry)) (now (records .entry)) (now (records .exit)) (attributeUnit «in_topic») y r ⌝ }
+{
+    let l = expect(text, y, readers::NAME);
+    let p = parts::read_properties(text, l, true);
+    let m = p.next;
+    let q = expect(text, m, readers::COLON);
+    let properties = p.properties;
+    let w = parts::types::read_written(text, records, q, properties.extended, true);
+    let written = w.written;
+    let unit = AttributeUnit {
+        name: name_of(y),
+        properties: properties,
+        written: written,
+    };
+    let at = Where::Members {
+        topic: in_topic,
+        first: false,
+    };
+    let e = w.next;
+    ended(text, e, readers::SEMICOLON, Unit::Attribute(unit), at)
+}
+
+fn end_mark(last: bool) -> u8
+    ensures { λ r. ⌜ r ≡ cond last 46 59 ⌝ }
+{
+    if last {
+        readers::DOT
+    } else {
+        readers::SEMICOLON
+    }
+}
+
+fn close(text: &[u8], y: Symbol, last: bool, at: Where) -> Step
+    ensures { λ r. ⌜ ((o : List ℕ) → Steps (now (text .entry)) o o (endUnit (endMark last) (placeOf at)) y r) ⌝ }
+{
+    let n = expect(text, y, readers::END);
+    let e = expect(text, n, readers::NAME);
+    let unit = Unit::Close(name_of(n));
+    ended(text, e, end_mark(last), unit, at)
+}
+
+// A topic ends with `;`, the model with `.`.
+fn body_end(text: &[u8], y: Symbol, in_topic: bool) -> Step
+    ensures { λ r. ⌜ ((o : List ℕ) → Steps (now (text .entry)) o o (bodyEnd «in_topic») y r) ⌝ }
+{
+    if in_topic {
+        let at = Where::Body {
+            topic: false,
+            run: false,
+        };
+        return close(text, y, false, at);
+    }
+    close(text, y, true, Where::Over)
+}
+
+fn opens_topic(code: u8, in_topic: bool) -> bool
+    ensures { λ r. ⌜ r ≡ (not «in_topic» && eqb code 68) ⌝ }
+{
+    if in_topic {
+        return false;
+    }
+    code == readers::TOPIC
+}
+
+// Whether a symbol that only may stand where `may` says so has the code.
+fn allowed(may: bool, code: u8, wanted: u8) -> bool
+    ensures { λ r. ⌜ r ≡ (may && eqb code wanted) ⌝ }
+{
+    if may {
+        return code == wanted;
+    }
+    false
+}
+
+fn body_unit(text: &[u8], records: &mut [u8], y: Symbol, in_topic: bool, run: bool) -> Step
+    requires { ⌜ Held (now text) y ⌝ }
+    requires { ⌜ 3 * length (now text) ≤ length (now records) ⌝ }
+    ensures { λ r. ⌜ Steps (now (text .entry)) (now (records .entry)) (now (records .exit)) (bodyUnit «in_topic» run) y r ⌝ }
+{
+    if opens_topic(y.code, in_topic) {
+        return topic(text, y);
+    }
+    if is_class(y.code) {
+        return class(text, y, in_topic);
+    }
+    if y.code == readers::DOMAIN {
+        let at = Where::Body {
+            topic: in_topic,
+            run: true,
+        };
+        return ended(text, y, readers::DOMAIN, Unit::Mark, at);
+    }
+    if allowed(run, y.code, readers::NAME) {
+        return domain(text, records, y, in_topic);
+    }
+    body_end(text, y, in_topic)
+}
+
+fn member_unit(text: &[u8], records: &mut [u8], y: Symbol, in_topic: bool, first: bool) -> Step
+    requires { ⌜ Held (now text) y ⌝ }
+    requires { ⌜ 3 * length (now text) ≤ length (now records) ⌝ }
+    ensures { λ r. ⌜ Steps (now (text .entry)) (now (records .entry)) (now (records .exit)) (memberUnit «in_topic» first) y r ⌝ }
+{
+    if allowed(first, y.code, readers::ATTRIBUTE) {
+        let at = Where::Members {
+            topic: in_topic,
+            first: false,
+        };
+        return ended(text, y, readers::ATTRIBUTE, Unit::Mark, at);
+    }
+    if y.code == readers::NAME {
+        return attribute(text, records, y, in_topic);
+    }
+    let at = Where::Body {
+        topic: in_topic,
+        run: false,
+    };
+    close(text, y, false, at)
+}
+
+// The unit that stands at y. The scratch has three bytes for a byte of text.
+pub fn read_unit(text: &[u8], records: &mut [u8], at: Where, y: Symbol) -> Step
+    requires { ⌜ Held (now text) y ⌝ }
+    requires { ⌜ 3 * length (now text) ≤ length (now records) ⌝ }
+    ensures { λ r. ⌜ Steps (now (text .entry)) (now (records .entry)) (now (records .exit)) (unitAt (placeOf at)) y r ⌝ }
+{
+    match at {
+        Where::Start => header(text, y),
+        Where::AfterHeader => model(text, y),
+        Where::Body { topic: t, run: r } => body_unit(text, records, y, t, r),
+        Where::Members { topic: t, first: f } => member_unit(text, records, y, t, f),
+        Where::Over => ended(text, y, readers::STOP, Unit::Mark, Where::Over),
+    }
+}
