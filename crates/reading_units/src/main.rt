@@ -105,7 +105,9 @@ fn run(text: &[u8]) {
 
 fn main() {
     run(b"INTERLIS 2.4;MODEL M AT \"u\" VERSION \"1\"=DOMAIN T=-10..40;END M.");
-    run(b"INTERLIS 2.4; MODEL M (de) AT \"u\" VERSION \"1\" = TOPIC T = DOMAIN a (ABSTRACT) = NUMERIC; b EXTENDS M.T.a = (r, s (x: FINAL), t (FINAL)); STRUCTURE S = END S; CLASS C (FINAL) EXTENDS S = ATTRIBUTE p: MANDATORY TEXT*10; q (EXTENDED, FINAL): MANDATORY; u: M.n; END C; END T; END M. !! ok");
+    run(
+        b"INTERLIS 2.4; MODEL M (de) AT \"u\" VERSION \"1\" = TOPIC T = DOMAIN a (ABSTRACT) = NUMERIC; b EXTENDS M.T.a = (r, s (x: FINAL), t (FINAL)); STRUCTURE S = END S; CLASS C (FINAL) EXTENDS S = ATTRIBUTE p: MANDATORY TEXT*10; q (EXTENDED, FINAL): MANDATORY; u: M.n; END C; END T; END M. !! ok",
+    );
     run(b"");
     run(b"INTERLIS 2.4;MODEL M AT \"u\" VERSION \"1\"=DOMAIN T=(a(b(c(d(e(f(g(h(i)))))))));END M.");
     run(b"INTERLIS 2.4;MODEL M AT \"u\" VERSION \"1\"=DOMAIN T=MANDATORY;END M.");
