@@ -8,21 +8,22 @@ use native.Mathlib.Omega.{arith}
 use lib.ListN.{length, drop, getD}
 use lib.Seq.{getD-take, getD-drop}
 use native.Mathlib.Nat.{add-zero}
-use lib.Dec.{eqb, ltb}
+use lib.Dec.{eqb}
 use borrow.Author.Tests.{eqb-true, ne-eqb, eq-eqb, lt-ltb, le-ltb}
 use Rattle.rules.specs.Bytes.{ascii, same, isDigit}
 use Rattle.rules.specs.Symbols as rules
 use Rattle.rules.specs.Symbols.{too-large, symbolAt, endOf, digitCount, Kind, word, name, number, quoted, dots, stop, mark, fault, tag, isKind, isMark, isWord, isOneWord}
-use Rattle.rules.specs.Readers.{Reader, ret, _>>=_, expect, ifNext}
+use Rattle.rules.specs.Readers.{Reader, ret, _>>=_, expect}
 use Rattle.rules.specs.Numbers.{digits, valueOf, decimalsOf}
 use Rattle.rules.specs.Grammar as G
 use Rattle.rules.specs.Grammar.{enough, enumeration, WrittenType, text, range, numeric, enum, named, isLength, textLength, textType, rangeType, reference, typeOf, typeOrReference, here, written}
-use Rattle.rules.proofs.Tests.{never, both, split, fail-r}
+use Rattle.rules.proofs.Tests.{never, both, fail-r}
 use Rattle.ground.specs.Parts.{part}
 use Rattle.numbers.specs.declared.Number.{Number}
 use Rattle.symbols.specs.declared.Symbol.{Symbol}
-use Rattle.symbols.specs.Cut.{made, codeOf, cut}
-use Rattle.readers.specs.Reads.{faultAt, Coded, Cuts, Held, passed, Reads}
+use Rattle.symbols.specs.Cut.{made, cut}
+use Rattle.readers.specs.Reads.{Cuts, Held, passed, Reads}
+use Rattle.symbols.proofs.CutLaws.{Sound}
 use Rattle.readers.proofs.CodeLaws.{Test, is-name, is-number, is-dots, is-mark, is-word, is-one-word}
 use Rattle.readers.proofs.StandLaws.{at-stands, fault-stands}
 use Rattle.readers.proofs.ReadLaws.{onward, bind, stay, mapped, weaker, if-true, if-false, expected, taken, passes-by, refuses, is-yes, is-no}
@@ -32,11 +33,11 @@ use Rattle.parts.specs.declared.types.Whole as W
 use Rattle.parts.specs.declared.types.Whole.the-variants.{Count, Other}
 use Rattle.parts.specs.declared.types.Meant.{Meant}
 use Rattle.parts.specs.declared.types.Meant.the-variants.{Alone, Text, Limited, Range, Numeric, Enumeration, Named}
-use Rattle.parts.specs.Forms.{referenceOf, numberOf, wholeOf, kindOf, textCode, limitOf, meantOf, anyOf, writtenOf, Scratch, Plainly, Means, MeansAny, MeansAll, typeBy, mandatoryBy}
+use Rattle.parts.specs.Forms.{referenceOf, numberOf, wholeOf, kindOf, textCode, limitOf, Plainly, Means, MeansAny, MeansAll, typeBy, mandatoryBy}
 use Rattle.parts.proofs.PropertyLaws.{word-bytes}
 
 -- ---- number symbols
-few-digits : (k : Kind) (b : List ℕ) → eqb (tag k) 2 ≡ true → Coded k b → digitCount b ≤ 18
+few-digits : (k : Kind) (b : List ℕ) → eqb (tag k) 2 ≡ true → Sound k b → digitCount b ≤ 18
 few-digits number b e c = c
 few-digits word b e c = never e
 few-digits name b e c = never e

@@ -1,20 +1,19 @@
 -- What a reader of the code promises of a reader of the rules. A fault goes on as a faulty symbol, which no reader takes.
 use mathlib.Core.Path.{_≡_}
-use mathlib.Core.Bool.{Bool, true, cond}
+use mathlib.Core.Bool.{cond}
 use mathlib.Core.List.{List, []}
 use Prim.Native.Nat.{ℕ, _≤_, _<_}
 use lib.ListN.{length}
 use lib.Dec.{eqb}
-use Rattle.rules.specs.Bytes.{isOneOf}
-use Rattle.rules.specs.Reserved.{forms}
 use Rattle.rules.specs.Names as rules-names
 use Rattle.rules.specs.Symbols as rules
-use Rattle.rules.specs.Symbols.{Fault, Kind, word, name, number, quoted, dots, stop, mark, fault, symbol, endOf, digitCount, symbolAt}
+use Rattle.rules.specs.Symbols.{Fault, fault, symbol, endOf, symbolAt}
 use Rattle.rules.specs.Readers.{Result, done, refused, Reader}
 use Rattle.rules.proofs.SymbolLaws.{Real}
 use Rattle.ground.specs.Parts.{part}
 use Rattle.symbols.specs.declared.Symbol.{Symbol}
 use Rattle.symbols.specs.Cut.{made, cut}
+use Rattle.symbols.proofs.CutLaws.{Sound}
 use Rattle.readers.specs.declared.Name.{Name}
 
 -- ---- symbols
@@ -22,20 +21,9 @@ use Rattle.readers.specs.declared.Name.{Name}
 abbrev pub faultAt : Fault → ℕ → rules.Symbol
 faultAt f p = symbol (fault f) p []
 
--- a word is one of the forms, a mark one of 40 to 61, a number has at most 18 digits
-abbrev pub Coded : Kind → List ℕ → Type 0
-Coded word b = isOneOf b forms ≡ true
-Coded name b = Unit {0}
-Coded number b = digitCount b ≤ 18
-Coded quoted b = Unit {0}
-Coded dots b = Unit {0}
-Coded stop b = Unit {0}
-Coded (mark m) b = (39 < m) × (m < 62)
-Coded (fault f) b = Unit {0}
-
 -- z stands in the text t
 pub record Stands (t : List ℕ) (z : rules.Symbol) : Type 0 where
-  pub coded : Coded (z .kind) (z .bytes)
+  pub coded : Sound (z .kind) (z .bytes)
   pub ends : endOf z ≤ length t
   pub solid : Real (z .kind) → 0 < length (z .bytes)
   pub written : z .bytes ≡ part t (z .place) (length (z .bytes))

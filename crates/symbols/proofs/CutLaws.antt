@@ -1,22 +1,21 @@
--- For the floors above: what holds of every symbol of a text, and the tests of the rules as tests of a symbol's code.
+-- For the floors above: what holds of every symbol of a text, and the tests of the rules as tests of a symbol's code (a mark is its byte).
 -- The place and the end of `symbolAt t i` lie in the text by `next-lies` of the rules; they are those of its cut as they stand.
 use mathlib.Core.Path.{_≡_, refl, sym, ap, _∙_}
 use mathlib.Core.Logic.{_⊎_, inl, inr}
 use mathlib.Core.Bool.{true, _&&_, _||_}
 use mathlib.Core.List.{List, [], _∷_}
 use Prim.Native.Nat.{ℕ, zero, suc, _+_, _≤_, _<_}
-use Prim.Native.Char.{Char, code}
 use native.Mathlib.Omega.{arith}
 use lib.ListN.{length, take, drop, getD}
 use lib.Dec.{eqb, leb, ltb}
-use borrow.Author.Tests.{ltb-true, ltb-false, leb-true, eqb-true, eq-eqb, ne-eqb}
+use borrow.Author.Tests.{ltb-false, leb-true, eqb-true, eq-eqb, ne-eqb}
 use Rattle.rules.specs.Bytes.{same, isOneOf, is, from, isLetter, isDigit, isWordByte, span}
 use Rattle.rules.specs.Reserved.{forms, table}
-use Rattle.rules.specs.Symbols.{Fault, Kind, word, name, number, quoted, dots, stop, mark, fault, Symbol, symbol, tag, Gap, upTo, open-at, apart, gap, Quote, closed, bad, endless, quote, unsignedLength, digitCount, wordKind, numberKind, aWord, aNumber, aString, isMarkByte, symbolOf, beyond, symbolAt, isKind, isMark, isWord, isOneWord}
+use Rattle.rules.specs.Symbols.{Fault, Kind, word, name, number, quoted, dots, stop, mark, fault, Symbol, symbol, tag, Gap, upTo, open-at, apart, gap, Quote, closed, bad, endless, quote, unsignedLength, digitCount, wordKind, numberKind, aWord, aNumber, aString, isMarkByte, symbolOf, beyond, symbolAt}
 use Rattle.rules.proofs.Tests.{never, alike, or-split, split}
 use Rattle.rules.proofs.ByteLaws.{same-eq, same-refl}
 use Rattle.rules.proofs.SymbolLaws.{either}
-use Rattle.symbols.specs.Cut.{position, codeOf, cut}
+use Rattle.symbols.specs.Cut.{position, codeOf}
 use Rattle.symbols.proofs.RangeLaws.{test}
 
 -- ---- what holds of a symbol's kind and bytes
@@ -106,11 +105,11 @@ pub cut-at : (t : List ℕ) (i : ℕ) → Cut t (symbolAt t i)
 unfolding symbolAt
 cut-at t i = beyond-cut t (gap (drop i t) apart i)
 
--- ---- tests
+-- ---- tests on a symbol's kind and bytes are tests on its code
 neither : (a b c d : ℕ) → ¬ (a ≡ b) → ¬ (c ≡ d) → eqb a b ≡ eqb c d
 neither a b c d p q = ne-eqb a b p ∙ sym (ne-eqb c d q)
 
-mark-of : (m : ℕ) → 5 < m → m < 64 → (k : Kind) (b : List ℕ) → eqb (tag k) (7 + m) ≡ eqb (codeOf k b) m
+pub mark-of : (m : ℕ) → 5 < m → m < 64 → (k : Kind) (b : List ℕ) → eqb (tag k) (7 + m) ≡ eqb (codeOf k b) m
 mark-of m h l word b = neither 0 (7 + m) (64 + position b forms) m (λ e. omega arith) (λ e. omega arith)
 mark-of m h l name b = neither 1 (7 + m) 1 m (λ e. omega arith) (λ e. omega arith)
 mark-of m h l number b = neither 2 (7 + m) 2 m (λ e. omega arith) (λ e. omega arith)
@@ -121,11 +120,8 @@ mark-of m h l (fault f) b = neither 6 (7 + m) 5 m (λ e. omega arith) (λ e. ome
 mark-of m h l (mark x) b =
     alike (λ p. let e = eqb-true (7 + x) (7 + m) p in eq-eqb x m (omega arith)) (λ p. let e = eqb-true x m p in eq-eqb (7 + x) (7 + m) (omega arith))
 
--- a mark is its byte
-pub is-mark : (y : Symbol) (c : Char) → (ltb 5 (code c) && ltb (code c) 64) ≡ true → isMark c y ≡ eqb (cut y .code) (code c)
-is-mark y c h = let (p, q) = split {x = ltb 5 (code c)} h in mark-of (code c) (ltb-true _ _ p) (ltb-true _ _ q) (y .kind) (y .bytes)
-
-kind-of : (n : ℕ) → 0 < n → n < 5 → (k : Kind) (b : List ℕ) → Sound k b → eqb (tag k) n ≡ eqb (codeOf k b) n
+-- name 1, number 2, quoted 3, dots 4
+pub kind-of : (n : ℕ) → 0 < n → n < 5 → (k : Kind) (b : List ℕ) → Sound k b → eqb (tag k) n ≡ eqb (codeOf k b) n
 kind-of n h l word b s = neither 0 n (64 + position b forms) n (λ e. omega arith) (λ e. omega arith)
 kind-of n h l name b s = refl
 kind-of n h l number b s = refl
@@ -135,11 +131,7 @@ kind-of n h l stop b s = neither 5 n 0 n (λ e. omega arith) (λ e. omega arith)
 kind-of n h l (fault f) b s = neither 6 n 5 n (λ e. omega arith) (λ e. omega arith)
 kind-of n h l (mark x) b s = neither (7 + x) n x n (λ e. omega arith) (λ e. omega arith)
 
--- name 1, number 2, quoted 3, dots 4
-pub is-kind : {t : List ℕ} (y : Symbol) → Cut t y → (k : Kind) → (ltb 0 (tag k) && ltb (tag k) 5) ≡ true → isKind k y ≡ eqb (cut y .code) (tag k)
-is-kind y c k h = let (p, q) = split {x = ltb 0 (tag k)} h in kind-of (tag k) (ltb-true _ _ p) (ltb-true _ _ q) (y .kind) (y .bytes) (c .sound)
-
-stop-of : (k : Kind) (b : List ℕ) → Sound k b → eqb (tag k) 5 ≡ eqb (codeOf k b) 0
+pub stop-of : (k : Kind) (b : List ℕ) → Sound k b → eqb (tag k) 5 ≡ eqb (codeOf k b) 0
 stop-of word b s = neither 0 5 (64 + position b forms) 0 (λ e. omega arith) (λ e. omega arith)
 stop-of name b s = refl
 stop-of number b s = refl
@@ -149,11 +141,8 @@ stop-of stop b s = refl
 stop-of (fault f) b s = refl
 stop-of (mark x) b s = neither (7 + x) 5 x 0 (λ e. omega arith) (λ e. omega arith)
 
-pub is-stop : {t : List ℕ} (y : Symbol) → Cut t y → isKind stop y ≡ eqb (cut y .code) 0
-is-stop y c = stop-of (y .kind) (y .bytes) (c .sound)
-
--- two words of the same position in a list that has one of them are the same
-position-same : (b w : List ℕ) (l : List (List ℕ)) → isOneOf w l ≡ true → position b l ≡ position w l → same b w ≡ true
+-- a word of a list that is at another's position is that other
+position-same : (b w : List ℕ) (l : List (List ℕ)) → isOneOf b l ≡ true → position b l ≡ position w l → same b w ≡ true
 position-same b w [] h e = never h
 position-same b w (v ∷ l) h e =
     let go = position-same b w l in
@@ -165,24 +154,17 @@ position-same b w (v ∷ l) h e =
     test (same b v) (λ q. absurd (let z : 0 ≡ suc (position w l) = rw (p, q) at e in omega arith))
     (λ q.
     let z : suc (position b l) ≡ suc (position w l) = rw (p, q) at e in
-    go (rw p at h) (omega arith)))
-
-word-of : (w : List ℕ) → isOneOf w forms ≡ true → (k : Kind) (b : List ℕ) → Sound k b → (eqb (tag k) 0 && same b w) ≡ eqb (codeOf k b) (64 + position w forms)
-word-of w h word b s =
-    alike (λ p. eq-eqb (64 + position b forms) (64 + position w forms) (ap (λ (x : List ℕ). 64 + position x forms) (same-eq b w p)))
-    (λ p. let e = eqb-true (64 + position b forms) (64 + position w forms) p in position-same b w forms h (omega arith))
-word-of w h name b s = sym (ne-eqb 1 (64 + position w forms) (λ e. omega arith))
-word-of w h number b s = sym (ne-eqb 2 (64 + position w forms) (λ e. omega arith))
-word-of w h quoted b s = sym (ne-eqb 3 (64 + position w forms) (λ e. omega arith))
-word-of w h dots b s = sym (ne-eqb 4 (64 + position w forms) (λ e. omega arith))
-word-of w h stop b s = sym (ne-eqb 0 (64 + position w forms) (λ e. omega arith))
-word-of w h (fault f) b s = sym (ne-eqb 5 (64 + position w forms) (λ e. omega arith))
-word-of w h (mark x) b s = rw (ne-eqb (7 + x) 0 (λ e. omega arith)) (sym (ne-eqb x (64 + position w forms) (λ e. omega arith)))
+    go (rw q at h) (omega arith)))
 
 -- a word of the forms is 64 and its position
-pub is-word : {t : List ℕ} (y : Symbol) → Cut t y → (w : List ℕ) → isOneOf w forms ≡ true → isWord w y ≡ eqb (cut y .code) (64 + position w forms)
-is-word y c w h = word-of w h (y .kind) (y .bytes) (c .sound)
-
--- one of several words is the first or one of the others
-pub is-one-word : (y : Symbol) (w : List ℕ) (l : List (List ℕ)) → isOneWord (w ∷ l) y ≡ (isWord w y || isOneWord l y)
-is-one-word y w l = test (isKind word y) (λ e. rw e) (λ e. rw e)
+pub word-of : (w : List ℕ) (k : Kind) (b : List ℕ) → Sound k b → (eqb (tag k) 0 && same b w) ≡ eqb (codeOf k b) (64 + position w forms)
+word-of w word b s =
+    alike (λ p. eq-eqb (64 + position b forms) (64 + position w forms) (ap (λ (x : List ℕ). 64 + position x forms) (same-eq b w p)))
+    (λ p. let e = eqb-true (64 + position b forms) (64 + position w forms) p in position-same b w forms s (omega arith))
+word-of w name b s = sym (ne-eqb 1 (64 + position w forms) (λ e. omega arith))
+word-of w number b s = sym (ne-eqb 2 (64 + position w forms) (λ e. omega arith))
+word-of w quoted b s = sym (ne-eqb 3 (64 + position w forms) (λ e. omega arith))
+word-of w dots b s = sym (ne-eqb 4 (64 + position w forms) (λ e. omega arith))
+word-of w stop b s = sym (ne-eqb 0 (64 + position w forms) (λ e. omega arith))
+word-of w (fault f) b s = sym (ne-eqb 5 (64 + position w forms) (λ e. omega arith))
+word-of w (mark x) b s = rw (ne-eqb (7 + x) 0 (λ e. omega arith)) (sym (ne-eqb x (64 + position w forms) (λ e. omega arith)))
