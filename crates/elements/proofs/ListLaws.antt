@@ -20,7 +20,7 @@ use Rattle.rules.proofs.FuelLaws.{enumeration-fuel, elements-fuel, element-fuel
 use Rattle.book.specs.Forms.{nameForm}
 use Rattle.symbols.specs.declared.Symbol.{Symbol}
 use Rattle.symbols.specs.Cut.{made, cut}
-use Rattle.readers.specs.declared.Name as code
+use Rattle.ground.specs.declared.Name as code
 use Rattle.readers.specs.Reads.{faultAt, Stands, Cuts, Held, passed, named, nameCut, On, Gives, Reads}
 use Rattle.readers.proofs.CodeLaws.{Test, is-mark, is-word}
 use Rattle.readers.proofs.StandLaws.{at-stands, fault-stands}

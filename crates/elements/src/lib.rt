@@ -1,5 +1,5 @@
 // Enumerations and elements: their readers call each other, and write the records of what they read into a lent scratch.
-use readers::Name;
+use ground::Name;
 use readers::expect;
 use readers::faulty;
 use readers::name_of;

@@ -1,7 +1,7 @@
 // One enumeration held against another: whether every legal value of the first has a legal reading in the second.
 ghost use mathlib.Core.Path.{_≡_};
 ghost use mathlib.Core.Bool.{_||_, not};
-ghost use Prim.Native.Nat.{_+_, _≤_, _<_};
+ghost use Prim.Native.Nat.{_+_, _*_, _≤_, _<_};
 ghost use lib.ListN.{length};
 ghost use Rattle.rules.specs.Enumerations.{Enum, fitsIn, enumFits};
 ghost use Rattle.enumerations.specs.Lists.{isElement};
@@ -111,8 +111,8 @@ fn fits_in(text: &[u8], s: &[u8], own: Inner, base: Inner, left: usize) -> bool
 }
 
 // The enumeration at `own` held against the one at `base`.
-pub fn fits(text: &[u8], s: &[u8], own: usize, base: usize) -> bool
-    requires { ⌜ length (now s) < 4294967295 ⌝ }
+pub fn fits(text: &[u8], s: &[u8], own: usize, base: usize, table: &mut [u32]) -> bool
+    requires { ⌜ (length (now s) < 4294967295) × (length (now s) + 6 ≤ 2 * length (now table)) ⌝ }
     ensures { λ r. ⌜ ((e b : Enum) → Stands (now (text .entry)) (now (s .entry)) e own → Stands (now (text .entry)) (now (s .entry)) b base → r ≡ enumFits e b) ⌝ }
 {
     let i = inner_at(s, own);

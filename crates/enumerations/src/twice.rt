@@ -1,7 +1,7 @@
 // Doubled elements: the first element, in text order over all levels, whose name an earlier one of its list has.
 ghost use mathlib.Core.Path.{_≡_};
 ghost use mathlib.Core.List.{[]};
-ghost use Prim.Native.Nat.{_+_, _≤_};
+ghost use Prim.Native.Nat.{_+_, _*_, _≤_, _<_};
 ghost use lib.ListN.{length};
 ghost use Rattle.rules.specs.Enumerations.{Enum, twice};
 ghost use Rattle.enumerations.specs.Standing.{Deep, Stands, ListAt, endOf};
@@ -53,7 +53,8 @@ fn list_checked(text: &[u8], s: &[u8], list: usize, left: usize) -> Checked
 }
 
 // Of the enumeration at a place.
-pub fn doubled(text: &[u8], s: &[u8], at: usize) -> Found
+pub fn doubled(text: &[u8], s: &[u8], at: usize, table: &mut [u32]) -> Found
+    requires { ⌜ (length (now s) < 4294967295) × (length (now s) + 6 ≤ 2 * length (now table)) ⌝ }
     ensures { λ r. ⌜ ((e : Enum) → Stands (now (text .entry)) (now (s .entry)) e at → r ≡ foundOf (twice e [])) ⌝ }
 {
     if is_opening(s, at) {

@@ -395,8 +395,11 @@ pub fn merged(
     x: &[u8],
     own: usize,
     start: usize,
+    own_table: &mut [u32],
+    base_table: &mut [u32],
 ) -> Laid
     requires { ⌜ (n ≤ start) × (n ≤ length (now out)) × (start ≤ 65535) × (length (now x) ≤ 262144) ⌝ }
+    requires { ⌜ (length (now x) + 6 ≤ 2 * length (now «own_table»)) × (n + 6 ≤ 2 * length (now «base_table»)) ⌝ }
     ensures { λ r. ⌜ ((b e : Enum) → Stands (now (text .entry)) (take n (now (out .entry))) b base → Stands (now (text .entry)) (now (x .entry)) e own →
         Merges b e start (now (out .entry)) (now (out .exit)) r) ⌝ }
 {

@@ -8,6 +8,19 @@ ghost use Rattle.rules.specs.Book.{low, twos, padded};
 ghost use Rattle.rules.specs.Show.{read4};
 ghost use Rattle.ground.specs.Parts.{part, splice};
 
+// A name, or another part of the text: its place and its length.
+pub struct Name {
+    pub offset: usize,
+    pub len: usize,
+}
+
+// A name alone, one in the model, one in a topic of the model.
+pub enum Reference {
+    Bare(Name),
+    InModel(Name, Name),
+    InTopic(Name, Name, Name),
+}
+
 // ---- bytes and places as wider numbers
 pub fn wide(b: u8) -> usize
     ensures { λ r. ⌜ (r ≡ b) × (r < 256) ⌝ }

@@ -1,9 +1,9 @@
 // Attributes: an index of them in lent numbers, and the open class with the nearest attribute of each name.
+use ground::Name;
 use names::BASE;
 use names::FIRST;
 use names::LAST;
 use names::LENGTH;
-use names::Name;
 use names::OFFSET;
 use names::field;
 use names::put;

@@ -1,5 +1,5 @@
 -- Flags, references into topics, and bases.
-use mathlib.Core.Path.{_≡_, refl, sym, ap, _∙_}
+use mathlib.Core.Path.{_≡_, refl, sym, ap, _∙_, subst}
 use mathlib.Core.Bool.{Bool, true, false}
 use mathlib.Core.Option.{Option, none, some}
 use mathlib.Core.List.{List}
@@ -14,9 +14,10 @@ use Rattle.rules.specs.Declarations as D
 use Rattle.rules.specs.Declarations.{Def, State, known, lookup, atHome, atHand, inTopicOf, resolve, sortNumber}
 use Rattle.rules.specs.Book.{flags}
 use Rattle.rules.specs.Judge.{basesOf, isAmong}
-use Rattle.names.specs.declared.Name.{Name}
-use Rattle.names.specs.declared.Reference.{Reference}
-use Rattle.names.specs.References.{bytesOf, referenceOf}
+use Rattle.ground.specs.declared.Name.{Name}
+use Rattle.ground.specs.declared.Reference.{Reference}
+use Rattle.ground.specs.declared.Reference.the-variants.{Bare, InModel, InTopic}
+use Rattle.names.specs.References.{bytesOf, Inside, AllInside, referenceOf}
 use Rattle.names.specs.Index.{entry, row, Says, Known, definedAt, Chained}
 use Rattle.names.proofs.IndexLaws.{there, at-home}
 
@@ -88,27 +89,33 @@ module _ (t : List ℕ) (ks : List Def) (x : List ℕ) (count : ℕ) (k : Known 
   pub base-before : (b : ℕ) → b ≡ getD (row 10 x p) 7 0 → b < p
   base-before b eb = let (d, q) = from in let h = c p d q .before in omega arith
 
--- ---- references
-module _ (t : List ℕ) (s : State) (r : Reference) where
-  pub one-part : r .parts ≡ 1 → atHand s (bytesOf t (r .first)) ≡ resolve s (referenceOf t r)
-  one-part e = rw (eq-eqb (r .parts) 1 e)
+-- ---- references, by their parts
+module _ (t : List ℕ) (r : Reference) where
+  pub bare-inside : (n : Name) → r ≡ Bare n → AllInside t r → Inside t n
+  bare-inside n e h = subst (AllInside t) e h
 
-  module _ (m : Name) (em : bytesOf t m ≡ s .model .bytes) (o : ¬ (r .parts ≡ 1)) (b : Bool) (eb : b ≡ same (bytesOf t (r .first)) (bytesOf t m)) where
-    in-model : b ≡ true → same (bytesOf t (r .first)) (s .model .bytes) ≡ true
-    in-model e = rw (← em, ← eb) e
+  pub two-inside : (m n : Name) → r ≡ InModel m n → AllInside t r → Inside t m × Inside t n
+  two-inside m n e h = subst (AllInside t) e h
 
-    pub two-parts : b ≡ true → r .parts ≡ 2 → atHome s none (bytesOf t (r .second)) ≡ resolve s (referenceOf t r)
-    two-parts e p = rw (ne-eqb (r .parts) 1 o, eq-eqb (r .parts) 2 p, in-model e)
+  pub three-inside : (m p n : Name) → r ≡ InTopic m p n → AllInside t r → Inside t m × Inside t p × Inside t n
+  three-inside m p n e h = subst (AllInside t) e h
 
-    pub three-parts : b ≡ true → ¬ (r .parts ≡ 2) → inTopicOf s (bytesOf t (r .third)) (atHome s none (bytesOf t (r .second))) ≡ resolve s (referenceOf t r)
-    three-parts e p = rw (ne-eqb (r .parts) 1 o, ne-eqb (r .parts) 2 p, in-model e)
+  module _ (s : State) (o : Option Def) where
+    pub bare-named : (n : Name) → r ≡ Bare n → o ≡ atHand s (bytesOf t n) → o ≡ resolve s (referenceOf t r)
+    bare-named n e h = rw e h
 
-    pub other-model : b ≡ false → none ≡ resolve s (referenceOf t r)
-    other-model e = go (eqb (r .parts) 2) refl
-      where
-        not-in : same (bytesOf t (r .first)) (s .model .bytes) ≡ false
-        not-in = rw (← em, ← eb) e
+    module _ (model m : Name) (em : bytesOf t model ≡ s .model .bytes) (b : Bool) (eb : b ≡ same (bytesOf t m) (bytesOf t model)) where
+      in-model : (v : Bool) → b ≡ v → same (bytesOf t m) (s .model .bytes) ≡ v
+      in-model v e = rw (← em, ← eb) e
 
-        go : (two : Bool) → eqb (r .parts) 2 ≡ two → none ≡ resolve s (referenceOf t r)
-        go true q = rw (ne-eqb (r .parts) 1 o, q, not-in)
-        go false q = rw (ne-eqb (r .parts) 1 o, q, not-in)
+      pub two-named : (n : Name) → r ≡ InModel m n → b ≡ true → o ≡ atHome s none (bytesOf t n) → o ≡ resolve s (referenceOf t r)
+      two-named n e q h = rw (e, in-model true q) h
+
+      pub two-other : (n : Name) → r ≡ InModel m n → b ≡ false → o ≡ none → o ≡ resolve s (referenceOf t r)
+      two-other n e q h = rw (e, in-model false q) h
+
+      pub three-named : (p n : Name) → r ≡ InTopic m p n → b ≡ true → o ≡ inTopicOf s (bytesOf t n) (atHome s none (bytesOf t p)) → o ≡ resolve s (referenceOf t r)
+      three-named p n e q h = rw (e, in-model true q) h
+
+      pub three-other : (p n : Name) → r ≡ InTopic m p n → b ≡ false → o ≡ none → o ≡ resolve s (referenceOf t r)
+      three-other p n e q h = rw (e, in-model false q) h

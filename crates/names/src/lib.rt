@@ -1,4 +1,6 @@
 // What is known: an index of the definitions in lent numbers, and names looked up in it.
+use ground::Name;
+use ground::Reference;
 ghost use mathlib.Core.Path.{_≡_};
 ghost use mathlib.Core.Bool.{Bool, false, _||_};
 ghost use mathlib.Core.Option.{none};
@@ -15,22 +17,8 @@ ghost use Rattle.rules.specs.Judge.{basesOf, isAmong};
 ghost use Rattle.ground.specs.Parts.{splice};
 ghost use Rattle.names.specs.Index.{entry, row, homeNumber, Says, Known, definedAt, Chained};
 ghost use Rattle.names.specs.Chains.{keyOf, Chains};
-ghost use Rattle.names.specs.References.{bytesOf, Inside, referenceOf};
+ghost use Rattle.names.specs.References.{bytesOf, Inside, AllInside, referenceOf};
 ghost use Rattle.names.specs.Rows.{definitionRow, Narrow};
-
-// A name: its place in the text, and its length.
-pub struct Name {
-    pub offset: usize,
-    pub len: usize,
-}
-
-// A name alone (one part), one in the model (two), one in a topic of the model (three).
-pub struct Reference {
-    pub parts: u8,
-    pub first: Name,
-    pub second: Name,
-    pub third: Name,
-}
 
 // What the row of a definition has; the number of a home is 0 at the model's level, else one more than the topic's record number.
 pub const OFFSET: usize = 0;
@@ -262,20 +250,25 @@ pub fn resolve(
     home: usize,
     r: Reference,
 ) -> usize
-    requires { ⌜ Inside (now text) model × Inside (now text) (r .first) × Inside (now text) (r .second) × Inside (now text) (r .third) × (count * 10 + 10 ≤ length (now index)) × (2048 + count < length (now chains)) ⌝ }
+    requires { ⌜ Inside (now text) model × AllInside (now text) r × (count * 10 + 10 ≤ length (now index)) × (2048 + count < length (now chains)) ⌝ }
     ensures { λ p. ⌜ (p ≤ count) × ((s : State) → Known (now (text .entry)) (known (s .decls)) (now (index .entry)) count → Chains (known (s .decls)) (now (chains .entry)) → home ≡ homeNumber (numberIn (s .topic)) → bytesOf (now (text .entry)) model ≡ s .model .bytes
         → entry (known (s .decls)) p ≡ D.resolve s (referenceOf (now (text .entry)) r)) ⌝ }
 {
-    if r.parts == 1 {
-        return find_bare(text, index, chains, count, home, r.first);
-    }
-    if same_name(text, r.first, model) {
-        if r.parts == 2 {
-            return find_in_model(text, index, chains, count, r.second);
+    match r {
+        Reference::Bare(n) => find_bare(text, index, chains, count, home, n),
+        Reference::InModel(m, n) => {
+            if same_name(text, m, model) {
+                return find_in_model(text, index, chains, count, n);
+            }
+            0
         }
-        return find_in_topic(text, index, chains, count, r.second, r.third);
+        Reference::InTopic(m, t, n) => {
+            if same_name(text, m, model) {
+                return find_in_topic(text, index, chains, count, t, n);
+            }
+            0
+        }
     }
-    0
 }
 
 // The definition p, the last one, is found by its name's key from now on.

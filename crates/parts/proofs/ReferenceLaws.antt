@@ -10,12 +10,12 @@ use Rattle.rules.specs.Readers.{ret}
 use Rattle.rules.specs.Grammar as G
 use Rattle.rules.specs.Grammar.{bare, inModel, inTopic, reference, extends}
 use Rattle.symbols.specs.declared.Symbol.{Symbol}
-use Rattle.readers.specs.declared.Name.{Name}
+use Rattle.ground.specs.declared.Name.{Name}
 use Rattle.readers.specs.Reads.{passed, named, Reads}
 use Rattle.readers.proofs.CodeLaws.{Test, is-mark, is-word}
 use Rattle.readers.proofs.ReadLaws.{onward, bind, stay, mapped, if-true, if-false, expected, is-yes, is-no, a-name}
-use Rattle.parts.specs.declared.Reference.{Reference}
-use Rattle.parts.specs.declared.Reference.the-variants.{Bare, InModel, InTopic}
+use Rattle.ground.specs.declared.Reference.{Reference}
+use Rattle.ground.specs.declared.Reference.the-variants.{Bare, InModel, InTopic}
 use Rattle.parts.specs.declared.Extends.the-variants.{Nothing, Base}
 use Rattle.parts.specs.Forms.{referenceOf, extendsOf}
 

@@ -28,7 +28,7 @@ use Rattle.readers.proofs.CodeLaws.{Test, is-name, is-number, is-dots, is-mark,
 use Rattle.readers.proofs.StandLaws.{at-stands, fault-stands}
 use Rattle.readers.proofs.ReadLaws.{onward, bind, stay, mapped, weaker, if-true, if-false, expected, taken, passes-by, refuses, is-yes, is-no}
 use Rattle.elements.specs.Noted.{Whole}
-use Rattle.parts.specs.declared.Reference.{Reference}
+use Rattle.ground.specs.declared.Reference.{Reference}
 use Rattle.parts.specs.declared.types.Whole as W
 use Rattle.parts.specs.declared.types.Whole.the-variants.{Count, Other}
 use Rattle.parts.specs.declared.types.Meant.{Meant}

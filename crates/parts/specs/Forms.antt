@@ -19,8 +19,8 @@ use Rattle.numbers.specs.declared.Number.{Number}
 use Rattle.readers.specs.Reads.{nameCut}
 use Rattle.elements.specs.Noted.{listBytes}
 use Rattle.parts.specs.declared.Properties.{Properties}
-use Rattle.parts.specs.declared.Reference.{Reference}
-use Rattle.parts.specs.declared.Reference.the-variants.{Bare, InModel, InTopic}
+use Rattle.ground.specs.declared.Reference.{Reference}
+use Rattle.ground.specs.declared.Reference.the-variants.{Bare, InModel, InTopic}
 use Rattle.parts.specs.declared.Extends.{Extends}
 use Rattle.parts.specs.declared.Extends.the-variants.{Nothing, Base}
 use Rattle.parts.specs.declared.types.Whole.{Whole}

@@ -1,7 +1,8 @@
 // The parts of units: properties, references, types. Each reader takes the next symbol, already cut, and hands on the one after what it read.
 pub mod types;
 
-use readers::Name;
+use ground::Name;
+use ground::Reference;
 use readers::expect;
 use readers::faulty;
 use readers::name_of;
@@ -132,13 +133,6 @@ pub fn read_properties(text: &[u8], y: Symbol, attribute: bool) -> PropertiesRea
 }
 
 // ---- references
-// A name alone, one in the model, one in a topic of the model.
-pub enum Reference {
-    Bare(Name),
-    InModel(Name, Name),
-    InTopic(Name, Name, Name),
-}
-
 pub struct ReferenceRead {
     pub reference: Reference,
     pub next: Symbol,

@@ -1,5 +1,5 @@
 // Types, and what stands behind the `=` of a domain or the `:` of an attribute.
-use crate::Reference;
+use ground::Reference;
 use numbers::Number;
 use readers::expect;
 use readers::faulty;

@@ -14,7 +14,7 @@ use Rattle.ground.specs.Parts.{part}
 use Rattle.symbols.specs.declared.Symbol.{Symbol}
 use Rattle.symbols.specs.Cut.{made, cut}
 use Rattle.symbols.proofs.CutLaws.{Sound}
-use Rattle.readers.specs.declared.Name.{Name}
+use Rattle.ground.specs.declared.Name.{Name}
 
 -- ---- symbols
 -- a symbol that is at fault by itself

@@ -1,4 +1,5 @@
 // What the readers of units are made of: the symbol that is to come, and a fault that goes on as a faulty symbol, which no reader takes.
+use ground::Name;
 use symbols::Cursor;
 use symbols::Symbol;
 ghost use mathlib.Core.Path.{_≡_};
@@ -67,12 +68,6 @@ pub const TEXT: u8 = 79;
 pub const MTEXT: u8 = 80;
 
 pub const NUMERIC: u8 = 81;
-
-// A name, or another part of the text: its place and its length.
-pub struct Name {
-    pub offset: usize,
-    pub len: usize,
-}
 
 pub fn name_of(y: Symbol) -> Name
     ensures { λ r. ⌜ r ≡ named y ⌝ }

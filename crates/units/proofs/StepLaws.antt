@@ -23,7 +23,7 @@ use Rattle.rules.proofs.SymbolLaws.{either, Lies}
 use Rattle.rules.proofs.ForwardLaws.{Ends, Stepped, unit-steps}
 use Rattle.symbols.specs.declared.Symbol.{Symbol}
 use Rattle.symbols.specs.Cut.{cut}
-use Rattle.readers.specs.declared.Name.{Name}
+use Rattle.ground.specs.declared.Name.{Name}
 use Rattle.readers.specs.Reads.{faultAt, Stands, Cuts, Held, passed, named, nameCut, Gives, Reads}
 use Rattle.readers.proofs.CodeLaws.{Test, is-name, is-number, is-quoted, is-stop, is-mark, is-word, is-one-word}
 use Rattle.readers.proofs.ReadLaws.{Passes, onward, bind, stay, mapped, weaker, if-true, if-false, expected, taken, is-yes, is-no, a-name}

@@ -13,7 +13,7 @@ use Rattle.rules.specs.Readers.{Result, done, refused, Reader, _>>_, aName, the
 use Rattle.rules.specs.Units as U
 use Rattle.symbols.specs.declared.Symbol.{Symbol}
 use Rattle.symbols.specs.Cut.{cut}
-use Rattle.readers.specs.declared.Name.{Name}
+use Rattle.ground.specs.declared.Name.{Name}
 use Rattle.readers.specs.Reads.{nameCut, faultAt, Cuts}
 use Rattle.parts.specs.Forms.{flagsOf, extendsOf, writtenOf, Scratches}
 use Rattle.units.specs.declared.Where.{Where}

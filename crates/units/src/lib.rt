@@ -1,9 +1,9 @@
 // The readers of units: a unit is read from its first symbol on, and the symbol behind it is handed on. A fault goes on as a faulty symbol, which
 // no reader takes; the unit's end finds it.
+use ground::Name;
 use parts::Extends;
 use parts::Properties;
 use parts::types::Written;
-use readers::Name;
 use readers::expect;
 use readers::name_of;
 use symbols::Symbol;
