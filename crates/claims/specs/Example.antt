@@ -3,10 +3,10 @@ use mathlib.Core.Path.{_≡_}
 use mathlib.Core.List.{List, [], _∷_}
 use Prim.Native.Nat.{ℕ, _-_, _^_}
 use lib.ListN.{length}
-use lib.IntN.{ℤ, pos, negsuc}
+use lib.IntN.{pos, negsuc}
 use Rattle.rules.specs.Bytes.{ascii}
-use Rattle.rules.specs.Numbers.{Read, reads, unread, readNumber, readRefusal, readValue}
-use Rattle.rules.specs.Check.{Checked, accepted, refusal, check}
+use Rattle.rules.specs.Numbers.{reads, unread, readNumber, readValue}
+use Rattle.rules.specs.Check.{accepted, refusal, check}
 use Rattle.rules.specs.Book.{padded}
 use Rattle.rules.specs.Show.{Part, showName}
 

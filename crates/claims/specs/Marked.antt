@@ -2,7 +2,7 @@
 use mathlib.Core.Bool.{true, false}
 use mathlib.Core.List.{List, [], _∷_}
 use Prim.Native.Nat.{ℕ}
-use lib.IntN.{ℤ, pos}
+use lib.IntN.{pos}
 use Rattle.rules.specs.Bytes.{ascii}
 use Rattle.rules.specs.Names.{Name}
 use Rattle.rules.specs.Enumerations.{Enum, end, elem, here, others, into}

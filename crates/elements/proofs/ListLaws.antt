@@ -1,8 +1,8 @@
 -- How a list is read element by element, and its records written, as the rules read it whole.
 use mathlib.Core.Path.{_≡_, refl, sym, ap, _∙_, subst}
-use mathlib.Core.Bool.{Bool, true, false, cond}
+use mathlib.Core.Bool.{true, false}
 use mathlib.Core.List.{List, [], _∷_, _++_, append-assoc}
-use Prim.Native.Nat.{ℕ, zero, suc, _+_, _-_, _*_, _≤_, _<_}
+use Prim.Native.Nat.{ℕ, zero, suc, _+_, _-_, _≤_, _<_}
 use native.Mathlib.Omega.{arith}
 use lib.ListN.{length}
 use borrow.Author.Tests.{lt-ltb, le-ltb, eq-eqb}
@@ -19,12 +19,12 @@ use Rattle.rules.proofs.ForwardLaws.{Ends, element-forward}
 use Rattle.rules.proofs.FuelLaws.{enumeration-fuel, elements-fuel, element-fuel}
 use Rattle.book.specs.Forms.{nameForm}
 use Rattle.symbols.specs.declared.Symbol.{Symbol}
-use Rattle.symbols.specs.Cut.{made, cut}
+use Rattle.symbols.specs.Cut.{made}
 use Rattle.ground.specs.declared.Name as code
 use Rattle.readers.specs.Reads.{faultAt, Stands, Cuts, Held, passed, named, nameCut, On, Gives, Reads}
 use Rattle.readers.proofs.CodeLaws.{Test, is-mark, is-word}
-use Rattle.readers.proofs.StandLaws.{at-stands, fault-stands}
-use Rattle.readers.proofs.ReadLaws.{gives-map, gives-weaker, bind, stay, mapped, weaker, if-true, if-false, expected, is-yes, is-no, a-name}
+use Rattle.readers.proofs.StandLaws.{fault-stands}
+use Rattle.readers.proofs.ReadLaws.{gives-map, gives-weaker, bind, stay, mapped, if-true, if-false, expected, is-yes, is-no, a-name}
 use Rattle.elements.specs.Noted.{listBytes, restBytes, elementBytes, Put, Closed}
 use Rattle.elements.specs.Ends.{listEnd}
 use Rattle.elements.proofs.PutLaws.{put-put, put-closed}

@@ -1,13 +1,12 @@
 -- The same laws as the loop of an enumeration meets them: k enumerations may still nest, so that 8 - k are around.
-use mathlib.Core.Path.{_≡_, refl, sym, _∙_}
+use mathlib.Core.Path.{_≡_, refl, _∙_}
 use mathlib.Core.List.{List, [], _∷_}
-use Prim.Native.Nat.{ℕ, suc, _+_, _-_, _≤_, _<_}
+use Prim.Native.Nat.{ℕ, _-_, _<_}
 use native.Mathlib.Omega.{arith}
 use lib.ListN.{length}
 use Rattle.rules.specs.Bytes.{ascii}
 use Rattle.rules.specs.Symbols as rules
-use Rattle.rules.specs.Symbols.{Fault, isMark, isWord}
-use Rattle.rules.specs.Readers.{Reader, ifNext}
+use Rattle.rules.specs.Symbols.{isWord}
 use Rattle.rules.specs.Grammar.{enough, closeFinal, enumeration, elements, element}
 use Rattle.symbols.specs.declared.Symbol.{Symbol}
 use Rattle.symbols.specs.Cut.{made}

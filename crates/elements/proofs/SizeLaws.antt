@@ -1,6 +1,6 @@
 -- The records of an enumeration have at most three bytes for each byte of its text.
-use mathlib.Core.Path.{_≡_, ap}
-use mathlib.Core.Bool.{Bool, true, false}
+use mathlib.Core.Path.{ap}
+use mathlib.Core.Bool.{true, false}
 use mathlib.Core.List.{List, _∷_}
 use Prim.Native.Nat.{ℕ, zero, suc, _+_, _*_, _≤_}
 use native.Mathlib.Nat.{le-refl}
@@ -10,8 +10,8 @@ use Rattle.rules.specs.Bytes.{ascii}
 use Rattle.rules.specs.Symbols.{Symbol, isMark, isWord}
 use Rattle.rules.specs.Readers.{Result, done, refused, Reader, andThen, _>>=_, _>>_, ret, aName, theMark, theWord, ifNext}
 use Rattle.rules.specs.Enumerations.{Enum, end, elem}
-use Rattle.rules.specs.Grammar.{enough, closeFinal, opening, enumeration, elements, Element, element}
-use Rattle.rules.specs.Book.{Record, innerRecords, openRecord, elementRecords, bytes}
+use Rattle.rules.specs.Grammar.{enough, closeFinal, opening, enumeration, elements, element}
+use Rattle.rules.specs.Book.{innerRecords, openRecord, elementRecords, bytes}
 use Rattle.rules.proofs.SymbolLaws.{either, Lies, lies-from}
 use Rattle.rules.proofs.ForwardLaws.{Ends, Forward, the-mark, the-word, a-name, opening-forward}
 use Rattle.symbols.specs.declared.Symbol as code

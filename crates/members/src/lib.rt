@@ -63,7 +63,7 @@ pub fn member_flags(members: &[u16], q: usize) -> usize
 // Where its record begins in the book.
 pub fn member_place(members: &[u16], q: usize) -> usize
     requires { ⌜ q * 6 + 6 ≤ length (now members) ⌝ }
-    ensures { λ r. ⌜ r ≡ getD (row 6 (now (members .entry)) q) 3 0 ⌝ }
+    ensures { λ r. ⌜ (r ≡ getD (row 6 (now (members .entry)) q) 3 0) × (r < 65536) ⌝ }
 {
     member(members, q, PLACE)
 }
@@ -71,7 +71,7 @@ pub fn member_place(members: &[u16], q: usize) -> usize
 // The domain or structure that it names; 0 for a type in place.
 pub fn member_use(members: &[u16], q: usize) -> usize
     requires { ⌜ q * 6 + 6 ≤ length (now members) ⌝ }
-    ensures { λ r. ⌜ r ≡ getD (row 6 (now (members .entry)) q) 5 0 ⌝ }
+    ensures { λ r. ⌜ (r ≡ getD (row 6 (now (members .entry)) q) 5 0) × (r < 65536) ⌝ }
 {
     member(members, q, USE)
 }

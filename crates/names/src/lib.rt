@@ -90,7 +90,7 @@ pub fn flags_of(index: &[u16], p: usize) -> usize
 // Where its record begins in the book.
 pub fn place_of(index: &[u16], p: usize) -> usize
     requires { ⌜ p * 10 + 10 ≤ length (now index) ⌝ }
-    ensures { λ r. ⌜ r ≡ getD (row 10 (now (index .entry)) p) 6 0 ⌝ }
+    ensures { λ r. ⌜ (r ≡ getD (row 10 (now (index .entry)) p) 6 0) × (r < 65536) ⌝ }
 {
     field(index, p, PLACE)
 }

@@ -1,9 +1,9 @@
 -- Properties: the flags of a list of words, word by word.
-use mathlib.Core.Path.{_≡_, refl, sym, ap, _∙_, subst}
+use mathlib.Core.Path.{_≡_, refl, sym, ap, _∙_}
 use mathlib.Core.Logic.{⊎-elim}
 use mathlib.Core.Bool.{Bool, true, false, cond, _||_}
 use mathlib.Core.List.{List, [], _∷_, _++_, append-assoc}
-use Prim.Native.Nat.{ℕ, suc, _+_, _-_, _≤_, _<_}
+use Prim.Native.Nat.{ℕ, suc, _+_, _-_, _<_}
 use native.Mathlib.Omega.{arith}
 use lib.ListN.{length}
 use lib.Dec.{eqb}
@@ -11,8 +11,8 @@ use borrow.Author.Tests.{eqb-true, eq-eqb}
 use Rattle.rules.specs.Bytes.{ascii, same, isOneOf}
 use Rattle.rules.specs.Symbols as rules
 use Rattle.rules.specs.Reserved.{forms}
-use Rattle.rules.specs.Symbols.{Fault, word, symbolAt, endOf, isKind, isMark, isWord, isOneWord}
-use Rattle.rules.specs.Readers.{Result, Reader, done, refused, andThen, ret, theMark, ifNext, _>>_, _>>=_, expect, faultOf}
+use Rattle.rules.specs.Symbols.{Fault, word, symbolAt, endOf, isKind, isMark, isOneWord}
+use Rattle.rules.specs.Readers.{Reader, refused, andThen, ret, theMark, ifNext, _>>_, _>>=_, expect}
 use Rattle.rules.specs.Grammar.{enough, propertiesFrom, properties}
 use Rattle.rules.specs.Judge.{hasTwice}
 use Rattle.rules.proofs.Tests.{split, alike, or-split}
@@ -21,11 +21,11 @@ use Rattle.rules.proofs.SymbolLaws.{Lies, next-lies}
 use Rattle.rules.proofs.ForwardLaws.{one-word}
 use Rattle.rules.proofs.FuelLaws.{properties-fuel}
 use Rattle.symbols.specs.declared.Symbol.{Symbol}
-use Rattle.symbols.specs.Cut.{position, made, cut}
+use Rattle.symbols.specs.Cut.{position, made}
 use Rattle.readers.specs.Reads.{faultAt, Stands, Cuts, Held, passed, Gives, Reads}
 use Rattle.readers.proofs.CodeLaws.{Test, is-mark, is-word, is-one-word}
-use Rattle.readers.proofs.StandLaws.{at-stands, fault-stands}
-use Rattle.readers.proofs.ReadLaws.{gives-map, gives-weaker, bind, stay, weaker, held, if-true, if-false, expected, taken, is-yes, is-no}
+use Rattle.readers.proofs.StandLaws.{fault-stands}
+use Rattle.readers.proofs.ReadLaws.{gives-map, gives-weaker, bind, stay, held, if-true, if-false, expected, taken, is-yes, is-no}
 use Rattle.parts.specs.declared.Properties.{Properties}
 use Rattle.parts.specs.Forms.{wordsOf, otherOf, flagsOf, withWord}
 

@@ -6,7 +6,6 @@ use Prim.Native.Nat.{ℕ}
 use native.Mathlib.Omega.{arith}
 use Rattle.rules.specs.Bytes.{ascii}
 use Rattle.rules.specs.Symbols.{isMark, isWord}
-use Rattle.rules.specs.Readers.{ret}
 use Rattle.rules.specs.Grammar as G
 use Rattle.rules.specs.Grammar.{bare, inModel, inTopic, reference, extends}
 use Rattle.symbols.specs.declared.Symbol.{Symbol}

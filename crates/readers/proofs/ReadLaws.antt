@@ -1,20 +1,18 @@
 -- How readers of the code are put together as those of the rules are.
 use mathlib.Core.Path.{_≡_, refl, sym, ap, _∙_}
 use mathlib.Core.Bool.{Bool, true, false, cond}
-use mathlib.Core.Option.{Option, none, some}
 use mathlib.Core.List.{List}
-use Prim.Native.Nat.{ℕ, _+_}
+use Prim.Native.Nat.{ℕ}
 use native.Mathlib.Omega.{arith}
-use lib.ListN.{length}
 use lib.Dec.{eqb}
 use borrow.Author.Tests.{eq-eqb, ne-eqb, eqb-true}
 use Rattle.rules.specs.Names.{nameOf}
 use Rattle.rules.specs.Symbols as rules
-use Rattle.rules.specs.Symbols.{Fault, name, symbolAt, endOf, isKind}
-use Rattle.rules.specs.Readers.{Result, done, refused, Reader, andThen, _>>=_, ret, faultOf, expect, aName, ifNext, optional}
+use Rattle.rules.specs.Symbols.{Fault, symbolAt, endOf}
+use Rattle.rules.specs.Readers.{Result, done, refused, Reader, andThen, _>>=_, ret, expect, aName, ifNext}
 use Rattle.symbols.specs.declared.Symbol.{Symbol}
 use Rattle.symbols.specs.Cut.{made, codeOf, cut}
-use Rattle.readers.specs.Reads.{faultAt, Stands, Cuts, Held, passed, named, nameCut, rest, On, Gives, Reads}
+use Rattle.readers.specs.Reads.{faultAt, Stands, Cuts, Held, passed, named, nameCut, Gives, Reads}
 use Rattle.readers.proofs.CodeLaws.{Test, is-name}
 use Rattle.readers.proofs.StandLaws.{at-stands, fault-stands}
 

@@ -1,5 +1,5 @@
 -- A unit that is not refused leads from a fair state to a fair one.
-use mathlib.Core.Path.{_≡_, refl, ap, subst}
+use mathlib.Core.Path.{_≡_, refl, sym, ap, subst, _∙_}
 use mathlib.Core.Bool.{Bool, true, false, not, _&&_}
 use mathlib.Core.Option.{Option, none, some}
 use mathlib.Core.List.{List, [], _∷_, _++_}
@@ -31,11 +31,11 @@ attribute-grows t n m l a h = record { used = h .used; before = let b = h .befor
 
 def-grows : (t : List ℕ) (n m : ℕ) → n ≤ m → (d : Def) → FairDef t n d → FairDef t m d
 def-grows t n m l d h =
-    record { type = h .type; before = let b = h .before in omega arith; attributes = all-map (attribute-grows t n m l) (attributesOf d) (h .attributes) }
+    record { type = h .type; before = let b = h .before in omega arith; attributes = all-map (attribute-grows t n m l) (attributesOf d) (h .attributes); bare = h .bare }
 
 -- a definition with attributes of before
-new-def : (t : List ℕ) (n m : ℕ) → n < m → (d : Def) → d .number ≡ n → (d .sort ≡ domain → Fair t (d .type)) → All (FairAttribute t n) (attributesOf d) → FairDef t m d
-new-def t n m l d e h k = record { type = h; before = omega arith; attributes = all-map (attribute-grows t n m (omega arith)) (attributesOf d) k }
+new-def : (t : List ℕ) (n m : ℕ) → n < m → (d : Def) → d .number ≡ n → (d .sort ≡ domain → Fair t (d .type)) → All (FairAttribute t n) (attributesOf d) → (d .sort ≡ domain → attributesOf d ≡ []) → FairDef t m d
+new-def t n m l d e h k b = record { type = h; before = omega arith; attributes = all-map (attribute-grows t n m (omega arith)) (attributesOf d) k; bare = b }
 
 module _ (t : List ℕ) (s : State) (h : FairState t s) where
   declare-fair : (e : Def) → length (records s) ≤ length (records (declare s (def e))) → FairDef t (length (records (declare s (def e)))) e → FairState t (declare s (def e))
@@ -74,13 +74,17 @@ topic-attributes : (P : Attribute → Type 0) (s : State) (n : Name) → All P (
 unfolding newTopic
 topic-attributes P s n = tt
 
+topic-bare : (s : State) (n : Name) → newTopic s n .sort ≡ domain → attributesOf (newTopic s n) ≡ []
+unfolding newTopic
+topic-bare s n e = refl
+
 fair-topic : (t : List ℕ) (s x : State) (n : Name) → isFound (s .open-class) ≡ false → FairState t s → judgeTopic s n ≡ ok x → FairState t x
 unfolding judgeTopic
 fair-topic t s x n c h q =
     let e = newTopic s n in
     let l = declared-more s c e in
     subst (FairState t) (unless-ok (J.topicRules s n) _ x q .next)
-    (in-topic t s (def e) (some e) (declare-fair t s h e (omega arith) (new-def t (length (records s)) _ l e (topic-number s n) (topic-type t s n) (topic-attributes _ s n))))
+    (in-topic t s (def e) (some e) (declare-fair t s h e (omega arith) (new-def t (length (records s)) _ l e (topic-number s n) (topic-type t s n) (topic-attributes _ s n) (topic-bare s n))))
 
 -- ---- classes and structures
 class-sort : (st : Bool) → classSort st ≡ domain → ⊥
@@ -102,7 +106,7 @@ module _ (t : List ℕ) (s : State) (st : Bool) (n : Name) (p : List (List ℕ))
       let b = base-attributes t (length (records s)) o k in
       let c = newClass s (classSort st) n p o in
       record {
-        fair = new-def t (length (records s)) m l c refl (λ e. absurd (class-sort st e)) b;
+        fair = new-def t (length (records s)) m l c refl (λ e. absurd (class-sort st e)) b (λ e. absurd (class-sort st e));
         structure = st;
         sort = refl;
         apart = apart-start c refl (each-before t (length (records s)) (length (records s)) refl (attributesOf (orNoDef o)) b);
@@ -162,7 +166,7 @@ module _ (t : List ℕ) (s : State) (n : Name) (p : List (List ℕ)) (b : Option
       let e = domain-sort s n p b w o h in
       let g : w .type ≡ none → Fair t (orNoDef o .type) = λ z. base-type t (length (records s)) o k e (found-there (isFound b) (isFound o) (f .alone z) (domain-found s n p b w o h)) in
       let y = domain-type t (isFound o) (w .place) (w .type) (orNoDef o .type) (f .type) (base-of t (length (records s)) o k e) r (domain-element s n p b w o h) (domain-types s n p b w o h) g in
-      new-def t (length (records s)) m l (newDomain s n p w o) refl (λ z. y) tt
+      new-def t (length (records s)) m l (newDomain s n p w o) refl (λ z. y) tt (λ z. refl)
 
   fair-domain : (x : State) → isFound (s .open-class) ≡ false → FairState t s → FairWritten t (isFound b) w → referenceIn (w .type) ≡ none → AnyIs (FairDef t (length (records s))) o → judgeDomain s n p b w o ≡ ok x → FairState t x
   unfolding judgeDomain
@@ -234,6 +238,7 @@ more-fair t k m l c h a u e =
         type = h .fair .type;
         before = omega arith;
         attributes = all-append P (c .own ++ (a ∷ [])) (c .inherited) (all-append P (c .own) (a ∷ []) (all-left P (c .own) (c .inherited) g) (record { used = u; before = omega arith }, tt)) (all-right P (c .own) (c .inherited) g);
+        bare = λ z. absurd (class-sort (h .structure) (sym (h .sort) ∙ z));
       };
       structure = h .structure;
       sort = h .sort;

@@ -4,3 +4,7 @@ pub mod RuleLaws
 pub mod RecordLaws
 pub mod TypeLaws
 pub mod KeepLaws
+pub mod ReaderLaws
+pub mod StandLaws
+pub mod SymbolLaws
+pub mod ReadLaws

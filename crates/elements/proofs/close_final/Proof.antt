@@ -1,5 +1,4 @@
 use Rattle.elements.proofs.ListLaws.{closes-final}
-use native.Mathlib.Omega.{arith}
 use borrow.Author.Needs.{needs}
 use Rattle.elements.proofs.close_final.Statement.{statement}
 use Rattle.elements.proofs.close_final.Tie as tie

@@ -1,5 +1,4 @@
 use Rattle.elements.proofs.ListLaws.{ends-final, ends-plain}
-use native.Mathlib.Omega.{arith}
 use borrow.Author.Needs.{needs}
 use Rattle.elements.proofs.list_end.Statement.{statement}
 use Rattle.elements.proofs.list_end.Tie as tie

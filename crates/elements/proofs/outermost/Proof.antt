@@ -1,5 +1,4 @@
 use Rattle.elements.proofs.SizeLaws.{fits-whole}
-use native.Mathlib.Omega.{arith}
 use borrow.Author.Needs.{needs}
 use Rattle.elements.proofs.outermost.Statement.{statement}
 use Rattle.elements.proofs.outermost.Tie as tie

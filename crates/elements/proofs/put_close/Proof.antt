@@ -1,7 +1,7 @@
 use Rattle.elements.proofs.PutLaws.{close-law, close-not}
 use borrow.Author.Tests.{leb-true, leb-false}
 use lib.ListN.{length, length-set}
-use Prim.Native.Nat.{_+_, _≤_, _<_}
+use Prim.Native.Nat.{_+_, _≤_}
 use mathlib.Core.Logic.{inl, inr}
 use mathlib.Core.Path.{_∙_, sym}
 use native.Mathlib.Omega.{arith}

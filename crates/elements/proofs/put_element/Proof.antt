@@ -1,8 +1,7 @@
-use Rattle.ground.specs.Parts.{splice}
 use borrow.Author.Tests.{leb-true, leb-false}
 use lib.ListN.{length}
 use Prim.Native.Nat.{_+_, _≤_, _<_}
-use mathlib.Core.Path.{_∙_, sym, ap, refl}
+use mathlib.Core.Path.{_∙_, sym, refl}
 use native.Mathlib.Omega.{arith}
 use borrow.Author.Needs.{needs}
 use Rattle.elements.proofs.put_element.Statement.{statement}

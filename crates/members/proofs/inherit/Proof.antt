@@ -1,4 +1,3 @@
-use mathlib.Core.Path.{_≡_}
 use Rattle.names.specs.Index.{entry}
 use Rattle.members.proofs.OpenLaws.{opened-start, opened-held}
 use native.Mathlib.Omega.{arith}

@@ -2,7 +2,6 @@ use Rattle.parts.proofs.PropertyLaws.{Loop, loop-first, loop-on, loop-f
 use lib.ListN.{length}
 use Prim.Native.Nat.{_-_}
 use mathlib.Core.Path.{sym, _∙_}
-use native.Mathlib.Omega.{arith}
 use borrow.Author.Needs.{needs}
 use Rattle.parts.proofs.property_list.Statement.{statement}
 use Rattle.parts.proofs.property_list.Tie as tie

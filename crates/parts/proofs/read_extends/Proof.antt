@@ -1,5 +1,4 @@
 use Rattle.parts.proofs.ReferenceLaws.{extended, not-extended}
-use native.Mathlib.Omega.{arith}
 use borrow.Author.Needs.{needs}
 use Rattle.parts.proofs.read_extends.Statement.{statement}
 use Rattle.parts.proofs.read_extends.Tie as tie

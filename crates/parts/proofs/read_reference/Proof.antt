@@ -1,5 +1,4 @@
 use Rattle.parts.proofs.ReferenceLaws.{one-part, two-parts, three-parts}
-use native.Mathlib.Omega.{arith}
 use borrow.Author.Needs.{needs}
 use Rattle.parts.proofs.read_reference.Statement.{statement}
 use Rattle.parts.proofs.read_reference.Tie as tie

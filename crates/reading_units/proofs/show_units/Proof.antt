@@ -2,7 +2,6 @@ use Rattle.units.proofs.StepLaws.{held-first, held-next}
 use Rattle.units.specs.Steps.{placeOf}
 use Rattle.readers.specs.Reads.{Held}
 use lib.ListN.{length}
-use Prim.Native.Nat.{_*_, _≤_}
 use mathlib.Core.Path.{_≡_, refl, _∙_}
 use native.Mathlib.Omega.{arith}
 use borrow.Author.Needs.{needs}

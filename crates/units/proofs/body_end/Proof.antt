@@ -1,5 +1,4 @@
 use Rattle.units.proofs.StepLaws.{topic-ends, model-ends}
-use native.Mathlib.Omega.{arith}
 use borrow.Author.Needs.{needs}
 use Rattle.units.proofs.body_end.Statement.{statement}
 use Rattle.units.proofs.body_end.Tie as tie

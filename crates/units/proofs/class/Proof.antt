@@ -3,7 +3,6 @@ use Rattle.parts.proofs.TypeLaws.{held-behind}
 use Rattle.readers.proofs.ReadLaws.{held, expected}
 use Rattle.readers.proofs.CodeLaws.{is-name}
 use mathlib.Core.Path.{refl}
-use native.Mathlib.Omega.{arith}
 use borrow.Author.Needs.{needs}
 use Rattle.units.proofs.class.Statement.{statement}
 use Rattle.units.proofs.class.Tie as tie

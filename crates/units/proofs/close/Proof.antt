@@ -1,7 +1,4 @@
 use Rattle.units.proofs.StepLaws.{close-steps}
-use Rattle.units.specs.Steps.{endedOf}
-use mathlib.Core.Path.{_∙_}
-use native.Mathlib.Omega.{arith}
 use borrow.Author.Needs.{needs}
 use Rattle.units.proofs.close.Statement.{statement}
 use Rattle.units.proofs.close.Tie as tie

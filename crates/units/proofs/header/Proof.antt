@@ -1,5 +1,4 @@
 use Rattle.units.proofs.StepLaws.{header-steps}
-use native.Mathlib.Omega.{arith}
 use borrow.Author.Needs.{needs}
 use Rattle.units.proofs.header.Statement.{statement}
 use Rattle.units.proofs.header.Tie as tie

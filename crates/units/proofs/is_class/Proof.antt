@@ -1,6 +1,4 @@
 use borrow.Author.Tests.{eq-eqb, ne-eqb}
-use native.Mathlib.Omega.{arith}
-use borrow.Author.Needs.{needs}
 use Rattle.units.proofs.is_class.Statement.{statement}
 use Rattle.units.proofs.is_class.Tie as tie
 

@@ -1,5 +1,4 @@
 use Rattle.units.proofs.StepLaws.{language-there, language-absent}
-use native.Mathlib.Omega.{arith}
 use borrow.Author.Needs.{needs}
 use Rattle.units.proofs.language_part.Statement.{statement}
 use Rattle.units.proofs.language_part.Tie as tie

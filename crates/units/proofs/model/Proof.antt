@@ -1,5 +1,4 @@
 use Rattle.units.proofs.StepLaws.{model-steps}
-use native.Mathlib.Omega.{arith}
 use borrow.Author.Needs.{needs}
 use Rattle.units.proofs.model.Statement.{statement}
 use Rattle.units.proofs.model.Tie as tie

@@ -1,5 +1,3 @@
-use native.Mathlib.Omega.{arith}
-use borrow.Author.Needs.{needs}
 use Rattle.units.proofs.opens_topic.Statement.{statement}
 use Rattle.units.proofs.opens_topic.Tie as tie
 

@@ -1,6 +1,5 @@
 use Rattle.units.proofs.StepLaws.{unit-at, at-start, at-header, at-body, at-members, at-over, over-steps}
 use Rattle.units.specs.declared.Where.the-variants.{Start, AfterHeader, Body, Members, Over}
-use native.Mathlib.Omega.{arith}
 use borrow.Author.Needs.{needs}
 use Rattle.units.proofs.read_unit.Statement.{statement}
 use Rattle.units.proofs.read_unit.Tie as tie

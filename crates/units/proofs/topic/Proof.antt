@@ -1,5 +1,4 @@
 use Rattle.units.proofs.StepLaws.{topic-steps}
-use native.Mathlib.Omega.{arith}
 use borrow.Author.Needs.{needs}
 use Rattle.units.proofs.topic.Statement.{statement}
 use Rattle.units.proofs.topic.Tie as tie

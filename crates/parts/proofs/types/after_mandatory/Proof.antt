@@ -1,7 +1,6 @@
 use Rattle.parts.proofs.TypeLaws.{semicolon, alone, not-alone}
 use Rattle.readers.proofs.ReadLaws.{is-no}
 use Rattle.rules.proofs.Tests.{fail-l, fail-r}
-use native.Mathlib.Omega.{arith}
 use borrow.Author.Needs.{needs}
 use Rattle.parts.proofs.types.after_mandatory.Statement.{statement}
 use Rattle.parts.proofs.types.after_mandatory.Tie as tie

@@ -1,6 +1,4 @@
 use borrow.Author.Tests.{le-leb, lt-leb}
-use native.Mathlib.Omega.{arith}
-use borrow.Author.Needs.{needs}
 use Rattle.parts.proofs.types.is_digit.Statement.{statement}
 use Rattle.parts.proofs.types.is_digit.Tie as tie
 

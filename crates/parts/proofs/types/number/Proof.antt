@@ -1,6 +1,4 @@
 use Rattle.parts.proofs.TypeLaws.{number-stands, number-read}
-use native.Mathlib.Omega.{arith}
-use borrow.Author.Needs.{needs}
 use Rattle.parts.proofs.types.number.Statement.{statement}
 use Rattle.parts.proofs.types.number.Tie as tie
 

@@ -1,7 +1,6 @@
 use Rattle.parts.proofs.TypeLaws.{type-text, type-numeric, type-range}
 use mathlib.Core.Bool.{true, false}
 use mathlib.Core.Path.{refl}
-use native.Mathlib.Omega.{arith}
 use borrow.Author.Needs.{needs}
 use Rattle.parts.proofs.types.plain_type.Statement.{statement}
 use Rattle.parts.proofs.types.plain_type.Tie as tie

@@ -1,7 +1,6 @@
 use Rattle.parts.proofs.TypeLaws.{range-reads}
 use Rattle.readers.proofs.ReadLaws.{held, expected}
 use Rattle.readers.proofs.CodeLaws.{is-number, is-dots}
-use native.Mathlib.Omega.{arith}
 use borrow.Author.Needs.{needs}
 use Rattle.parts.proofs.types.range_type.Statement.{statement}
 use Rattle.parts.proofs.types.range_type.Tie as tie

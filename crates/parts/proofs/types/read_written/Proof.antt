@@ -3,7 +3,6 @@ use Rattle.readers.proofs.ReadLaws.{held, expected}
 use Rattle.readers.proofs.CodeLaws.{is-word}
 use Rattle.rules.specs.Bytes.{ascii}
 use mathlib.Core.Path.{refl}
-use native.Mathlib.Omega.{arith}
 use borrow.Author.Needs.{needs}
 use Rattle.parts.proofs.types.read_written.Statement.{statement}
 use Rattle.parts.proofs.types.read_written.Tie as tie

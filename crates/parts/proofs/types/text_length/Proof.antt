@@ -1,6 +1,5 @@
 use Rattle.parts.proofs.TypeLaws.{number-stands, no-length, not-number, not-whole, long-length, good-length}
 use mathlib.Core.Path.{sym, _∙_}
-use native.Mathlib.Omega.{arith}
 use borrow.Author.Needs.{needs}
 use Rattle.parts.proofs.types.text_length.Statement.{statement}
 use Rattle.parts.proofs.types.text_length.Tie as tie

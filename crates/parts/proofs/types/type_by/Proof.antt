@@ -1,4 +1,3 @@
-use native.Mathlib.Omega.{arith}
 use borrow.Author.Needs.{needs}
 use Rattle.parts.proofs.types.type_by.Statement.{statement}
 use Rattle.parts.proofs.types.type_by.Tie as tie

@@ -1,5 +1,4 @@
 use Rattle.parts.proofs.TypeLaws.{type-enum, type-plain}
-use native.Mathlib.Omega.{arith}
 use borrow.Author.Needs.{needs}
 use Rattle.parts.proofs.types.type_of.Statement.{statement}
 use Rattle.parts.proofs.types.type_of.Tie as tie

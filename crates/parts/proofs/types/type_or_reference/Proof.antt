@@ -1,5 +1,4 @@
 use Rattle.parts.proofs.TypeLaws.{type-named, type-other}
-use native.Mathlib.Omega.{arith}
 use borrow.Author.Needs.{needs}
 use Rattle.parts.proofs.types.type_or_reference.Statement.{statement}
 use Rattle.parts.proofs.types.type_or_reference.Tie as tie

@@ -1,7 +1,5 @@
 use Rattle.parts.proofs.TypeLaws.{whole-yes, whole-no, whole-signed}
-use borrow.Author.Tests.{eq-eqb, ne-eqb}
 use mathlib.Core.Path.{sym, _∙_}
-use native.Mathlib.Omega.{arith}
 use borrow.Author.Needs.{needs}
 use Rattle.parts.proofs.types.whole_number.Statement.{statement}
 use Rattle.parts.proofs.types.whole_number.Tie as tie
