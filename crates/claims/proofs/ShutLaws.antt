@@ -4,6 +4,8 @@ use mathlib.Core.List.{List}
 use Prim.Native.Nat.{ℕ}
 use native.Mathlib.Omega.{arith}
 use lib.ListN.{length, take, getD, replicate}
+use lib.IntN.{ℤ, pos, natAbs}
+use Rattle.rules.specs.Numbers.{Read, reads, readNumber, readValue}
 use Rattle.rules.specs.Symbols.{symbolOf, symbolAt}
 use Rattle.rules.specs.Grammar.{propertiesFrom, properties, reference, extends, closeFinal, enumeration, textLength, textType, rangeType, typeOf, typeOrReference, written}
 use Rattle.rules.specs.Units.{headerUnit, modelUnit, topicUnit, classUnit, domainUnit, attributeUnit, endUnit, wordStep, bodyEnd, bodyUnit, memberUnit, lastStep, unitAt}
@@ -52,6 +54,14 @@ computed = record {
   straight-domain = refl;
 }
 
+-- 0.5 reads 1
+half : readNumber (pos 5) 1 0 ≡ reads (pos 1)
+unfolding readNumber
+half = refl
+
+unlike-reads : (v : ℤ) → reads v ≡ reads (pos 1) → natAbs v ≡ 1
+unlike-reads v e = ap (λ (r : Read). natAbs (readValue r)) e
+
 abbrev lent : List ℕ
 lent = replicate 256 0
 
@@ -93,4 +103,6 @@ shut = record {
   stepwise-domain = λ f r k. clash (sym (r .2) ∙ (answers f k stepwiseDomain ∙ computed .stepwise-domain));
   stepwise-attribute = λ f r k. clash (sym (r .2) ∙ (answers f k stepwiseAttribute ∙ computed .stepwise-attribute));
   straight-domain = λ f r k. clash (sym (computed .straight-domain) ∙ (sym (answers f k straightDomain) ∙ r .2));
+  unrounded = λ f r k. let z : _≡_ {A = ℕ} 5 1 = unlike-reads (pos 5) (sym (r (pos 5) 1 0 (omega arith) (omega arith) (omega arith)) ∙ (k (pos 5) 1 0 ∙ half)) in omega arith;
+  cut-off = λ f r k. let z : _≡_ {A = ℕ} 0 1 = unlike-reads (pos 0) (sym (r (pos 5) 1 0 (omega arith) (omega arith) (omega arith)) ∙ (k (pos 5) 1 0 ∙ half)) in omega arith;
 }

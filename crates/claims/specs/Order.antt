@@ -4,7 +4,8 @@ use mathlib.Core.List.{List, [], _∷_}
 use Rattle.claims.specs.Cases.{Case, passes, gives, lent}
 
 -- 7 stands alone in the header and 8 in END, where only 19 can follow; 14 is of ranges and lengths, 15 of enumerations without a base and 16
--- of those with one, so 14 meets 16, and 15 meets 13 and 19
+-- of those with one, so 14 meets 16, and 15 meets 13 and 19. 4 by count takes a text of 257 attributes, which the prover does not compute to its
+-- end: the stored cases have it, before each of the others
 abbrev pub neighbours : List Case
 neighbours =
     lent 17 "CLASS C=END D;" 8 52

@@ -1,8 +1,12 @@
--- Document 01, "What a reader may rely on" and "Errors that look right": ways to check a text that the promise of `check` shuts out.
+-- Document 01, "What a reader may rely on" and "Errors that look right": ways to check a text, and to read a number, that the promises shut
+-- out.
 use mathlib.Core.Path.{_≡_}
 use mathlib.Core.List.{List}
-use Prim.Native.Nat.{ℕ}
+use Prim.Native.Nat.{ℕ, _-_, _≤_, _<_, _^_}
 use lib.ListN.{length, take, replicate}
+use lib.IntN.{ℤ, natAbs}
+use lib.Signed.{shrZ}
+use Rattle.rules.specs.Numbers.{Read, reads, readNumber}
 use Rattle.rules.specs.Book.{definitions}
 use Rattle.rules.specs.Show.{recordsFrom}
 use Rattle.rules.specs.Check.{accepted, refusal, Checked}
@@ -62,6 +66,20 @@ stepwiseAttribute = modelOf "DOMAIN A=1..7;B EXTENDS A=0.5..7.0;C EXTENDS B=0.45
 abbrev pub straightDomain : List ℕ
 straightDomain = modelOf "DOMAIN A=1..7;C EXTENDS A=0.45..7.00;"
 
+-- ---- what is answered for a number with its decimals, read at a base's decimals
+abbrev pub ReadingWay : Type 0
+ReadingWay = ℤ → ℕ → ℕ → Read
+
+abbrev pub KeepsReading : ReadingWay → Type 0
+KeepsReading f = (v : ℤ) (d b : ℕ) → f v d b ≡ readNumber v d b
+
+-- where the base has fewer decimals, the digits stay as they are, or those too many are left away
+abbrev pub Unrounded : ReadingWay → Type 0
+Unrounded f = (v : ℤ) (d b : ℕ) → b < d → d ≤ 17 → natAbs v < 10 ^ 18 → f v d b ≡ reads v
+
+abbrev pub CutOff : ReadingWay → Type 0
+CutOff f = (v : ℤ) (d b : ℕ) → b < d → d ≤ 17 → natAbs v < 10 ^ 18 → f v d b ≡ reads (shrZ v (10 ^ (d - b)))
+
 pub record Shut : Type 0 where
   -- there is a way that keeps it
   pub open-way : (f : Way) × Keeps f
@@ -75,3 +93,5 @@ pub record Shut : Type 0 where
   pub stepwise-domain : ShutOut (Refuses stepwiseDomain)
   pub stepwise-attribute : ShutOut (Refuses stepwiseAttribute)
   pub straight-domain : ShutOut (Accepts straightDomain)
+  pub unrounded : (f : ReadingWay) → Unrounded f → ¬ KeepsReading f
+  pub cut-off : (f : ReadingWay) → CutOff f → ¬ KeepsReading f
