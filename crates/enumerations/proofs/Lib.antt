@@ -13,3 +13,6 @@ pub mod HoldLaws
 pub mod TwiceLaws
 pub mod KeptLaws
 pub mod CopyLaws
+pub mod TableLaws
+pub mod GatherLaws
+pub mod CheckedLaws

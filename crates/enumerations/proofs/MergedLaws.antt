@@ -65,7 +65,7 @@ laid-after true o o₁ o₂ i r h l s e (q, f) =
 laid-after false o o₁ o₂ i r h l s e q = q
 
 pub merged-laid : (t o x : List ℕ) (n base own i : ℕ) (o₁ o₂ : List ℕ) (r : Laid) (vb vx : Inner) (w : Walk) (k : ℕ) →
-    n ≤ length o → n ≤ i → i ≤ 65535 → length x ≤ 262144 → vb ≡ innerAt (take n o) base → vx ≡ innerAt x own → Starts vb vx w →
+    n ≤ length o → n ≤ i → i ≤ 65546 → length x ≤ 262144 → vb ≡ innerAt (take n o) base → vx ≡ innerAt x own → Starts vb vx w →
     o₁ ≡ putAt o i (13 ∷ bit (vb .last || vx .last) 1 ∷ []) → n * (length x + 1) < k →
     RanTo (runFrom k t (take n o₁) x w) i (record { bytes = 2; records = 1 }) o₁ o₂ r →
     (b e : Enum) → Stands t (take n o) b base → Stands t x e own → Merges b e i o o₂ r
@@ -83,7 +83,7 @@ merged-laid t o x n base own i o₁ o₂ r vb vx w k hn hi si sx eb ex st eo hk 
     laid-after (enumFits (merge b e) b) o o₁ o₂ i r (openRecord (merge b e)) (elementRecords (merge b e)) refl (eo ∙ rw f) (rw (base-is, run) at ran)
 
 -- the steps that are enough
-pub fuel-small : (n l : ℕ) → n ≤ 65535 → l ≤ 262144 → n * (l + 1) ≤ 65535 * 262145
+pub fuel-small : (n l : ℕ) → n ≤ 65546 → l ≤ 262144 → n * (l + 1) ≤ 65546 * 262145
 fuel-small n l h g = mul-le-mul h (let q : l + 1 ≤ 262145 = omega arith in q)
 
 pub lt-add-one : (n : ℕ) → n < n + 1

@@ -58,35 +58,47 @@ before-before : (l m : List Record) (r : Ran) → before l (before m r) ≡ befo
 before-before l m (wrote n) = ap wrote (sym (append-assoc l m n))
 before-before l m barred = refl
 
+-- ---- what holds of any run: nothing is written past the buffer, and there is room to count
+pub record Bounded (o₀ : List ℕ) (i : ℕ) (o : List ℕ) (s : Size) (k : ℕ) (w : Walk) : Type 0 where
+  pub same-size : length o ≡ length o₀
+  pub fewer : s .records ≤ s .bytes
+  pub deep : w .depth ≤ 8
+  pub room : i + s .bytes + 8 * k + 8 < 18446744073709551616
+
+pub bounded-step : (o₀ : List ℕ) (i : ℕ) (o : List ℕ) (s : Size) (k : ℕ) (w : Walk) → Bounded o₀ i o s k w → 0 < k → (e : Emit) (o₁ : List ℕ) (s₁ : Size) (w₁ : Walk) →
+    s₁ ≡ sizeWith s (emitted e) → o₁ ≡ putAt o (i + s .bytes) (bytes (emitted e)) → w₁ .depth ≤ 8 → Bounded o₀ i o₁ s₁ (k - 1) w₁
+bounded-step o₀ i o s k w B z e o₁ s₁ w₁ es eo dw =
+    let l : List Record = emitted e in
+    let h = emit-short e in
+    let sb : s₁ .bytes ≡ s .bytes + length (bytes l) = ap (λ (y : Size). y .bytes) es in
+    let sr : s₁ .records ≡ s .records + length l = ap (λ (y : Size). y .records) es in
+    record {
+      same-size = rw eo (length-put o (i + s .bytes) (bytes l) ∙ B .same-size);
+      fewer = omega (arith, B .fewer);
+      deep = dw;
+      room = omega (arith, B .room);
+    }
+
 -- ---- the run so far: `put` is written, and the rest of the run is that of the walk w with k steps left
 pub record SoFar (t b x o₀ : List ℕ) (n i : ℕ) (s₀ : Size) (k₀ : ℕ) (w₀ : Walk) (o : List ℕ) (s : Size) (k : ℕ) (w : Walk) : Type 0 where
   pub put : List Record
   pub rest : runFrom k₀ t b x w₀ ≡ before put (runFrom k t b x w)
   pub in-bytes : s .bytes ≡ s₀ .bytes + length (bytes put)
   pub in-records : s .records ≡ s₀ .records + length put
-  pub fewer : s .records ≤ s .bytes
-  pub same-size : length o ≡ length o₀
   pub base : take n o ≡ b
   pub first : n ≤ i
   pub out : i + s .bytes ≤ length o₀ → o ≡ splice o₀ (i + s₀ .bytes) (bytes put)
-  pub deep : w .depth ≤ 8
-  pub room : i + s .bytes + 8 * k + 8 < 18446744073709551616
 
-pub far-start : (t x o : List ℕ) (n i : ℕ) (s : Size) (k : ℕ) (w : Walk) → n ≤ i → w .depth ≤ 8 → s .records ≤ s .bytes →
-    i + s .bytes + 8 * k + 8 < 18446744073709551616 → SoFar t (take n o) x o n i s k w o s k w
-far-start t x o n i s k w h d f r =
+pub far-start : (t x o : List ℕ) (n i : ℕ) (s : Size) (k : ℕ) (w : Walk) → n ≤ i → SoFar t (take n o) x o n i s k w o s k w
+far-start t x o n i s k w h =
     record {
       put = [];
       rest = sym (before-none (runFrom k t (take n o) x w));
       in-bytes = omega arith;
       in-records = omega arith;
-      fewer = f;
-      same-size = refl;
       base = refl;
       first = h;
       out = λ _. sym (splice-none o (i + s .bytes));
-      deep = d;
-      room = r;
     }
 
 pub size-is : {a b c d : ℕ} → a ≡ c → b ≡ d → _≡_ {A = Size} (record { bytes = a; records = b }) (record { bytes = c; records = d })
@@ -127,11 +139,10 @@ module _ (t b x o₀ : List ℕ) (n i : ℕ) (s₀ : Size) (k₀ : ℕ) (w₀ : 
         go zero h = absurd (omega arith)
         go (suc k) h = run-go k t b x w m d e g ∙ rw sub-one
 
-    pub far-step : goes (m .emit) ≡ true → (o₁ : List ℕ) (s₁ : Size) (w₁ : Walk) → s₁ ≡ sizeWith s (emitted (m .emit)) →
-        o₁ ≡ putAt o (i + s .bytes) (bytes (emitted (m .emit))) → w₁ ≡ movedBy w m → w₁ .depth ≤ 8 → SoFar t b x o₀ n i s₀ k₀ w₀ o₁ s₁ (k - 1) w₁
-    far-step g o₁ s₁ w₁ es eo ew dw =
+    pub far-step : length o ≡ length o₀ → goes (m .emit) ≡ true → (o₁ : List ℕ) (s₁ : Size) (w₁ : Walk) → s₁ ≡ sizeWith s (emitted (m .emit)) →
+        o₁ ≡ putAt o (i + s .bytes) (bytes (emitted (m .emit))) → w₁ ≡ movedBy w m → SoFar t b x o₀ n i s₀ k₀ w₀ o₁ s₁ (k - 1) w₁
+    far-step same-size g o₁ s₁ w₁ es eo ew =
         let l : List Record = emitted (m .emit) in
-        let h = emit-short (m .emit) in
         let sb : s₁ .bytes ≡ s .bytes + length (bytes l) = ap (λ (y : Size). y .bytes) es in
         let sr : s₁ .records ≡ s .records + length l = ap (λ (y : Size). y .records) es in
         let bl : bytes (S .put ++ l) ≡ bytes (S .put) ++ bytes l = bytes-append (S .put) l in
@@ -140,14 +151,10 @@ module _ (t b x o₀ : List ℕ) (n i : ℕ) (s₀ : Size) (k₀ : ℕ) (w₀ : 
           rest = step-rest g ∙ rw ew;
           in-bytes = sb ∙ rw (bl, length-append, S .in-bytes) (omega arith);
           in-records = sr ∙ rw (length-append, S .in-records) (omega arith);
-          fewer = omega (arith, S .fewer);
-          same-size = rw eo (length-put o (i + s .bytes) (bytes l) ∙ S .same-size);
           base = rw eo (take-put o n (i + s .bytes) (bytes l) (omega (arith, S .first)) ∙ S .base);
           first = S .first;
           out = λ f. let q : i + s .bytes + length (bytes l) ≤ length o₀ = omega arith in
               let u : o ≡ splice o₀ (i + s₀ .bytes) (bytes (S .put)) = S .out (omega arith) in
-              eo ∙ put-fits o (i + s .bytes) (bytes l) (rw (S .same-size) q) ∙ rw (u, bl)
+              eo ∙ put-fits o (i + s .bytes) (bytes l) (rw same-size q) ∙ rw (u, bl)
               (splice-splice o₀ (i + s₀ .bytes) (i + s .bytes) (bytes (S .put)) (bytes l) (omega (arith, S .in-bytes)) (omega arith));
-          deep = dw;
-          room = omega (arith, S .room);
         }

@@ -13,10 +13,10 @@ use Rattle.rules.proofs.Tests.{never, not-both, or-fails, is-false}
 use Rattle.rules.proofs.ByteLaws.{same-refl}
 use Rattle.book.specs.declared.Part.{Part}
 use Rattle.book.specs.declared.Found.the-variants.{At, Nothing}
-use Rattle.enumerations.specs.Lists.{isElement, isOpening, written, findFrom}
+use Rattle.enumerations.specs.Lists.{isElement, isOpening, pastInner, written, sameNames, findFrom}
 use Rattle.enumerations.specs.Standing.{plain, DeepIn, Deep, partOf, endOf, InsideBy, ListAt, InsideAt}
 use Rattle.enumerations.specs.Doubling.{checkedOf, PastIn, foundOf}
-use Rattle.enumerations.proofs.StandLaws.{nextOf, next-gt, list-elements, found, find-elements}
+use Rattle.enumerations.proofs.StandLaws.{nextOf, next-gt, end-gt, list-elements, past-inside, same-names, found, find-elements}
 use Rattle.enumerations.specs.declared.twice.Checked.{Checked}
 use Rattle.enumerations.specs.declared.twice.Checked.the-variants.{Twice, Past}
 
@@ -72,6 +72,8 @@ module _ (t s : List ℕ) where
       pub same-twice : twice e [] ≡ twice (elem n i r) seen
       pub fresh : (m : List ℕ) → isOneOf m seen ≡ false → found t s m e p ≡ found t s m (elem n i r) q
       pub old : (m : List ℕ) → isOneOf m seen ≡ true → found t s m e p ≤ q
+      pub own-name : sameNames t (written s q) (written s q) ≡ true
+      pub within : q + 6 ≤ endOf e p
 
     pub here : Walked k e p q → ListAt t s e p → isElement s q ≡ true → Here
     here W l h = go (W .rest) (W .stands) (W .deep) (W .ends) (W .same-twice) (W .fresh)
@@ -95,6 +97,8 @@ module _ (t s : List ℕ) where
               same-twice = v;
               fresh = w;
               old = W .old;
+              own-name = rw (a .0 .name) (same-names t s n n (a .0 .in-text) (a .0 .in-text) ∙ same-refl (n .bytes));
+              within = omega (arith, next-gt i q, end-gt r (nextOf i q));
             }
 
     module _ (H : Here) (f : ℕ) (ef : f ≡ findFrom (length s + 1) t s p (written s q)) where
@@ -159,6 +163,8 @@ module _ (t s : List ℕ) where
           pub deep : Deep (k - 1) i
           pub doubled : (o : ℕ) → twice i [] ≡ some o → twice e [] ≡ some o
           pub goes : twice i [] ≡ none → Walked k e p (endOf i (q + 6 + 2))
+          pub past : endOf i (q + 6 + 2) ≡ pastInner s (q + 6)
+          pub within : endOf i (q + 6 + 2) ≤ endOf e p
 
         pub inner-list : isOpening s (q + 6) ≡ true → Inner
         inner-list o = go (plain (H .i)) refl (H .inside) (H .deep-in)
@@ -173,6 +179,8 @@ module _ (t s : List ℕ) where
                   deep = d .1;
                   doubled = λ o z. passed ∙ rw z;
                   goes = λ z. let w : nextOf (H .i) q ≡ endOf (H .i) (q + 6 + 2) = rw a in rw w at (further z);
+                  past = sym (past-inside t s (H .i) (q + 6) (H .inside) ∙ rw a);
+                  within = let w : nextOf (H .i) q ≡ endOf (H .i) (q + 6 + 2) = rw a in omega (arith, end-gt (H .r) (nextOf (H .i) q), H .ends);
                 }
 
   pub walked-at : (k : ℕ) (e : Enum) (p : ℕ) {q r : ℕ} → q ≡ r → Walked k e p r → Walked k e p q

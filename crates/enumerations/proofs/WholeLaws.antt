@@ -148,7 +148,7 @@ module _ (t b x : List ℕ) (lb : length b < nowhere) (lx : length x < nowhere) 
       go false e m em S N ih = run-stop k t b x w m d em (ap goes (S .emit) ∙ e)
 
 -- ---- how large the trees are
-end-in : (t s : List ℕ) (e : Enum) (p : ℕ) → ListAt t s e p → endOf e p ≤ length s
+pub end-in : (t s : List ℕ) (e : Enum) (p : ℕ) → ListAt t s e p → endOf e p ≤ length s
 end-in t s (end f) p h = omega (arith, h .0)
 end-in t s (elem n i r) p h = end-in t s r (nextOf i p) (h .2)
 

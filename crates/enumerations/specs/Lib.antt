@@ -5,3 +5,4 @@ pub mod Standing
 pub mod Merging
 pub mod Holding
 pub mod Doubling
+pub mod Tables

@@ -7,12 +7,15 @@ ghost use Rattle.rules.specs.Enumerations.{Enum, fitsIn, enumFits};
 ghost use Rattle.enumerations.specs.Lists.{isElement};
 ghost use Rattle.enumerations.specs.Standing.{Deep, Stands};
 ghost use Rattle.enumerations.specs.Holding.{heldOf, pairAt, Reads};
+ghost use Rattle.enumerations.specs.Tables.{Sized, Gathered};
 use crate::lists::Inner;
 use crate::lists::NOWHERE;
-use crate::lists::find;
 use crate::lists::inner_at;
 use crate::lists::is_element;
 use crate::lists::past_inner;
+use crate::table::Grid;
+use crate::table::find_in;
+use crate::twice::gather;
 use book::written_name;
 
 // It fits, or not, or as the two lists say.
@@ -42,11 +45,11 @@ fn held_inside(s: &[u8], own: Inner, base: Inner) -> Held
 }
 
 // The first's element at a place, held against the second's list: one that this lacks is added to it.
-fn held_element(text: &[u8], s: &[u8], at: usize, base: Inner) -> Pair
-    requires { ⌜ at + 6 ≤ length (now s) ⌝ }
-    ensures { λ r. ⌜ r ≡ pairAt (now (text .entry)) (now (s .entry)) at base ⌝ }
+fn held_element(text: &[u8], s: &[u8], at: usize, base: Inner, table: &[u32], g: Grid) -> Pair
+    requires { ⌜ (at + 6 ≤ length (now s)) × Sized g (now table) ⌝ }
+    ensures { λ r. ⌜ (Gathered (now (text .entry)) (now (s .entry)) g (now (table .entry)) → r ≡ pairAt (now (text .entry)) (now (s .entry)) at base) ⌝ }
 {
-    let m = find(text, s, base.list, written_name(s, at));
+    let m = find_in(text, s, table, g, base.list, written_name(s, at));
     if m < NOWHERE {
         let i = inner_at(s, at + 6);
         let j = inner_at(s, m);
@@ -84,13 +87,21 @@ fn others_fit(own: bool, base: bool) -> bool
 }
 
 // A list of the first held against a list of the second, nested at most `left` deep inside.
-fn fits_in(text: &[u8], s: &[u8], own: Inner, base: Inner, left: usize) -> bool
-    requires { ⌜ length (now s) < 4294967295 ⌝ }
-    ensures { λ r. ⌜ ((e b : Enum) → Reads (now (text .entry)) (now (s .entry)) e own → Reads (now (text .entry)) (now (s .entry)) b base → Deep left e → r ≡ fitsIn e b) ⌝ }
+fn fits_in(
+    text: &[u8],
+    s: &[u8],
+    own: Inner,
+    base: Inner,
+    left: usize,
+    table: &[u32],
+    g: Grid,
+) -> bool
+    requires { ⌜ (length (now s) < 4294967295) × Sized g (now table) ⌝ }
+    ensures { λ r. ⌜ (Gathered (now (text .entry)) (now (s .entry)) g (now (table .entry)) → (e b : Enum) → Reads (now (text .entry)) (now (s .entry)) e own → Reads (now (text .entry)) (now (s .entry)) b base → Deep left e → r ≡ fitsIn e b) ⌝ }
 {
     let mut at = own.list;
     while is_element(s, at) {
-        let p = held_element(text, s, at, base);
+        let p = held_element(text, s, at, base, table, g);
         let held = p.held;
         at = past_inner(s, at + 6);
         match held {
@@ -100,7 +111,7 @@ fn fits_in(text: &[u8], s: &[u8], own: Inner, base: Inner, left: usize) -> bool
                 if left == 0 {
                     return false;
                 }
-                if fits_in(text, s, p.own, p.base, left - 1) {
+                if fits_in(text, s, p.own, p.base, left - 1, table, g) {
                     continue;
                 }
                 return false;
@@ -110,7 +121,7 @@ fn fits_in(text: &[u8], s: &[u8], own: Inner, base: Inner, left: usize) -> bool
     others_fit(own.last, base.last)
 }
 
-// The enumeration at `own` held against the one at `base`.
+// The enumeration at `own` held against the one at `base`, which is gathered: the cost is that of `merged`.
 pub fn fits(text: &[u8], s: &[u8], own: usize, base: usize, table: &mut [u32]) -> bool
     requires { ⌜ (length (now s) < 4294967295) × (length (now s) + 6 ≤ 2 * length (now table)) ⌝ }
     ensures { λ r. ⌜ ((e b : Enum) → Stands (now (text .entry)) (now (s .entry)) e own → Stands (now (text .entry)) (now (s .entry)) b base → r ≡ enumFits e b) ⌝ }
@@ -121,6 +132,9 @@ pub fn fits(text: &[u8], s: &[u8], own: usize, base: usize, table: &mut [u32]) -
     match held {
         Held::Fits => true,
         Held::Misfit => false,
-        Held::Deeper => fits_in(text, s, i, j, 7),
+        Held::Deeper => {
+            let g = gather(text, s, base, table);
+            fits_in(text, s, i, j, 7, table, g)
+        }
     }
 }

@@ -115,7 +115,7 @@ pub fn inner_at(s: &[u8], at: usize) -> Inner
     }
 }
 
-fn is_within(size: usize, p: Part) -> bool
+pub fn is_within(size: usize, p: Part) -> bool
     ensures { λ r. ⌜ r ≡ leb (p .start + p .len) size ⌝ }
 {
     if size < p.len {

@@ -10,13 +10,16 @@ ghost use Rattle.enumerations.specs.Steps.{goes, emitted, elementMove, s
 ghost use Rattle.enumerations.specs.Walks.{topOf, movedBy, runFrom, RanTo, Starts};
 ghost use Rattle.enumerations.specs.Standing.{Stands};
 ghost use Rattle.enumerations.specs.Merging.{Merges};
+ghost use Rattle.enumerations.specs.Tables.{Sized, Gathered};
 use crate::lists::Inner;
 use crate::lists::NOWHERE;
 use crate::lists::Size;
-use crate::lists::find;
 use crate::lists::inner_at;
 use crate::lists::is_element;
 use crate::lists::past_inner;
+use crate::table::Grid;
+use crate::table::find_in;
+use crate::twice::gather;
 use book::Part;
 use book::written_name;
 
@@ -50,6 +53,12 @@ pub enum Turn {
     Go,
     Enter,
     Leave,
+}
+
+// Of the tables of the extension's elements and of the base's.
+pub struct Grids {
+    pub own: Grid,
+    pub base: Grid,
 }
 
 pub struct Move {
@@ -107,14 +116,15 @@ fn shared(i: Inner, j: Inner, name: Part, next: Position) -> Move
 }
 
 // A step while the base's elements are written, under their own names.
-fn copying(text: &[u8], b: &[u8], x: &[u8], p: Position) -> Move
-    ensures { λ r. ⌜ r ≡ copyMove (now (text .entry)) (now (b .entry)) (now (x .entry)) p ⌝ }
+fn copying(text: &[u8], b: &[u8], x: &[u8], p: Position, owns: &[u32], g: Grid) -> Move
+    requires { ⌜ Sized g (now owns) ⌝ }
+    ensures { λ r. ⌜ (Gathered (now (text .entry)) (now (x .entry)) g (now (owns .entry)) → r ≡ copyMove (now (text .entry)) (now (b .entry)) (now (x .entry)) p) ⌝ }
 {
     let at = p.at;
     if is_element(b, at) {
         let name = written_name(b, at);
         let i = inner_at(b, at + 6);
-        let j = inner_at(x, find(text, x, p.own, name));
+        let j = inner_at(x, find_in(text, x, owns, g, p.own, name));
         let next = Position {
             base: p.base,
             at: past_inner(b, at + 6),
@@ -139,8 +149,9 @@ fn copying(text: &[u8], b: &[u8], x: &[u8], p: Position) -> Move
 }
 
 // A step while the extension's new elements are written.
-fn adding(text: &[u8], b: &[u8], x: &[u8], p: Position) -> Move
-    ensures { λ r. ⌜ r ≡ addMove (now (text .entry)) (now (b .entry)) (now (x .entry)) p ⌝ }
+fn adding(text: &[u8], b: &[u8], x: &[u8], p: Position, bases: &[u32], g: Grid) -> Move
+    requires { ⌜ Sized g (now bases) ⌝ }
+    ensures { λ r. ⌜ (Gathered (now (text .entry)) (now (b .entry)) g (now (bases .entry)) → r ≡ addMove (now (text .entry)) (now (b .entry)) (now (x .entry)) p) ⌝ }
 {
     let at = p.at;
     if is_element(x, at) {
@@ -152,7 +163,7 @@ fn adding(text: &[u8], b: &[u8], x: &[u8], p: Position) -> Move
             adding: true,
             last: p.last,
         };
-        if find(text, b, p.base, name) < NOWHERE {
+        if find_in(text, b, bases, g, p.base, name) < NOWHERE {
             return Move {
                 emit: Emit::Quiet,
                 turn: Turn::Go,
@@ -192,13 +203,15 @@ fn added(i: Inner, name: Part, next: Position) -> Move
     element_move(name, i.there, i.last, next, child)
 }
 
-fn look(text: &[u8], b: &[u8], x: &[u8], p: Position) -> Move
-    ensures { λ r. ⌜ r ≡ lookMove (now (text .entry)) (now (b .entry)) (now (x .entry)) p ⌝ }
+fn look(text: &[u8], b: &[u8], x: &[u8], p: Position, owns: &[u32], bases: &[u32], g: Grids) -> Move
+    requires { ⌜ Sized (g .own) (now owns) × Sized (g .base) (now bases) ⌝ }
+    ensures { λ r. ⌜ (Gathered (now (text .entry)) (now (x .entry)) (g .own) (now (owns .entry)) → Gathered (now (text .entry)) (now (b .entry)) (g .base) (now (bases .entry))
+        → r ≡ lookMove (now (text .entry)) (now (b .entry)) (now (x .entry)) p) ⌝ }
 {
     if p.adding {
-        return adding(text, b, x, p);
+        return adding(text, b, x, p, bases, g.base);
     }
-    copying(text, b, x, p)
+    copying(text, b, x, p, owns, g.own)
 }
 
 impl Walk {
@@ -345,10 +358,15 @@ fn run(
     begun: Size,
     fuel: usize,
     first: Walk,
+    owns: &[u32],
+    bases: &[u32],
+    g: Grids,
 ) -> Laid
     requires { ⌜ (n ≤ start) × (n ≤ length (now out)) × (first .depth ≤ 8) × (begun .records ≤ begun .bytes) ⌝ }
     requires { ⌜ start + begun .bytes + 8 * fuel + 8 < 18446744073709551616 ⌝ }
-    ensures { λ r. ⌜ RanTo (runFrom fuel (now (text .entry)) (take n (now (out .entry))) (now (x .entry)) first) start begun (now (out .entry)) (now (out .exit)) r ⌝ }
+    requires { ⌜ Sized (g .own) (now owns) × Sized (g .base) (now bases) ⌝ }
+    ensures { λ r. ⌜ (Gathered (now (text .entry)) (now (x .entry)) (g .own) (now (owns .entry)) → Gathered (now (text .entry)) (take n (now (out .entry))) (g .base) (now (bases .entry))
+        → RanTo (runFrom fuel (now (text .entry)) (take n (now (out .entry))) (now (x .entry)) first) start begun (now (out .entry)) (now (out .exit)) r) ⌝ }
 {
     let mut w = first;
     let mut size = begun;
@@ -358,7 +376,7 @@ fn run(
         if d == 0 {
             return Laid::Whole(size);
         }
-        let m = look(text, &out[..n], x, w.top());
+        let m = look(text, &out[..n], x, w.top(), owns, bases, g);
         let e = m.emit;
         if is_barred(e) {
             return Laid::Misfit;
@@ -387,6 +405,8 @@ fn first_walk(b: Inner, o: Inner) -> Walk
 }
 
 // The enumeration at `base` in the first n bytes of `out`, merged with the one at `own` in the records x, written at `start` where it fits.
+// Both are gathered; then each record of either takes a few steps, at most one more for each list around it, and each element a look into
+// the other's table.
 pub fn merged(
     text: &[u8],
     out: &mut [u8],
@@ -398,11 +418,15 @@ pub fn merged(
     own_table: &mut [u32],
     base_table: &mut [u32],
 ) -> Laid
-    requires { ⌜ (n ≤ start) × (n ≤ length (now out)) × (start ≤ 65535) × (length (now x) ≤ 262144) ⌝ }
+    requires { ⌜ (n ≤ start) × (n ≤ length (now out)) × (start ≤ 65546) × (length (now x) ≤ 262144) ⌝ }
     requires { ⌜ (length (now x) + 6 ≤ 2 * length (now «own_table»)) × (n + 6 ≤ 2 * length (now «base_table»)) ⌝ }
     ensures { λ r. ⌜ ((b e : Enum) → Stands (now (text .entry)) (take n (now (out .entry))) b base → Stands (now (text .entry)) (now (x .entry)) e own →
         Merges b e start (now (out .entry)) (now (out .exit)) r) ⌝ }
 {
+    let g = Grids {
+        own: gather(text, x, own, own_table),
+        base: gather(text, &out[..n], base, base_table),
+    };
     let b = inner_at(&out[..n], base);
     let o = inner_at(x, own);
     let opening = [13, flag(either(b.last, o.last))];
@@ -412,5 +436,17 @@ pub fn merged(
         records: 1,
     };
     let fuel = n * (x.len() + 1) + 1;
-    run(text, out, n, x, start, begun, fuel, first_walk(b, o))
+    run(
+        text,
+        out,
+        n,
+        x,
+        start,
+        begun,
+        fuel,
+        first_walk(b, o),
+        own_table,
+        base_table,
+        g,
+    )
 }

@@ -1,14 +1,15 @@
-use borrow.Author.Needs.{needs}
-use native.Mathlib.Omega.{arith}
 use mathlib.Core.Path.{sym, ap, _∙_}
 use Prim.Native.Nat.{ℕ, _-_, _<_}
 use lib.ListN.{length}
 use Rattle.rules.specs.Enumerations.{Enum, fitsIn}
 use Rattle.enumerations.specs.Standing.{Deep}
 use Rattle.enumerations.specs.Holding.{Reads}
+use Rattle.enumerations.specs.Tables.{Gathered}
 use Rattle.enumerations.specs.declared.held.Held.{Held}
 use Rattle.enumerations.proofs.ListLaws.{element-in}
 use Rattle.enumerations.proofs.HoldLaws.{by, Rest, rest-start, stepped, finished}
+use native.Mathlib.Omega.{arith}
+use borrow.Author.Needs.{needs}
 use Prim.Native.Nat.{ℕ, _<_}
 use borrow.Fn.Kinds.{In}
 use borrow.Fn.PlainCycle.{Measures, is, falls, and}
@@ -22,14 +23,14 @@ use Rattle.enumerations.proofs.lists.past_inner.Reads as past-inner-rea
 use Rattle.enumerations.proofs.held.+fits_in.{statement}
 use Rattle.enumerations.proofs.held.+fits_in.Tie.{close}
 
-abbrev μ-fits-in : Measures 2 fits-in-kinds.ps ℕ
+abbrev μ-fits-in : Measures 3 fits-in-kinds.ps ℕ
 μ-fits-in κs a = a .1 .1 .1 .1 .0
 
-abbrev fits-in-at : ℕ → In 2 fits-in-kinds.ps
-fits-in-at t = and 2 fits-in-kinds.ps (is 2 fits-in-kinds.ps μ-fits-in t) fits-in.Pre
+abbrev fits-in-at : ℕ → In 3 fits-in-kinds.ps
+fits-in-at t = and 3 fits-in-kinds.ps (is 3 fits-in-kinds.ps μ-fits-in t) fits-in.Pre
 
-abbrev fits-in-below : ℕ → In 2 fits-in-kinds.ps
-fits-in-below t = and 2 fits-in-kinds.ps (falls 2 fits-in-kinds.ps _<_ μ-fits-in t) fits-in.Pre
+abbrev fits-in-below : ℕ → In 3 fits-in-kinds.ps
+fits-in-below t = and 3 fits-in-kinds.ps (falls 3 fits-in-kinds.ps _<_ μ-fits-in t) fits-in.Pre
 
 -- what the callees ask and ensure
 abbrev calls : ℕ → fits-in-lts.Claims
@@ -47,16 +48,17 @@ calls t = (
 )
 
 abbrev fits-in-Inv-loop : fits-in-lts.InvT-loop
-fits-in-Inv-loop text s own base left at₀ at = (e b : Enum) → Reads text s e own → Reads text s b base → Deep left e → Rest text s left e b at
+fits-in-Inv-loop text s own base left table g at₀ at =
+    Gathered text s g table → (e b : Enum) → Reads text s e own → Reads text s b base → Deep left e → Rest text s left e b at
 
 abbrev fits-in-μ-loop : fits-in-lts.MeasureT-loop
-fits-in-μ-loop text s own base left at₀ at = length s - at
+fits-in-μ-loop text s own base left table g at₀ at = length s - at
 
 fits-in-loop-holds : (t : ℕ) → fits-in-lts.Need-loop-holds (calls t) (fits-in-at t) fits-in.Post fits-in-Inv-loop fits-in-μ-loop
-fits-in-loop-holds t c = λ e b u w d. rest-start _ _ _ e b _ u d
+fits-in-loop-holds t c = λ G e b u w d. rest-start _ _ _ e b _ u d
 
 fits-in-held-element-requires : (t : ℕ) → fits-in-lts.Need-held-element-requires (calls t) (fits-in-at t) fits-in.Post fits-in-Inv-loop fits-in-μ-loop
-fits-in-held-element-requires t c κs = element-in _ _ (sym (c .before .is-element .ensures) ∙ c .if1 .taken) .0
+fits-in-held-element-requires t c κs = (element-in _ _ (sym (c .before .is-element .ensures) ∙ c .if1 .taken) .0, c .before .before .before .before .before .before .pre .1 .1)
 
 fits-in-add-past-inner : (t : ℕ) → fits-in-lts.Need-add-past-inner (calls t) (fits-in-at t) fits-in.Post fits-in-Inv-loop fits-in-μ-loop
 fits-in-add-past-inner t c = omega (arith, element-in _ _ (sym (c .before .before .is-element .ensures) ∙ c .before .if1 .taken))
@@ -66,47 +68,40 @@ fits-in-loop-less t c = omega (arith, element-in _ _ (sym (c .before .before .be
 
 fits-in-loop-again : (t : ℕ) → fits-in-lts.Need-loop-again (calls t) (fits-in-at t) fits-in.Post fits-in-Inv-loop fits-in-μ-loop
 fits-in-loop-again t c =
-    let a = c .before .before .before .before .before .before .before .before .before .args in
-    λ e b u w d. let S = stepped (a .text .now) (a .s .now) (c .before .before .before .before .before .before .before .before .before .pre .1) (a .left) e b (c .before .before .before .before .before .before .loop .at) (c .before .before .past-inner .result) (a .base) (c .before .before .before .held-element .result) (c .before .before .before .before .before .before .loop .inv e b u w d) (sym (c .before .before .before .before .before .is-element .ensures) ∙ c .before .before .before .before .if1 .taken) w (c .before .before .before .held-element .ensures) (c .before .before .past-inner .ensures .0) in
-    S .goes (ap (λ (k : Held). by k (fitsIn (S .i) (S .j))) (c .enum-told .given .1))
+    let a = c .before .before .before .before .before .before .before .before .before .before .args in
+    λ G e b u w d. let S = stepped (a .text .now) (a .s .now) (c .before .before .before .before .before .before .before .before .before .before .pre .1 .0) (a .left) e b (c .before .before .before .before .before .before .loop .at) (c .before .before .past-inner .result) (a .base) (c .before .before .before .held-element .result) (c .before .before .before .before .before .before .loop .inv G e b u w d) (sym (c .before .before .before .before .before .is-element .ensures) ∙ c .before .before .before .before .if1 .taken) w (c .before .before .before .held-element .ensures G) (c .before .before .past-inner .ensures .0) in S .goes (ap (λ (k : Held). by k (fitsIn (S .i) (S .j))) (c .enum-told .given .1))
 
 fits-in-returns : (t : ℕ) → fits-in-lts.Need-returns (calls t) (fits-in-at t) fits-in.Post fits-in-Inv-loop fits-in-μ-loop
 fits-in-returns t c =
-    let a = c .before .before .before .before .before .before .before .before .before .args in
-    λ e b u w d. let S = stepped (a .text .now) (a .s .now) (c .before .before .before .before .before .before .before .before .before .pre .1) (a .left) e b (c .before .before .before .before .before .before .loop .at) (c .before .before .past-inner .result) (a .base) (c .before .before .before .held-element .result) (c .before .before .before .before .before .before .loop .inv e b u w d) (sym (c .before .before .before .before .before .is-element .ensures) ∙ c .before .before .before .before .if1 .taken) w (c .before .before .before .held-element .ensures) (c .before .before .past-inner .ensures .0) in
-    sym (S .stops (ap (λ (k : Held). by k (fitsIn (S .i) (S .j))) (c .enum-told2 .given .1)))
+    let a = c .before .before .before .before .before .before .before .before .before .before .args in
+    λ G e b u w d. let S = stepped (a .text .now) (a .s .now) (c .before .before .before .before .before .before .before .before .before .before .pre .1 .0) (a .left) e b (c .before .before .before .before .before .before .loop .at) (c .before .before .past-inner .result) (a .base) (c .before .before .before .held-element .result) (c .before .before .before .before .before .before .loop .inv G e b u w d) (sym (c .before .before .before .before .before .is-element .ensures) ∙ c .before .before .before .before .if1 .taken) w (c .before .before .before .held-element .ensures G) (c .before .before .past-inner .ensures .0) in sym (S .stops (ap (λ (k : Held). by k (fitsIn (S .i) (S .j))) (c .enum-told2 .given .1)))
 
 fits-in-returns-2 : (t : ℕ) → fits-in-lts.Need-returns-2 (calls t) (fits-in-at t) fits-in.Post fits-in-Inv-loop fits-in-μ-loop
 fits-in-returns-2 t c =
-    let a = c .before .before .before .before .before .before .before .before .before .before .args in
-    λ e b u w d. let S = stepped (a .text .now) (a .s .now) (c .before .before .before .before .before .before .before .before .before .before .pre .1) (a .left) e b (c .before .before .before .before .before .before .before .loop .at) (c .before .before .before .past-inner .result) (a .base) (c .before .before .before .before .held-element .result) (c .before .before .before .before .before .before .before .loop .inv e b u w d) (sym (c .before .before .before .before .before .before .is-element .ensures) ∙ c .before .before .before .before .before .if1 .taken) w (c .before .before .before .before .held-element .ensures) (c .before .before .before .past-inner .ensures .0) in
-    absurd (omega (arith, S .deeper (c .before .enum-told3 .given .1) .2, c .if2 .taken))
+    let a = c .before .before .before .before .before .before .before .before .before .before .before .args in
+    λ G e b u w d. let S = stepped (a .text .now) (a .s .now) (c .before .before .before .before .before .before .before .before .before .before .before .pre .1 .0) (a .left) e b (c .before .before .before .before .before .before .before .loop .at) (c .before .before .before .past-inner .result) (a .base) (c .before .before .before .before .held-element .result) (c .before .before .before .before .before .before .before .loop .inv G e b u w d) (sym (c .before .before .before .before .before .before .is-element .ensures) ∙ c .before .before .before .before .before .if1 .taken) w (c .before .before .before .before .held-element .ensures G) (c .before .before .before .past-inner .ensures .0) in absurd (omega (arith, S .deeper (c .before .enum-told3 .given .1) .2, c .if2 .taken))
 
 fits-in-sub-fits-in : (t : ℕ) → fits-in-lts.Need-sub-fits-in (calls t) (fits-in-at t) fits-in.Post fits-in-Inv-loop fits-in-μ-loop
 fits-in-sub-fits-in t c = omega (arith, c .if2 .left)
 
 fits-in-fits-in-requires : (t : ℕ) → fits-in-lts.Need-fits-in-requires (calls t) (fits-in-at t) fits-in.Post fits-in-Inv-loop fits-in-μ-loop
-fits-in-fits-in-requires t c κs = (omega (arith, c .before .before .before .before .before .before .before .before .before .before .pre .0, c .if2 .left), c .before .before .before .before .before .before .before .before .before .before .pre .1)
+fits-in-fits-in-requires t c κs = (omega (arith, c .before .before .before .before .before .before .before .before .before .before .before .pre .0, c .if2 .left), c .before .before .before .before .before .before .before .before .before .before .before .pre .1)
 
 fits-in-loop-less-2 : (t : ℕ) → fits-in-lts.Need-loop-less-2 (calls t) (fits-in-at t) fits-in.Post fits-in-Inv-loop fits-in-μ-loop
 fits-in-loop-less-2 t c = omega (arith, element-in _ _ (sym (c .before .before .before .before .before .before .before .before .is-element .ensures) ∙ c .before .before .before .before .before .before .before .if1 .taken), c .before .before .before .before .before .past-inner .ensures .1)
 
 fits-in-loop-again-2 : (t : ℕ) → fits-in-lts.Need-loop-again-2 (calls t) (fits-in-at t) fits-in.Post fits-in-Inv-loop fits-in-μ-loop
 fits-in-loop-again-2 t c =
-    let a = c .before .before .before .before .before .before .before .before .before .before .before .before .args in
-    λ e b u w d. let S = stepped (a .text .now) (a .s .now) (c .before .before .before .before .before .before .before .before .before .before .before .before .pre .1) (a .left) e b (c .before .before .before .before .before .before .before .before .before .loop .at) (c .before .before .before .before .before .past-inner .result) (a .base) (c .before .before .before .before .before .before .held-element .result) (c .before .before .before .before .before .before .before .before .before .loop .inv e b u w d) (sym (c .before .before .before .before .before .before .before .before .is-element .ensures) ∙ c .before .before .before .before .before .before .before .if1 .taken) w (c .before .before .before .before .before .before .held-element .ensures) (c .before .before .before .before .before .past-inner .ensures .0) in
-    let D = S .deeper (c .before .before .before .enum-told3 .given .1) in
-    S .goes (ap (λ (k : Held). by k (fitsIn (S .i) (S .j))) (c .before .before .before .enum-told3 .given .1) ∙ sym (c .before .fits-in .ensures (S .i) (S .j) (D .0) (D .1) (D .3)) ∙ c .if3 .taken)
+    let a = c .before .before .before .before .before .before .before .before .before .before .before .before .before .args in
+    λ G e b u w d. let S = stepped (a .text .now) (a .s .now) (c .before .before .before .before .before .before .before .before .before .before .before .before .before .pre .1 .0) (a .left) e b (c .before .before .before .before .before .before .before .before .before .loop .at) (c .before .before .before .before .before .past-inner .result) (a .base) (c .before .before .before .before .before .before .held-element .result) (c .before .before .before .before .before .before .before .before .before .loop .inv G e b u w d) (sym (c .before .before .before .before .before .before .before .before .is-element .ensures) ∙ c .before .before .before .before .before .before .before .if1 .taken) w (c .before .before .before .before .before .before .held-element .ensures G) (c .before .before .before .before .before .past-inner .ensures .0) in let D = S .deeper (c .before .before .before .enum-told3 .given .1) in S .goes (ap (λ (k : Held). by k (fitsIn (S .i) (S .j))) (c .before .before .before .enum-told3 .given .1) ∙ sym (c .before .fits-in .ensures G (S .i) (S .j) (D .0) (D .1) (D .3)) ∙ c .if3 .taken)
 
 fits-in-returns-3 : (t : ℕ) → fits-in-lts.Need-returns-3 (calls t) (fits-in-at t) fits-in.Post fits-in-Inv-loop fits-in-μ-loop
 fits-in-returns-3 t c =
-    let a = c .before .before .before .before .before .before .before .before .before .before .before .before .args in
-    λ e b u w d. let S = stepped (a .text .now) (a .s .now) (c .before .before .before .before .before .before .before .before .before .before .before .before .pre .1) (a .left) e b (c .before .before .before .before .before .before .before .before .before .loop .at) (c .before .before .before .before .before .past-inner .result) (a .base) (c .before .before .before .before .before .before .held-element .result) (c .before .before .before .before .before .before .before .before .before .loop .inv e b u w d) (sym (c .before .before .before .before .before .before .before .before .is-element .ensures) ∙ c .before .before .before .before .before .before .before .if1 .taken) w (c .before .before .before .before .before .before .held-element .ensures) (c .before .before .before .before .before .past-inner .ensures .0) in
-    let D = S .deeper (c .before .before .before .enum-told3 .given .1) in
-    sym (S .stops (ap (λ (k : Held). by k (fitsIn (S .i) (S .j))) (c .before .before .before .enum-told3 .given .1) ∙ sym (c .before .fits-in .ensures (S .i) (S .j) (D .0) (D .1) (D .3)) ∙ c .if3 .left))
+    let a = c .before .before .before .before .before .before .before .before .before .before .before .before .before .args in
+    λ G e b u w d. let S = stepped (a .text .now) (a .s .now) (c .before .before .before .before .before .before .before .before .before .before .before .before .before .pre .1 .0) (a .left) e b (c .before .before .before .before .before .before .before .before .before .loop .at) (c .before .before .before .before .before .past-inner .result) (a .base) (c .before .before .before .before .before .before .held-element .result) (c .before .before .before .before .before .before .before .before .before .loop .inv G e b u w d) (sym (c .before .before .before .before .before .before .before .before .is-element .ensures) ∙ c .before .before .before .before .before .before .before .if1 .taken) w (c .before .before .before .before .before .before .held-element .ensures G) (c .before .before .before .before .before .past-inner .ensures .0) in let D = S .deeper (c .before .before .before .enum-told3 .given .1) in sym (S .stops (ap (λ (k : Held). by k (fitsIn (S .i) (S .j))) (c .before .before .before .enum-told3 .given .1) ∙ sym (c .before .fits-in .ensures G (S .i) (S .j) (D .0) (D .1) (D .3)) ∙ c .if3 .left))
 
 fits-in-returns-4 : (t : ℕ) → fits-in-lts.Need-returns-4 (calls t) (fits-in-at t) fits-in.Post fits-in-Inv-loop fits-in-μ-loop
-fits-in-returns-4 t c = λ e b u w d. c .others-fit .ensures ∙ rw (u .last, w .last) (sym (finished _ _ _ e b _ (c .before .before .before .loop .inv e b u w d) (sym (c .before .before .is-element .ensures) ∙ c .before .if1 .left)))
+fits-in-returns-4 t c = λ G e b u w d. c .others-fit .ensures ∙ rw (u .last, w .last) (sym (finished _ _ _ e b _ (c .before .before .before .loop .inv G e b u w d) (sym (c .before .before .is-element .ensures) ∙ c .before .if1 .left)))
 
 pub +fits-in-spec : {M : Type 1} → statement M
 +fits-in-spec = close μ-fits-in λ t. fits-in-lts.spec (calls t)

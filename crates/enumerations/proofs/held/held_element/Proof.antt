@@ -1,4 +1,3 @@
-use native.Mathlib.Omega.{arith}
 use mathlib.Core.Path.{_≡_, _∙_}
 use Prim.Native.Nat.{_+_}
 use lib.ListN.{length}
@@ -11,21 +10,18 @@ use Rattle.enumerations.proofs.held.held_element.Tie as tie
 
 returns : tie.Need-returns
 returns c =
-    let a = c .before .before .before .before .before .before .before .before .args in
-    let e : c .before .before .before .before .find .result ≡ findFrom (length (a .s .now) + 1) (a .text .now) (a .s .now) (a .base .list) (written (a .s .now) (a .at)) = c .before .before .before .before .find .ensures (length (a .s .now) + 1) (omega arith) ∙ rw (as-written (c .before .before .before .before .before .written-name .ensures)) in
-    pair-found (a .text .now) (a .s .now) (a .at) (a .base) (c .before .before .before .before .find .result) e (c .before .before .before .if1 .taken) (c .before .before .inner-at .result) (c .before .inner-at2 .result) (c .held-inside .result) (c .before .before .inner-at .ensures) (c .before .inner-at2 .ensures) (c .held-inside .ensures)
+    let a = c .before .before .before .before .before .before .before .before .before .args in
+    λ G. let e : c .before .before .before .before .find-in .result ≡ findFrom (length (a .s .now) + 1) (a .text .now) (a .s .now) (a .base .list) (written (a .s .now) (a .at)) = c .before .before .before .before .find-in .ensures G ∙ rw (as-written (c .before .before .before .before .before .written-name .ensures)) in pair-found (a .text .now) (a .s .now) (a .at) (a .base) (c .before .before .before .before .find-in .result) e (c .before .before .before .if1 .taken) (c .before .before .inner-at .result) (c .before .inner-at2 .result) (c .held-inside .result) (c .before .before .inner-at .ensures) (c .before .inner-at2 .ensures) (c .held-inside .ensures)
 
 returns-2 : tie.Need-returns-2
 returns-2 c =
-    let a = c .before .before .before .before .before .before .args in
-    let e : c .before .before .find .result ≡ findFrom (length (a .s .now) + 1) (a .text .now) (a .s .now) (a .base .list) (written (a .s .now) (a .at)) = c .before .before .find .ensures (length (a .s .now) + 1) (omega arith) ∙ rw (as-written (c .before .before .before .written-name .ensures)) in
-    pair-misfit (a .text .now) (a .s .now) (a .at) (a .base) (c .before .before .find .result) e (c .before .if1 .left) (c .if2 .taken)
+    let a = c .before .before .before .before .before .before .before .args in
+    λ G. let e : c .before .before .find-in .result ≡ findFrom (length (a .s .now) + 1) (a .text .now) (a .s .now) (a .base .list) (written (a .s .now) (a .at)) = c .before .before .find-in .ensures G ∙ rw (as-written (c .before .before .before .written-name .ensures)) in pair-misfit (a .text .now) (a .s .now) (a .at) (a .base) (c .before .before .find-in .result) e (c .before .if1 .left) (c .if2 .taken)
 
 returns-3 : tie.Need-returns-3
 returns-3 c =
-    let a = c .before .before .before .before .before .before .args in
-    let e : c .before .before .find .result ≡ findFrom (length (a .s .now) + 1) (a .text .now) (a .s .now) (a .base .list) (written (a .s .now) (a .at)) = c .before .before .find .ensures (length (a .s .now) + 1) (omega arith) ∙ rw (as-written (c .before .before .before .written-name .ensures)) in
-    pair-fits (a .text .now) (a .s .now) (a .at) (a .base) (c .before .before .find .result) e (c .before .if1 .left) (c .if2 .left)
+    let a = c .before .before .before .before .before .before .before .args in
+    λ G. let e : c .before .before .find-in .result ≡ findFrom (length (a .s .now) + 1) (a .text .now) (a .s .now) (a .base .list) (written (a .s .now) (a .at)) = c .before .before .find-in .ensures G ∙ rw (as-written (c .before .before .before .written-name .ensures)) in pair-fits (a .text .now) (a .s .now) (a .at) (a .base) (c .before .before .find-in .result) e (c .before .if1 .left) (c .if2 .left)
 
 pub held-element-spec : {M : Type 1} → statement M
 held-element-spec =

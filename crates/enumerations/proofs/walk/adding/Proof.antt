@@ -1,9 +1,7 @@
-use native.Mathlib.Omega.{arith}
 use mathlib.Core.Path.{sym, _∙_}
-use Prim.Native.Nat.{_+_}
-use lib.ListN.{length}
 use Rattle.enumerations.proofs.ListLaws.{as-written, element-in}
 use Rattle.enumerations.proofs.StepLaws.{add-known, add-barred, add-new, add-end}
+use native.Mathlib.Omega.{arith}
 use borrow.Author.Needs.{needs}
 use Rattle.enumerations.proofs.walk.adding.Statement.{statement}
 use Rattle.enumerations.proofs.walk.adding.Tie as tie
@@ -16,24 +14,26 @@ add-past-inner c = omega (arith, element-in _ _ (sym (c .before .before .is-elem
 
 returns : tie.Need-returns
 returns c =
-    let a = c .before .before .before .before .before .before .before .before .before .args in
-    add-known (a .text .now) (a .b .now) (a .x .now) (a .p) (c .before .before .before .written-name .result) (c .before .find .result) (c .before .before .past-inner .result) (sym (c .before .before .before .before .before .is-element .ensures) ∙ c .before .before .before .before .if1 .taken) (as-written (c .before .before .before .written-name .ensures)) (c .before .find .ensures (length (a .b .now) + 1) (omega arith)) (c .before .before .past-inner .ensures .0) (omega arith)
+    let a = c .before .before .before .before .before .before .before .before .before .before .args in
+    λ G. add-known (a .text .now) (a .b .now) (a .x .now) (a .p) (c .before .before .before .written-name .result) (c .before .find-in .result) (c .before .before .past-inner .result) (sym (c .before .before .before .before .before .is-element .ensures) ∙ c .before .before .before .before .if1 .taken) (as-written (c .before .before .before .written-name .ensures)) (c .before .find-in .ensures G) (c .before .before .past-inner .ensures .0) (c .if2 .taken)
 
 returns-2 : tie.Need-returns-2
 returns-2 c =
-    let a = c .before .before .before .before .before .before .before .before .before .before .args in
-    add-barred (a .text .now) (a .b .now) (a .x .now) (a .p) (c .before .before .before .before .written-name .result) (c .before .before .find .result) (c .before .before .before .past-inner .result) (sym (c .before .before .before .before .before .before .is-element .ensures) ∙ c .before .before .before .before .before .if1 .taken) (as-written (c .before .before .before .before .written-name .ensures)) (c .before .before .find .ensures (length (a .b .now) + 1) (omega arith)) (c .before .before .before .past-inner .ensures .0) (omega arith) (c .if3 .taken)
+    let a = c .before .before .before .before .before .before .before .before .before .before .before .args in
+    λ G. add-barred (a .text .now) (a .b .now) (a .x .now) (a .p) (c .before .before .before .before .written-name .result) (c .before .before .find-in .result) (c .before .before .before .past-inner .result) (sym (c .before .before .before .before .before .before .is-element .ensures) ∙ c .before .before .before .before .before .if1 .taken) (as-written (c .before .before .before .before .written-name .ensures)) (c .before .before .find-in .ensures G) (c .before .before .before .past-inner .ensures .0) (c .before .if2 .left) (c .if3 .taken)
 
 add-inner-at : tie.Need-add-inner-at
 add-inner-at c = omega (arith, element-in _ _ (sym (c .before .before .before .before .before .before .is-element .ensures) ∙ c .before .before .before .before .before .if1 .taken))
 
 returns-3 : tie.Need-returns-3
 returns-3 c =
-    let a = c .before .before .before .before .before .before .before .before .before .before .before .before .args in
-    c .added .ensures ∙ add-new (a .text .now) (a .b .now) (a .x .now) (a .p) (c .before .before .before .before .before .before .written-name .result) (c .before .before .before .before .find .result) (c .before .before .before .before .before .past-inner .result) (sym (c .before .before .before .before .before .before .before .before .is-element .ensures) ∙ c .before .before .before .before .before .before .before .if1 .taken) (as-written (c .before .before .before .before .before .before .written-name .ensures)) (c .before .before .before .before .find .ensures (length (a .b .now) + 1) (omega arith)) (c .before .before .before .before .before .past-inner .ensures .0) (c .before .inner-at .result) (c .before .inner-at .ensures) (omega arith) (c .before .before .if3 .left)
+    let a = c .before .before .before .before .before .before .before .before .before .before .before .before .before .args in
+    λ G. c .added .ensures ∙ add-new (a .text .now) (a .b .now) (a .x .now) (a .p) (c .before .before .before .before .before .before .written-name .result) (c .before .before .before .before .find-in .result) (c .before .before .before .before .before .past-inner .result) (sym (c .before .before .before .before .before .before .before .before .is-element .ensures) ∙ c .before .before .before .before .before .before .before .if1 .taken) (as-written (c .before .before .before .before .before .before .written-name .ensures)) (c .before .before .before .before .find-in .ensures G) (c .before .before .before .before .before .past-inner .ensures .0) (c .before .inner-at .result) (c .before .inner-at .ensures) (c .before .before .before .if2 .left) (c .before .before .if3 .left)
 
 returns-4 : tie.Need-returns-4
-returns-4 c = add-end (c .before .before .before .before .before .args .text .now) (c .before .before .before .before .before .args .b .now) (c .before .before .before .before .before .args .x .now) (c .before .before .before .before .before .args .p) (sym (c .before .is-element .ensures) ∙ c .if1 .left)
+returns-4 c =
+    let a = c .before .before .before .before .before .before .args in
+    λ G. add-end (a .text .now) (a .b .now) (a .x .now) (a .p) (sym (c .before .is-element .ensures) ∙ c .if1 .left)
 
 pub adding-spec : {M : Type 1} → statement M
 adding-spec =

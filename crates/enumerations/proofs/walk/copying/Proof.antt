@@ -1,9 +1,7 @@
-use native.Mathlib.Omega.{arith}
 use mathlib.Core.Path.{sym, _∙_}
-use Prim.Native.Nat.{_+_}
-use lib.ListN.{length}
 use Rattle.enumerations.proofs.ListLaws.{as-written, element-in}
 use Rattle.enumerations.proofs.StepLaws.{copy-element, copy-end}
+use native.Mathlib.Omega.{arith}
 use borrow.Author.Needs.{needs}
 use Rattle.enumerations.proofs.walk.copying.Statement.{statement}
 use Rattle.enumerations.proofs.walk.copying.Tie as tie
@@ -19,11 +17,13 @@ add-past-inner c = omega (arith, element-in _ _ (sym (c .before .before .before 
 
 returns : tie.Need-returns
 returns c =
-    let a = c .before .before .before .before .before .before .before .before .before .before .before .args in
-    c .shared .ensures ∙ copy-element (a .text .now) (a .b .now) (a .x .now) (a .p) (c .before .before .before .before .before .written-name .result) (c .before .before .before .find .result) (c .before .past-inner .result) (c .before .before .before .before .inner-at .result) (c .before .before .inner-at2 .result) (sym (c .before .before .before .before .before .before .before .is-element .ensures) ∙ c .before .before .before .before .before .before .if1 .taken) (as-written (c .before .before .before .before .before .written-name .ensures)) (c .before .before .before .before .inner-at .ensures) (c .before .before .before .find .ensures (length (a .x .now) + 1) (omega arith)) (c .before .before .inner-at2 .ensures) (c .before .past-inner .ensures .0)
+    let a = c .before .before .before .before .before .before .before .before .before .before .before .before .args in
+    λ G. c .shared .ensures ∙ copy-element (a .text .now) (a .b .now) (a .x .now) (a .p) (c .before .before .before .before .before .written-name .result) (c .before .before .before .find-in .result) (c .before .past-inner .result) (c .before .before .before .before .inner-at .result) (c .before .before .inner-at2 .result) (sym (c .before .before .before .before .before .before .before .is-element .ensures) ∙ c .before .before .before .before .before .before .if1 .taken) (as-written (c .before .before .before .before .before .written-name .ensures)) (c .before .before .before .before .inner-at .ensures) (c .before .before .before .find-in .ensures G) (c .before .before .inner-at2 .ensures) (c .before .past-inner .ensures .0)
 
 returns-2 : tie.Need-returns-2
-returns-2 c = copy-end (c .before .before .before .before .before .args .text .now) (c .before .before .before .before .before .args .b .now) (c .before .before .before .before .before .args .x .now) (c .before .before .before .before .before .args .p) (sym (c .before .is-element .ensures) ∙ c .if1 .left)
+returns-2 c =
+    let a = c .before .before .before .before .before .before .args in
+    λ G. copy-end (a .text .now) (a .b .now) (a .x .now) (a .p) (sym (c .before .is-element .ensures) ∙ c .if1 .left)
 
 pub copying-spec : {M : Type 1} → statement M
 copying-spec =

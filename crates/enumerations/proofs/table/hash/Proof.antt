@@ -1,0 +1,47 @@
+use mathlib.Core.Path.{_≡_, sym, ap, _∙_}
+use Prim.Native.Nat.{ℕ, _+_, _-_, _*_, _%_, _<_, _≤_}
+use native.Mathlib.Nat.{add-zero, sub-zero}
+use Rattle.ground.specs.Parts.{part}
+use Rattle.enumerations.specs.Tables.{hashFrom}
+use Rattle.enumerations.proofs.TableLaws.{hash-next, hash-end}
+use native.Mathlib.Omega.{arith}
+use borrow.Author.Needs.{needs}
+use Rattle.enumerations.proofs.table.hash.Statement.{statement}
+use Rattle.enumerations.proofs.table.hash.Tie as tie
+
+abbrev Inv-loop : tie.InvT-loop
+Inv-loop text list start len k₀ i₀ k i = (i ≤ len) × (k < 16777216) × (hashFrom (list % 16777216) (part text start len) ≡ hashFrom k (part text (start + i) (len - i)))
+
+abbrev μ-loop : tie.MeasureT-loop
+μ-loop text list start len k₀ i₀ k i = len - i
+
+loop-holds : tie.Need-loop-holds Inv-loop μ-loop
+loop-holds c = (omega arith, omega arith, rw (add-zero, sub-zero))
+
+loop-again : tie.Need-loop-again Inv-loop μ-loop
+loop-again c =
+    let a = c .before .before .before .before .before .args in
+    (omega arith, omega arith, c .before .before .before .loop .inv .2 ∙ hash-next (a .text .now) (a .name .start) (a .name .len) (c .before .before .before .loop .i) (c .before .before .before .loop .k) (c .before .before .loop-test .taken) (c .before .before .before .before .before .pre) ∙ ap (λ (b : ℕ). hashFrom ((c .before .before .before .loop .k * 131 + b) % 16777216) (part (a .text .now) (a .name .start + (c .before .before .before .loop .i + 1)) (a .name .len - (c .before .before .before .loop .i + 1)))) (sym (c .wide .ensures .0)))
+
+returns : tie.Need-returns Inv-loop μ-loop
+returns c =
+    let a = c .before .before .before .args in
+    let v = c .before .loop in
+    sym (v .inv .2 ∙ hash-end (a .text .now) (a .name .start) (a .name .len) (v .i) (v .k) (omega arith))
+
+pub hash-spec : {M : Type 1} → statement M
+hash-spec =
+    tie.close
+    (tie.spec
+    Inv-loop
+    μ-loop
+    loop-holds
+    (λ c. search needs)
+    (λ c. search needs)
+    (λ c. search needs)
+    (λ c κs. search needs)
+    (λ c. search needs)
+    (λ c. search needs)
+    (λ c. search needs)
+    loop-again
+    returns)
