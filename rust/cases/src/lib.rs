@@ -8,11 +8,14 @@ mod layout;
 mod random;
 mod shapes;
 mod sketch;
+pub mod stored;
+mod stretched;
 
 pub use chosen::chosen;
 use peer::Answer;
 pub use random::Random;
 use sketch::{Fault, Sketch, Style};
+pub use stretched::{ordinary, stretched};
 
 /// A text to check, and how long a buffer to lend.
 #[derive(Clone, Debug, PartialEq, Eq)]

@@ -381,22 +381,29 @@ impl<'r> Sketch<'r> {
         }
     }
 
-    /// The domain to extend: never a final one but by a fault.
-    fn domain_base(&mut self) -> Option<usize> {
+    /// What to extend among those that fit, each with whether it is final: a
+    /// final one only by a fault, and nothing in one of `seldom` cases.
+    fn base_among(&mut self, fitting: &[(usize, bool)], seldom: usize) -> Option<usize> {
         let of = |is_final: bool| -> Vec<usize> {
-            let numbers = 0..self.domains.len();
-            numbers
-                .filter(|&number| self.domains[number].is_final == is_final)
-                .collect()
+            let found = fitting.iter().filter(|(_, last)| *last == is_final);
+            found.map(|(number, _)| *number).collect()
         };
-        let (last, fitting) = (of(true), of(false));
+        let (last, open) = (of(true), of(false));
         if !last.is_empty() && self.fault(Fault::FinalBase) {
             return self.random.any(&last).copied();
         }
-        if self.random.chance(1, 3) {
+        if self.random.chance(1, seldom) {
             return None;
         }
-        self.random.any(&fitting).copied()
+        self.random.any(&open).copied()
+    }
+
+    fn domain_base(&mut self) -> Option<usize> {
+        let domains = self.domains.iter().enumerate();
+        let fitting: Vec<(usize, bool)> = domains
+            .map(|(number, domain)| (number, domain.is_final))
+            .collect();
+        self.base_among(&fitting, 3)
     }
 
     /// Properties and EXTENDS, behind the name of a domain or class.
@@ -568,22 +575,12 @@ impl<'r> Sketch<'r> {
     }
 
     fn class_base(&mut self, is_structure: bool) -> Option<usize> {
-        let of = |is_final: bool| -> Vec<usize> {
-            let fits =
-                |class: &Class| class.is_structure == is_structure && class.is_final == is_final;
-            let numbers = 0..self.classes.len();
-            numbers
-                .filter(|&number| fits(&self.classes[number]))
-                .collect()
-        };
-        let (last, fitting) = (of(true), of(false));
-        if !last.is_empty() && self.fault(Fault::FinalBase) {
-            return self.random.any(&last).copied();
-        }
-        if self.random.chance(1, 5) {
-            return None;
-        }
-        self.random.any(&fitting).copied()
+        let classes = self.classes.iter().enumerate();
+        let fitting: Vec<(usize, bool)> = classes
+            .filter(|(_, class)| class.is_structure == is_structure)
+            .map(|(number, class)| (number, class.is_final))
+            .collect();
+        self.base_among(&fitting, 5)
     }
 
     fn attributes(&mut self, inherited: Vec<Attribute>) -> Vec<Attribute> {

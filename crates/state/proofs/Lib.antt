@@ -1,0 +1,4 @@
+pub mod KeepLaws
+pub mod JudgeLaws
+pub mod SharedLaws
+pub mod RowLaws

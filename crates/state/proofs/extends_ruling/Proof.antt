@@ -1,0 +1,30 @@
+use mathlib.Core.Bool.{false}
+use Rattle.state.proofs.SharedLaws.{ruling-none, ruling-sort, ruling-final, ruling-fine}
+use native.Mathlib.Omega.{arith}
+use borrow.Author.Needs.{needs}
+use Rattle.state.proofs.extends_ruling.Statement.{statement}
+use Rattle.state.proofs.extends_ruling.Tie as tie
+
+returns : tie.Need-returns
+returns c = λ t ks n d b w k es q. ruling-none t ks _ n k d b _ _ w q (c .if1 .taken)
+
+returns-2 : tie.Need-returns-2
+returns-2 c = λ t ks n d b w k es q. ruling-sort t ks _ n k d b _ _ w q (c .before .before .if1 .left) _ (c .before .sort-of .ensures t) _ es (c .if2 .taken)
+
+returns-3 : tie.Need-returns-3
+returns-3 c = λ t ks n d b w k es q. ruling-final t ks _ n k d b _ _ w q (c .before .before .before .before .before .if1 .left) _ (c .before .before .before .before .sort-of .ensures t) _ es (c .before .before .before .if2 .left) _ (λ d y. c .before .is-final .ensures (d .abstract) (d .final) false (d .mandatory) (c .before .before .flags-of .ensures t d y)) (c .if3 .taken)
+
+returns-4 : tie.Need-returns-4
+returns-4 c = λ t ks n d b w k es q. ruling-fine t ks _ n k d b _ _ w q (c .before .before .before .before .before .if1 .left) _ (c .before .before .before .before .sort-of .ensures t) _ es (c .before .before .before .if2 .left) _ (λ d y. c .before .is-final .ensures (d .abstract) (d .final) false (d .mandatory) (c .before .before .flags-of .ensures t d y)) (c .if3 .left)
+
+pub extends-ruling-spec : {M : Type 1} → statement M
+extends-ruling-spec =
+    tie.close
+    (tie.spec
+    returns
+    (λ c κs. search needs)
+    returns-2
+    (λ c κs. search needs)
+    (λ c κs. search needs)
+    returns-3
+    returns-4)

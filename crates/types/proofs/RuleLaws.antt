@@ -1,0 +1,68 @@
+-- 9 of elements, 14 and 15, of what is written.
+use mathlib.Core.Path.{_≡_, refl, sym, ap, _∙_}
+use mathlib.Core.Bool.{Bool, true, false}
+use mathlib.Core.Option.{Option, none, some}
+use mathlib.Core.List.{List, [], _∷_}
+use Prim.Native.Nat.{ℕ}
+use native.Mathlib.Omega.{arith}
+use lib.ListN.{length}
+use lib.Dec.{eqb}
+use borrow.Author.Tests.{ne-eqb}
+use Rattle.rules.specs.Enumerations.{Enum, end, elem, isLeaf, twice}
+use Rattle.rules.specs.Grammar as G
+use Rattle.rules.specs.Grammar.{WrittenType}
+use Rattle.rules.specs.Judge.{elementRule, doubled, typeRules}
+use Rattle.book.specs.declared.Found.{Found}
+use Rattle.enumerations.specs.Standing.{Stands}
+use Rattle.enumerations.specs.Doubling.{foundOf}
+use Rattle.elements.specs.Noted.{listBytes}
+use Rattle.parts.specs.declared.types.Meant.{Meant}
+use Rattle.parts.specs.Forms.{anyOf}
+use Rattle.scope.specs.Scope.{AnyIs, Begins}
+use Rattle.types.specs.Rulings.{rulingOf, rulingIf, elementRuling, typeRuling}
+use Rattle.types.specs.Values.{Scratched}
+use Rattle.types.specs.Fitting.{isListed}
+use Rattle.types.proofs.ValueLaws.{never}
+
+-- ---- 9
+found-ruling : (o : Option ℕ) → elementRuling (foundOf o) ≡ rulingOf (doubled o ∷ [])
+found-ruling none = refl
+found-ruling (some p) = refl
+
+-- of an enumeration
+pub element-listed : {m : Meant} (t x : List ℕ) (f : Found) → isListed m ≡ true → ((e : Enum) → Stands t x e 0 → f ≡ foundOf (twice e [])) →
+    (w : Option WrittenType) → m ≡ anyOf w → Scratched t x w → elementRuling f ≡ rulingOf (elementRule w ∷ [])
+element-listed {m} t x f h q none e s = never (sym (rw e at h))
+element-listed {m} t x f h q (some (G.text k none)) e s = never (sym (rw e at h))
+element-listed {m} t x f h q (some (G.text k (some y))) e s = never (sym (rw e at h))
+element-listed {m} t x f h q (some (G.range a b)) e s = never (sym (rw e at h))
+element-listed {m} t x f h q (some G.numeric) e s = never (sym (rw e at h))
+element-listed {m} t x f h q (some (G.enum g)) e s = ap elementRuling (q g s) ∙ found-ruling (twice g [])
+element-listed {m} t x f h q (some (G.named r)) e s = never (sym (rw e at h))
+
+-- of another type
+pub element-other : {m : Meant} → isListed m ≡ false → (w : Option WrittenType) → m ≡ anyOf w → rulingIf 9 0 false ≡ rulingOf (elementRule w ∷ [])
+element-other {m} h none e = refl
+element-other {m} h (some (G.text k n)) e = refl
+element-other {m} h (some (G.range a b)) e = refl
+element-other {m} h (some G.numeric) e = refl
+element-other {m} h (some (G.enum g)) e = never (rw e at h)
+element-other {m} h (some (G.named r)) e = refl
+
+-- ---- 14 and 15
+leaf-bytes : (e : Enum) → eqb (length (listBytes e)) 3 ≡ isLeaf e
+leaf-bytes (end f) = refl
+leaf-bytes (elem n i r) =
+    ne-eqb (length (listBytes (elem n i r))) 3 (λ z. omega arith)
+
+rules-are : (p : ℕ) (based : Bool) (w : Option WrittenType) → AnyIs (Begins p) w → typeRuling (anyOf w) p based ≡ rulingOf (typeRules based p w)
+rules-are p based none g = refl
+rules-are p based (some (G.text m none)) g = refl
+rules-are p based (some (G.text m (some y))) g = refl
+rules-are p based (some (G.range x y)) g = rw g
+rules-are p based (some G.numeric) g = refl
+rules-are p based (some (G.enum e)) g = rw (leaf-bytes e)
+rules-are p based (some (G.named r)) g = refl
+
+pub type-ruled : {m : Meant} (p : ℕ) (based : Bool) (w : Option WrittenType) → m ≡ anyOf w → AnyIs (Begins p) w → typeRuling m p based ≡ rulingOf (typeRules based p w)
+type-ruled {m} p based w e g = rw e (rules-are p based w g)

@@ -1,0 +1,27 @@
+-- Rules judged in stages: the first that is broken, of a list cut in two.
+use mathlib.Core.Path.{_≡_, refl}
+use mathlib.Core.Bool.{Bool, true, false, cond}
+use mathlib.Core.List.{List, [], _∷_, _++_}
+use Prim.Native.Nat.{_<_}
+use borrow.Author.Tests.{lt-ltb}
+use Rattle.rules.specs.Declarations.{State}
+use Rattle.rules.specs.Judge.{Rule, refused, unless}
+use Rattle.types.specs.Rulings.{rulingOf, judgedBy}
+
+-- a rule's number is above 0, which says that none is broken
+abbrev pub Positive : List Rule → Type 0
+Positive [] = Unit {0}
+Positive (r ∷ l) = (0 < r .number) × Positive l
+
+pub unless-by : (l m : List Rule) (s : State) → Positive l → unless (l ++ m) s ≡ judgedBy (rulingOf l) (unless m s)
+unless-by [] m s h = refl
+unless-by (r ∷ l) m s h = go (r .broken) (unless-by l m s (h .1))
+  where
+    go : (b : Bool) → unless (l ++ m) s ≡ judgedBy (rulingOf l) (unless m s) →
+        cond b (refused (r .number) (r .place)) (unless (l ++ m) s) ≡ judgedBy (cond b (record { number = r .number; place = r .place }) (rulingOf l)) (unless m s)
+    go true e = rw (lt-ltb 0 (r .number) (h .0))
+    go false e = e
+
+pub positive-append : (l m : List Rule) → Positive l → Positive m → Positive (l ++ m)
+positive-append [] m h k = k
+positive-append (r ∷ l) m h k = (h .0, positive-append l m (h .1) k)

@@ -1,0 +1,116 @@
+-- Types by value, and what is written over a base's type.
+use mathlib.Core.Path.{_≡_, refl, _∙_}
+use mathlib.Core.Bool.{Bool, true, false, cond, not, _&&_}
+use mathlib.Core.Option.{Option, none, some}
+use mathlib.Core.List.{List, [], _∷_, _++_, append-assoc}
+use Prim.Native.Nat.{ℕ, _+_, _≤_}
+use native.Mathlib.Omega.{arith}
+use lib.ListN.{length, take, drop, length-append}
+use lib.Seq.{length-take-le, take-at, take-append-le, take-take, drop-at}
+use Rattle.rules.specs.Enumerations.{Enum, twice}
+use Rattle.rules.specs.Grammar as G
+use Rattle.rules.specs.Grammar.{WrittenType}
+use Rattle.rules.specs.Types.{Ty, text, range, numeric, structure, enum, kindOf, fits}
+use Rattle.rules.specs.Judge.{domainType, elementRule, doubled, referenceIn}
+use Rattle.ground.specs.Parts.{splice}
+use Rattle.parts.specs.Forms.{Scratches}
+use Rattle.scope.specs.Scope.{AnyIs, FairType}
+use Rattle.scope.proofs.UseLaws.{fits-self}
+use Rattle.elements.specs.Noted.{listBytes}
+use Rattle.enumerations.specs.Standing.{Named, Deep, Stands}
+use Rattle.types.specs.Rulings.{rulingOf}
+use Rattle.types.specs.Values.{Valued, Typed, Sized, FairOrNone, Scratched, Once, plainFits, mergeFits}
+use Rattle.types.specs.declared.Typing.{Typing}
+
+-- ---- values
+pub typed-valued : (t b : List ℕ) (x : Ty) (c : Typing) → Typed t b x c → Valued x c
+typed-valued t b (text m n) c h = h
+typed-valued t b (range r) c h = h
+typed-valued t b numeric c h = h
+typed-valued t b (enum e) c h = (h .0, h .1)
+typed-valued t b structure c h = h
+
+pub sized-base : (t : List ℕ) (x : Ty) (c : Typing) → FairOrNone t x → Valued x c → Sized c
+sized-base t (text m n) c f h = rw h tt
+sized-base t (range r) c f h = rw h f
+sized-base t numeric c f h = rw h tt
+sized-base t (enum e) c f h = rw (h .1) tt
+sized-base t structure c f h = rw h tt
+
+pub sized-meant : (t : List ℕ) (w : Option WrittenType) (b : Ty) (c : Typing) → AnyIs (FairType t) w → FairOrNone t b → Valued (domainType w b) c → Sized c
+sized-meant t none b c f g h = sized-base t b c g h
+sized-meant t (some (G.text m n)) b c f g h = rw h tt
+sized-meant t (some (G.range x y)) b c f g h = rw h (f .0 .0, f .0 .1, f .1 .1)
+sized-meant t (some G.numeric) b c f g h = rw h tt
+sized-meant t (some (G.enum e)) (text m n) c f g h = rw (h .1) tt
+sized-meant t (some (G.enum e)) (range r) c f g h = rw (h .1) tt
+sized-meant t (some (G.enum e)) numeric c f g h = rw (h .1) tt
+sized-meant t (some (G.enum e)) (enum b) c f g h = rw (h .1) tt
+sized-meant t (some (G.enum e)) structure c f g h = rw (h .1) tt
+sized-meant t (some (G.named r)) b c f g h = rw h tt
+
+-- ---- what is written
+scratched-enum : (t o p : List ℕ) (e : Enum) → Named t e → Deep 7 e → p ≡ splice o 0 (listBytes e) → Stands t p e 0
+scratched-enum t o p e n d h = record { more = drop (0 + length (listBytes e)) o; here = h; named = n; deep = d }
+
+pub scratched : (t o p : List ℕ) (w : Option WrittenType) → AnyIs (FairType t) w → Scratches o p w → Scratched t p w
+scratched t o p none f h = tt
+scratched t o p (some (G.text m n)) f h = tt
+scratched t o p (some (G.range x y)) f h = tt
+scratched t o p (some G.numeric) f h = tt
+scratched t o p (some (G.enum e)) f h = scratched-enum t o p e (f .0) (f .1) h
+scratched t o p (some (G.named r)) f h = tt
+
+once-enum : (o : Option ℕ) → rulingOf (doubled o ∷ []) .number ≡ 0 → o ≡ none
+once-enum none h = refl
+once-enum (some p) h = absurd (omega arith)
+
+-- where 9 of the elements is not broken
+pub once-of : (w : Option WrittenType) → rulingOf (elementRule w ∷ []) .number ≡ 0 → Once w
+once-of none h = tt
+once-of (some (G.text m n)) h = tt
+once-of (some (G.range x y)) h = tt
+once-of (some G.numeric) h = tt
+once-of (some (G.enum e)) h = once-enum (twice e []) h
+once-of (some (G.named r)) h = tt
+
+-- ---- 17 in its two parts
+both : (a : Bool) → a ≡ (a && true)
+both true = refl
+both false = refl
+
+self-fits : (t : List ℕ) (b : Ty) → FairOrNone t b → fits b b ≡ true
+self-fits t (text m n) f = fits-self t (text m n) f
+self-fits t (range r) f = fits-self t (range r) f
+self-fits t numeric f = refl
+self-fits t (enum e) f = fits-self t (enum e) f
+self-fits t structure f = refl
+
+no-kind : {A : Type 0} (m : Bool) → _≡_ {A = ℕ} 4 (cond m 2 1) → A
+no-kind true e = absurd (omega arith)
+no-kind false e = absurd (omega arith)
+
+pub fits-split : (t : List ℕ) (w : Option WrittenType) (b : Ty) → FairOrNone t b → referenceIn w ≡ none → kindOf (domainType w b) ≡ kindOf b →
+    fits (domainType w b) b ≡ (plainFits w b && mergeFits w b)
+fits-split t none b f r k = self-fits t b f
+fits-split t (some (G.text m n)) b f r k = both _
+fits-split t (some (G.range x y)) b f r k = both _
+fits-split t (some G.numeric) b f r k = both _
+fits-split t (some (G.enum e)) (text m n) f r k = no-kind m k
+fits-split t (some (G.enum e)) (range x) f r k = absurd (omega arith)
+fits-split t (some (G.enum e)) numeric f r k = absurd (omega arith)
+fits-split t (some (G.enum e)) (enum b) f r k = refl
+fits-split t (some (G.enum e)) structure f r k = absurd (omega arith)
+fits-split t (some (G.named x)) b f r k = let z : _≡_ {A = ℕ} 0 1 = cc in absurd (omega arith)
+
+-- ---- a type's records, and then the head before them, written behind the book B
+pub laid-book : (o o₁ o₂ B h l : List ℕ) (u : ℕ) → take u o ≡ B → u ≡ length B → u + 11 + length l ≤ length o → length h ≡ 11 → o₁ ≡ splice o (u + 11) l → o₂ ≡ splice o₁ u h →
+    take (u + 11 + length l) o₂ ≡ B ++ (h ++ l)
+laid-book o o₁ o₂ B h l u b e f g p q =
+    let d : List ℕ = drop (u + 11 + length l) o in
+    let n : length (take (u + 11) o) ≡ u + 11 = length-take-le (u + 11) o (omega arith) in
+    let p' : o₁ ≡ take (u + 11) o ++ (l ++ d) = p ∙ append-assoc (take (u + 11) o) l d in
+    let front : take u o₁ ≡ B = rw p' (take-append-le u (take (u + 11) o) (l ++ d) (omega arith) ∙ take-take u (u + 11) o (omega arith)) ∙ b in
+    let back : drop (u + length h) o₁ ≡ l ++ d = rw (g, p') (drop-at (take (u + 11) o) (l ++ d) (u + 11) n) in
+    let whole : o₂ ≡ (B ++ (h ++ l)) ++ d = q ∙ rw (front, back) (simp append-assoc) in
+    rw whole (take-at (B ++ (h ++ l)) d (u + 11 + length l) (simp length-append (omega arith)))

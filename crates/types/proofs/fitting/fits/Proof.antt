@@ -1,0 +1,34 @@
+use mathlib.Core.Path.{sym, ap, _∙_}
+use Rattle.types.specs.Fitting.{fitsBy}
+use Rattle.types.specs.declared.Typing.{Typing}
+use Rattle.types.proofs.ValueLaws.{held-small, sized-range}
+use borrow.Author.Needs.{needs}
+use Rattle.types.proofs.fitting.fits.Statement.{statement}
+use Rattle.types.proofs.fitting.fits.Tie as tie
+
+range-fits-requires : tie.Need-range-fits-requires
+range-fits-requires c κs = let pre = c .before .before .before .pre in let s = sized-range _ _ _ (pre .0) (c .before .own2 .given .1) in ((s .0, rw (held-small _ (s .1)) (s .1), rw (held-small _ (s .2)) (s .2)), pre .1)
+
+returns : tie.Need-returns
+returns c = c .text-fits .ensures ∙ ap (λ (z : Typing). fitsBy z (c .before .before .before .before .args .base)) (sym (c .before .before .own .given .1))
+
+returns-2 : tie.Need-returns-2
+returns-2 c = let s = sized-range _ _ _ (c .before .before .before .before .pre .0) (c .before .before .own2 .given .1) in (rw (held-small _ (s .1), held-small _ (s .2)) at (c .range-fits .ensures)) ∙ ap (λ (z : Typing). fitsBy z (c .before .before .before .before .args .base)) (sym (c .before .before .own2 .given .1))
+
+pub fits-spec : {M : Type 1} → statement M
+fits-spec =
+    tie.close
+    (tie.spec
+    (λ c. search needs)
+    (λ c κs. search needs)
+    (λ c. search needs)
+    range-fits-requires
+    (λ c. search needs)
+    (λ c κs. search needs)
+    (λ c. search needs)
+    (λ c. search needs)
+    returns
+    returns-2
+    (λ c. search needs)
+    (λ c. search needs)
+    (λ c. search needs))

@@ -1,0 +1,24 @@
+use mathlib.Core.Path.{sym, ap, _∙_}
+use Rattle.types.specs.Fitting.{textFitsBy}
+use borrow.Author.Needs.{needs}
+use Rattle.types.proofs.fitting.text_fits.Statement.{statement}
+use Rattle.types.proofs.fitting.text_fits.Tie as tie
+
+returns : tie.Need-returns
+returns c = c .limit-fits .ensures ∙ ap (textFitsBy (c .before .before .before .before .args .own)) (sym (c .before .before .base .given .1))
+
+pub text-fits-spec : {M : Type 1} → statement M
+text-fits-spec =
+    tie.close
+    (tie.spec
+    (λ c. search needs)
+    (λ c κs. search needs)
+    (λ c. search needs)
+    (λ c. search needs)
+    (λ c. search needs)
+    (λ c. search needs)
+    returns
+    (λ c. search needs)
+    (λ c. search needs)
+    (λ c. search needs)
+    (λ c. search needs))

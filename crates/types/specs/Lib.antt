@@ -1,0 +1,4 @@
+pub mod Rulings
+pub mod Values
+pub mod Places
+pub mod Fitting

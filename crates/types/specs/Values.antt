@@ -1,0 +1,90 @@
+-- Types by value, as the code holds them; and which part of 17 a type written over a base's is judged by.
+use mathlib.Core.Path.{_≡_}
+use mathlib.Core.Bool.{Bool, true}
+use mathlib.Core.Option.{Option, none, some}
+use mathlib.Core.List.{List, []}
+use Prim.Native.Nat.{ℕ, _≤_, _<_, _^_}
+use lib.IntN.{natAbs}
+use Rattle.rules.specs.Enumerations.{merge, enumFits, twice}
+use Rattle.rules.specs.Grammar as G
+use Rattle.rules.specs.Grammar.{WrittenType}
+use Rattle.rules.specs.Types.{Ty, text, range, numeric, structure, enum, fits}
+use Rattle.rules.specs.Book.{lengthOr}
+use Rattle.rules.specs.Judge.{meant}
+use Rattle.enumerations.specs.Standing.{Stands}
+use Rattle.parts.specs.Forms.{kindOf}
+use Rattle.scope.specs.Scope.{Fair}
+use Rattle.types.specs.declared.Typing.{Typing}
+use Rattle.types.specs.declared.Typing.the-variants.{Text, Range, Numeric, Enumeration, Structure}
+
+-- of an enumeration it says nothing more
+abbrev pub Valued : Ty → Typing → Type 0
+Valued (text m n) c = c ≡ Text (kindOf m) (lengthOr n)
+Valued (range r) c = c ≡ Range (r .decimals) (r .low) (r .high)
+Valued numeric c = c ≡ Numeric
+Valued (enum e) c = (p : ℕ) × (c ≡ Enumeration p)
+Valued structure c = c ≡ Structure
+
+-- the value of a type of the text t, whose enumeration stands in the book b
+abbrev pub Typed : List ℕ → List ℕ → Ty → Typing → Type 0
+Typed t b (text m n) c = c ≡ Text (kindOf m) (lengthOr n)
+Typed t b (range r) c = c ≡ Range (r .decimals) (r .low) (r .high)
+Typed t b numeric c = c ≡ Numeric
+Typed t b (enum e) c = (p : ℕ) × (c ≡ Enumeration p) × Stands t b e p
+Typed t b structure c = c ≡ Structure
+
+-- bounds are of at most 18 digits
+abbrev pub Sized : Typing → Type 0
+Sized (Text k n) = Unit {0}
+Sized (Range d l h) = (d ≤ 17) × (natAbs l < 10 ^ 18) × (natAbs h < 10 ^ 18)
+Sized Numeric = Unit {0}
+Sized (Enumeration p) = Unit {0}
+Sized Structure = Unit {0}
+
+-- a type that gives values, or none
+abbrev pub FairOrNone : List ℕ → Ty → Type 0
+FairOrNone t (text m n) = Fair t (text m n)
+FairOrNone t (range r) = Fair t (range r)
+FairOrNone t numeric = Unit {0}
+FairOrNone t (enum e) = Fair t (enum e)
+FairOrNone t structure = Unit {0}
+
+-- ---- what is written
+-- an enumeration's records stand at the start of the scratch x
+abbrev pub Scratched : List ℕ → List ℕ → Option WrittenType → Type 0
+Scratched t x none = Unit {0}
+Scratched t x (some (G.text m n)) = Unit {0}
+Scratched t x (some (G.range a b)) = Unit {0}
+Scratched t x (some G.numeric) = Unit {0}
+Scratched t x (some (G.enum e)) = Stands t x e 0
+Scratched t x (some (G.named r)) = Unit {0}
+
+-- and it has no element twice
+abbrev pub Once : Option WrittenType → Type 0
+Once none = Unit {0}
+Once (some (G.text m n)) = Unit {0}
+Once (some (G.range a b)) = Unit {0}
+Once (some G.numeric) = Unit {0}
+Once (some (G.enum e)) = twice e [] ≡ none
+Once (some (G.named r)) = Unit {0}
+
+-- 17 of all but a written enumeration, and of a written enumeration, over a base's type of its kind
+abbrev pub plainFits : Option WrittenType → Ty → Bool
+plainFits none b = true
+plainFits (some (G.text m n)) b = fits (meant (G.text m n) b) b
+plainFits (some (G.range x y)) b = fits (meant (G.range x y) b) b
+plainFits (some G.numeric) b = fits (meant G.numeric b) b
+plainFits (some (G.enum e)) b = true
+plainFits (some (G.named r)) b = true
+
+abbrev pub mergeFits : Option WrittenType → Ty → Bool
+mergeFits none b = true
+mergeFits (some (G.text m n)) b = true
+mergeFits (some (G.range x y)) b = true
+mergeFits (some G.numeric) b = true
+mergeFits (some (G.enum e)) (enum b) = enumFits (merge b e) b
+mergeFits (some (G.enum e)) (text m n) = true
+mergeFits (some (G.enum e)) (range r) = true
+mergeFits (some (G.enum e)) numeric = true
+mergeFits (some (G.enum e)) structure = true
+mergeFits (some (G.named r)) b = true

@@ -1,0 +1,149 @@
+// Types held against others, by value.
+ghost use mathlib.Core.Path.{_≡_};
+ghost use Prim.Native.Nat.{_≤_, _<_, _^_};
+ghost use lib.IntN.{natAbs};
+ghost use Rattle.types.specs.Values.{Sized};
+ghost use Rattle.types.specs.Fitting.{isEnumeration, placeIn, sortOf, limitFits, textFitsBy, rangeFitsBy, isNumericBy, fitsBy};
+use crate::Typing;
+
+pub fn is_enumeration(x: Typing) -> bool
+    ensures { λ r. ⌜ r ≡ isEnumeration x ⌝ }
+{
+    match x {
+        Typing::Text { kind: _, length: _ } => false,
+        Typing::Range {
+            decimals: _,
+            low: _,
+            high: _,
+        } => false,
+        Typing::Numeric => false,
+        Typing::Enumeration { place: _ } => true,
+        Typing::Structure => false,
+    }
+}
+
+// The place of an enumeration's records; 0 for another type.
+pub fn place_of(x: Typing) -> usize
+    ensures { λ r. ⌜ r ≡ placeIn x ⌝ }
+{
+    match x {
+        Typing::Text { kind: _, length: _ } => 0,
+        Typing::Range {
+            decimals: _,
+            low: _,
+            high: _,
+        } => 0,
+        Typing::Numeric => 0,
+        Typing::Enumeration { place } => place,
+        Typing::Structure => 0,
+    }
+}
+
+// NUMERIC.
+pub fn is_number(x: Typing) -> bool
+    ensures { λ r. ⌜ r ≡ isNumericBy x ⌝ }
+{
+    match x {
+        Typing::Text { kind: _, length: _ } => false,
+        Typing::Range {
+            decimals: _,
+            low: _,
+            high: _,
+        } => false,
+        Typing::Numeric => true,
+        Typing::Enumeration { place: _ } => false,
+        Typing::Structure => false,
+    }
+}
+
+// TEXT, MTEXT, number, enumeration, structure.
+pub fn sort_of(x: Typing) -> u8
+    ensures { λ r. ⌜ r ≡ sortOf x ⌝ }
+{
+    match x {
+        Typing::Text { kind, length: _ } => {
+            if kind == 9 {
+                return 2;
+            }
+            1
+        }
+        Typing::Range {
+            decimals: _,
+            low: _,
+            high: _,
+        } => 3,
+        Typing::Numeric => 3,
+        Typing::Enumeration { place: _ } => 4,
+        Typing::Structure => 5,
+    }
+}
+
+// ---- 17, of types of one kind
+fn limit_fits(own: u64, base: u64) -> bool
+    ensures { λ r. ⌜ r ≡ limitFits own base ⌝ }
+{
+    if base == 0 {
+        return true;
+    }
+    if own == 0 {
+        return false;
+    }
+    own <= base
+}
+
+fn text_fits(own: u64, base: Typing) -> bool
+    ensures { λ r. ⌜ r ≡ textFitsBy own base ⌝ }
+{
+    match base {
+        Typing::Text { kind: _, length } => limit_fits(own, length),
+        Typing::Range {
+            decimals: _,
+            low: _,
+            high: _,
+        } => true,
+        Typing::Numeric => true,
+        Typing::Enumeration { place: _ } => true,
+        Typing::Structure => true,
+    }
+}
+
+fn range_fits(own_decimals: u64, own_low: i64, own_high: i64, base: Typing) -> bool
+    requires { ⌜ («own_decimals» ≤ 17) × (natAbs «own_low» < 10 ^ 18) × (natAbs «own_high» < 10 ^ 18) ⌝ }
+    requires { ⌜ Sized base ⌝ }
+    ensures { λ r. ⌜ r ≡ rangeFitsBy «own_decimals» «own_low» «own_high» base ⌝ }
+{
+    match base {
+        Typing::Text { kind: _, length: _ } => true,
+        Typing::Range {
+            decimals,
+            low,
+            high,
+        } => {
+            if numbers::low_fits(own_decimals, decimals, own_low, low) {
+                return numbers::high_fits(own_decimals, decimals, own_high, high);
+            }
+            false
+        }
+        Typing::Numeric => true,
+        Typing::Enumeration { place: _ } => true,
+        Typing::Structure => true,
+    }
+}
+
+// An enumeration is not judged here.
+pub fn fits(own: Typing, base: Typing) -> bool
+    requires { ⌜ Sized own × Sized base ⌝ }
+    ensures { λ r. ⌜ r ≡ fitsBy own base ⌝ }
+{
+    match own {
+        Typing::Text { kind: _, length } => text_fits(length, base),
+        Typing::Range {
+            decimals,
+            low,
+            high,
+        } => range_fits(decimals, low, high, base),
+        Typing::Numeric => is_number(base),
+        Typing::Enumeration { place: _ } => true,
+        Typing::Structure => true,
+    }
+}

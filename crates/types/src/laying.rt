@@ -1,0 +1,125 @@
+// The records of a type, written where they fit and counted in any case.
+use crate::Typing;
+use crate::fitting::is_enumeration;
+use crate::fitting::place_of;
+use enumerations::lists::Size;
+use enumerations::lists::size_of;
+use enumerations::walk::Laid;
+ghost use mathlib.Core.Path.{_≡_};
+ghost use mathlib.Core.Bool.{true};
+ghost use mathlib.Core.List.{List, [], _∷_};
+ghost use Prim.Native.Nat.{ℕ, _+_, _≤_};
+ghost use lib.ListN.{length, take};
+ghost use Rattle.rules.specs.Enumerations.{Enum};
+ghost use Rattle.rules.specs.Types.{Ty};
+ghost use Rattle.rules.specs.Book.{typeRecords};
+ghost use Rattle.ground.specs.Parts.{part, splice};
+ghost use Rattle.enumerations.specs.Standing.{Stands};
+ghost use Rattle.enumerations.specs.Merging.{records, LaidAs};
+ghost use Rattle.types.specs.Values.{Valued, Typed, Sized};
+ghost use Rattle.types.specs.Fitting.{plainRecords};
+
+fn put_if(out: &mut [u8], at: usize, src: &[u8])
+    requires { ⌜ (at ≤ 65546) × (length (now src) ≤ 262144) ⌝ }
+    ensures { λ _. ⌜ (at + length (now (src .entry)) ≤ length (now (out .entry)) → now (out .exit) ≡ splice (now (out .entry)) at (now (src .entry))) ⌝ }
+{
+    if at + src.len() <= out.len() {
+        ground::put(out, at, src);
+    }
+}
+
+fn put_record(out: &mut [u8], at: usize, src: &[u8]) -> Laid
+    requires { ⌜ (at ≤ 65546) × (length (now src) ≤ 262144) ⌝ }
+    ensures { λ r. ⌜ LaidAs true (now (src .entry) ∷ []) at (now (out .entry)) (now (out .exit)) r ⌝ }
+{
+    put_if(out, at, src);
+    Laid::Whole(Size {
+        bytes: src.len(),
+        records: 1,
+    })
+}
+
+// The record of a type other than an enumeration.
+pub fn plain(out: &mut [u8], at: usize, x: Typing) -> Laid
+    requires { ⌜ Sized x ⌝ }
+    requires { ⌜ at ≤ 65546 ⌝ }
+    ensures { λ r. ⌜ LaidAs true (plainRecords x) at (now (out .entry)) (now (out .exit)) r ⌝ }
+{
+    match x {
+        Typing::Text { kind, length } => {
+            let r = book::length_record(kind, length as usize);
+            put_record(out, at, &r)
+        }
+        Typing::Range {
+            decimals,
+            low,
+            high,
+        } => {
+            let r = book::range_record(decimals as u8, low, high);
+            put_record(out, at, &r)
+        }
+        Typing::Numeric => {
+            let r = [11];
+            put_record(out, at, &r)
+        }
+        Typing::Enumeration { place: _ } => Laid::Whole(Size {
+            bytes: 0,
+            records: 0,
+        }),
+        Typing::Structure => Laid::Whole(Size {
+            bytes: 0,
+            records: 0,
+        }),
+    }
+}
+
+// The enumeration that stands at the start of x.
+pub fn copied(out: &mut [u8], at: usize, x: &[u8]) -> Laid
+    requires { ⌜ (at ≤ 65546) × (length (now x) ≤ 262144) ⌝ }
+    ensures { λ r. ⌜ ((t : List ℕ) (e : Enum) → Stands t (now (x .entry)) e 0 → LaidAs true (records e) at (now (out .entry)) (now (out .exit)) r) ⌝ }
+{
+    let s = size_of(x, 0);
+    let n = s.bytes;
+    if n <= x.len() {
+        put_if(out, at, &x[..n]);
+    }
+    Laid::Whole(s)
+}
+
+// Some of the first `used` bytes, behind them.
+fn copy_if(out: &mut [u8], used: usize, from: usize, n: usize, at: usize)
+    requires { ⌜ (used ≤ at) × (used ≤ length (now out)) × (at ≤ 65546) ⌝ }
+    ensures { λ _. ⌜ (from + n ≤ used → at + n ≤ length (now (out .entry)) → now (out .exit) ≡ splice (now (out .entry)) at (part (now (out .entry)) from n)) ⌝ }
+{
+    if used < from {
+        return;
+    }
+    if used - from < n {
+        return;
+    }
+    if at + n <= out.len() {
+        enumerations::lists::copy_within(out, from, n, at);
+    }
+}
+
+// The enumeration that stands in the first `used` bytes, once more.
+fn again(out: &mut [u8], used: usize, at: usize, from: usize) -> Laid
+    requires { ⌜ (used ≤ at) × (used ≤ length (now out)) × (at ≤ 65546) ⌝ }
+    ensures { λ r. ⌜ ((t : List ℕ) (e : Enum) → Stands t (take used (now (out .entry))) e from → LaidAs true (records e) at (now (out .entry)) (now (out .exit)) r) ⌝ }
+{
+    let s = size_of(&out[..used], from);
+    copy_if(out, used, from, s.bytes, at);
+    Laid::Whole(s)
+}
+
+// The base's type.
+pub fn alone(out: &mut [u8], used: usize, at: usize, own: Typing, base: Typing) -> Laid
+    requires { ⌜ Sized own ⌝ }
+    requires { ⌜ (used ≤ at) × (used ≤ length (now out)) × (at ≤ 65546) ⌝ }
+    ensures { λ r. ⌜ ((t : List ℕ) (b : Ty) → Valued b own → Typed t (take used (now (out .entry))) b base → LaidAs true (typeRecords b) at (now (out .entry)) (now (out .exit)) r) ⌝ }
+{
+    if is_enumeration(own) {
+        return again(out, used, at, place_of(base));
+    }
+    plain(out, at, own)
+}

@@ -1,0 +1,70 @@
+/* Auzuplens for C: the functions of libauzuplens.a (rust/archive makes it).
+ *
+ * No function asks anything of its arguments beyond what C itself does: each
+ * pointer leads to as many bytes as the length behind it says, a pointer is not
+ * null even where that length is 0, and the bytes of `book` that are written are
+ * no part of `text`. Every text, buffer and number has an answer. Nothing is
+ * kept between calls. A check keeps all that it needs on the stack, for which a
+ * thread of 2 megabytes serves (docs/BENCH.md). */
+#ifndef AUZUPLENS_H
+#define AUZUPLENS_H
+
+#include <stddef.h>
+#include <stdint.h>
+
+#ifdef __cplusplus
+extern "C" {
+#endif
+
+/* Checks a text. `book` then holds the book with zeros behind it, or, after a
+ * refusal, nothing but zeros. The answer is packed; the three functions below
+ * take it apart. */
+uint64_t auzuplens_check(const uint8_t *text, size_t text_length,
+                         uint8_t *book, size_t book_length);
+
+/* The number of the refusal, 1 to 19, or 0: the text is accepted. */
+static inline unsigned auzuplens_number(uint64_t answer)
+{
+    return (unsigned)(answer >> 48);
+}
+
+/* The count of definitions of an accepted text. */
+static inline unsigned auzuplens_definitions(uint64_t answer)
+{
+    return (unsigned)(answer >> 32 & 0xFFFF);
+}
+
+/* The place of the refusal, or the length of the book of an accepted text. */
+static inline size_t auzuplens_extent(uint64_t answer)
+{
+    return (size_t)(answer & 0xFFFFFFFF);
+}
+
+/* Reads a whole number with so many decimals at the base's decimals: the
+ * reading, 0 if it is refused; and the refusal, 20 or 21, 0 if there is none. */
+int64_t auzuplens_reading(int64_t value, uint64_t decimals, uint64_t base_decimals);
+uint64_t auzuplens_reading_refusal(int64_t value, uint64_t decimals, uint64_t base_decimals);
+
+/* The part of the text that is the name of the record with this number, packed;
+ * the two functions below take it apart. It is the empty part at the text's
+ * start if there is no such name. */
+uint64_t auzuplens_name(const uint8_t *text, size_t text_length,
+                        const uint8_t *book, size_t book_length, uint64_t record);
+
+/* Where the part starts in the text. */
+static inline size_t auzuplens_name_start(uint64_t part)
+{
+    return (size_t)(part >> 8);
+}
+
+/* How many bytes the part has. */
+static inline size_t auzuplens_name_length(uint64_t part)
+{
+    return (size_t)(part & 0xFF);
+}
+
+#ifdef __cplusplus
+}
+#endif
+
+#endif

@@ -1,0 +1,137 @@
+//! Runs generated cases through the archive and the independent checker, and
+//! says where they differ: `differ [COUNT] [FIRST SEED]`, a million from seed 0
+//! if not said otherwise.
+//!
+//! Of each seed: a case of `gen_small`, of every fourth seed one of `gen` too,
+//! with the answers and the whole buffers, full of other bytes before; the names
+//! of some records, of the book as it is, cut off or changed; a reading.
+
+use std::process::ExitCode;
+
+use auzuplens::Answer;
+use beside::{printed, Checker};
+use cases::{gen, gen_small, Case, Random};
+
+/// What was compared, and how often it differed.
+#[derive(Default)]
+struct Tally {
+    accepted: u64,
+    refused: [u64; 20],
+    names: u64,
+    readings: u64,
+    differences: u64,
+}
+
+impl Tally {
+    fn differs(&mut self, what: &str, found: &str, expected: &str) {
+        self.differences += 1;
+        println!("{what}: the archive says {found}, the independent checker {expected}");
+    }
+
+    /// The book of the case, of either checker if they agree.
+    fn case(&mut self, word: &str, case: &Case) -> Vec<u8> {
+        let (mut book, mut expected) = (vec![0xA5; case.buffer_len], vec![0x5A; case.buffer_len]);
+        let found = Checker::Archive.check(&case.text, &mut book);
+        let wanted = Checker::Peer.check(&case.text, &mut expected);
+        if found != wanted {
+            self.differs(word, &printed(found), &printed(wanted));
+        } else if book != expected {
+            self.differs(word, "another buffer", &printed(wanted));
+        }
+        match wanted {
+            Answer::Accepted { book_len, .. } => {
+                self.accepted += 1;
+                expected.truncate(book_len);
+                expected
+            }
+            Answer::Refused { number, .. } => {
+                self.refused[usize::from(number)] += 1;
+                Vec::new()
+            }
+        }
+    }
+
+    /// Names by the book as it is, cut off, or changed in a byte.
+    fn names(&mut self, random: &mut Random, word: &str, text: &[u8], mut book: Vec<u8>) {
+        let mut text = text;
+        match random.below(4) {
+            0 if !book.is_empty() => book.truncate(random.below(book.len())),
+            1 if !book.is_empty() => {
+                let at = random.below(book.len());
+                book[at] = random.below(256) as u8;
+            }
+            2 => text = &text[..random.below(text.len() + 1)],
+            _ => book.push(random.below(20) as u8),
+        }
+        for _ in 0..4 {
+            let record = random.below(1 + book.len() / 3) as u64;
+            self.names += 1;
+            let found = auzuplens::show_name(text, &book, record);
+            let wanted = peer::show_name(text, &book, record);
+            if !std::ptr::eq(found, wanted) {
+                let what = format!("{word}, name of record {record}");
+                self.differs(&what, &format!("{found:?}"), &format!("{wanted:?}"));
+            }
+        }
+    }
+
+    fn reading(&mut self, random: &mut Random) {
+        let power = 10_i64.pow(random.below(19) as u32);
+        let value = match random.below(10) {
+            0 => power,
+            1 => -power,
+            2 => power - 1,
+            3 => 1 - power,
+            4 => i64::MIN,
+            5 => random.draw() as i64,
+            _ => random.draw() as i64 % power,
+        };
+        let (decimals, base) = (random.below(20) as u64, random.below(20) as u64);
+        self.readings += 1;
+        let found = auzuplens::read_number(value, decimals, base);
+        let wanted = peer::read_number(value, decimals, base);
+        if found != wanted {
+            let what = format!("reading {value} with {decimals} decimals at {base}");
+            self.differs(&what, &format!("{found:?}"), &format!("{wanted:?}"));
+        }
+    }
+
+    fn seed(&mut self, seed: u64) {
+        let mut random = Random::new(seed ^ 0xD1FF);
+        let word = format!("small case {seed}");
+        let small = gen_small(seed);
+        let book = self.case(&word, &small);
+        self.names(&mut random, &word, &small.text, book);
+        if seed.is_multiple_of(4) {
+            let word = format!("case {seed}");
+            let large = gen(seed);
+            let book = self.case(&word, &large);
+            self.names(&mut random, &word, &large.text, book);
+        }
+        self.reading(&mut random);
+    }
+
+    fn print(&self) {
+        println!("accepted {:>9}", self.accepted);
+        for (number, cases) in self.refused.iter().enumerate().skip(1) {
+            println!("refused {number:>2} {cases:>7}");
+        }
+        println!("names    {:>9}", self.names);
+        println!("readings {:>9}", self.readings);
+        println!("differences {}", self.differences);
+    }
+}
+
+fn main() -> ExitCode {
+    let number = |position: usize, usual: u64| {
+        let argument = std::env::args().nth(position);
+        argument.map_or(usual, |argument| argument.parse().expect("a number"))
+    };
+    let (count, first) = (number(1, 1_000_000), number(2, 0));
+    let mut tally = Tally::default();
+    for seed in first..first + count {
+        tally.seed(seed);
+    }
+    tally.print();
+    ExitCode::from(u8::from(tally.differences > 0))
+}
