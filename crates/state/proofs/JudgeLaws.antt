@@ -1,13 +1,11 @@
 -- What Keeps says of numbers, and 19.
-use mathlib.Core.Path.{_≡_, refl, sym, ap, _∙_, subst}
+use mathlib.Core.Path.{_≡_, sym, ap, _∙_, subst}
 use mathlib.Core.Option.{Option, none, some}
-use mathlib.Core.Bool.{Bool, true, false, cond}
 use mathlib.Core.List.{List}
-use Prim.Native.Nat.{ℕ, _+_, _*_, _≤_, _<_, min}
+use Prim.Native.Nat.{ℕ, _+_, _*_, _≤_, _<_}
 use native.Mathlib.Nat.{min-eq-left}
 use native.Mathlib.Omega.{arith}
 use lib.ListN.{length}
-use lib.Dec.{ltb}
 use borrow.Author.Tests.{lt-ltb, le-ltb}
 use Rattle.rules.specs.Names as R
 use Rattle.rules.specs.Declarations.{Def, State, numberIn}
@@ -17,7 +15,7 @@ use Rattle.rules.specs.Judge.{Judged, ok, refused, judge}
 use Rattle.rules.specs.Check.{unitPlace, capacity, room}
 use Rattle.enumerations.specs.Standing.{InText}
 use Rattle.names.specs.Index.{homeNumber}
-use Rattle.names.specs.References.{bytesOf, nameOf, Inside}
+use Rattle.names.specs.References.{bytesOf}
 use Rattle.readers.specs.Reads.{nameCut}
 use Rattle.state.specs.declared.State as code
 use Rattle.state.specs.declared.Judged as code-judged

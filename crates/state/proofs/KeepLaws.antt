@@ -3,17 +3,17 @@ use mathlib.Core.Path.{_≡_, refl, sym, ap, _∙_, subst}
 use mathlib.Core.Bool.{Bool, true, false, cond, not, _&&_}
 use mathlib.Core.Option.{Option, none, some}
 use mathlib.Core.List.{List, [], _∷_, _++_, append-assoc, append-nil}
-use Prim.Native.Nat.{ℕ, zero, suc, _+_, _*_, _≤_, _<_}
+use Prim.Native.Nat.{ℕ, zero, suc, _+_, _*_, _≤_}
 use native.Mathlib.Omega.{arith}
 use lib.ListN.{length, length-append, take, drop, set, replicate}
-use lib.Seq.{take-at, length-take-le}
+use lib.Seq.{take-at}
 use lib.Dec.{leb}
 use Rattle.rules.specs.Names as R
 use Rattle.rules.specs.Enumerations.{Enum, end, elem}
 use Rattle.rules.specs.Types.{Ty, text, range, numeric, structure, enum}
 use Rattle.rules.specs.Declarations as D
 use Rattle.rules.specs.Declarations.{Use, inline, named, struct, Attribute, Sort, Def, attributeAt, attributesOf, isFound, nameCount, Decl, def, endTopic, State, known}
-use Rattle.rules.specs.Book.{Record, bytes, nameRecord, defRecord, innerRecords, openRecord, elementRecords, typeRecords, useRecords, headRecords, endRecords, declRecords, declsRecords, attributeRecords, attributesRecords, records, book, isDefinition, definitions}
+use Rattle.rules.specs.Book.{Record, bytes, nameRecord, defRecord, innerRecords, elementRecords, typeRecords, useRecords, headRecords, endRecords, declRecords, declsRecords, attributeRecords, attributesRecords, records, book, isDefinition, definitions}
 use Rattle.rules.specs.Judge.{declare, opened, inTopic, begun, classSort, withAttribute}
 use Rattle.rules.specs.Check.{nothing}
 use Rattle.ground.specs.Parts.{splice}
@@ -22,10 +22,10 @@ use Rattle.names.specs.Index.{nth, entry, row}
 use Rattle.names.specs.Chains.{Chains}
 use Rattle.names.proofs.IndexLaws.{entry-keep}
 use Rattle.names.proofs.KnownLaws.{chains-none}
-use Rattle.members.specs.Held.{DefRow, AttributeRow, OpenRow, Opened, InHand, ownsOf, attributesIn, HeldIn}
+use Rattle.members.specs.Held.{DefRow, AttributeRow, OpenRow, Opened, ownsOf, attributesIn}
 use Rattle.members.proofs.HeldLaws.{Agree}
 use Rattle.members.proofs.StateLaws.{known-append, book-attribute, held-declared, held-opened, held-member, held-closed, held-ended, open-row-more}
-use Rattle.scope.specs.Scope.{AnyIs, FairOpen, FairState}
+use Rattle.scope.specs.Scope.{FairOpen, FairState}
 use Rattle.scope.proofs.ListLaws.{any-is}
 use Rattle.scope.proofs.UseLaws.{fair-nothing}
 use Rattle.state.specs.declared.State as code

@@ -1,9 +1,8 @@
 -- The row that the code writes of a new definition.
-use mathlib.Core.Path.{_≡_, refl, sym, ap, _∙_}
+use mathlib.Core.Path.{_≡_, sym, ap, _∙_}
 use mathlib.Core.Bool.{false}
-use mathlib.Core.Option.{none, some}
 use mathlib.Core.List.{List, []}
-use Prim.Native.Nat.{ℕ, _+_, _≤_, _<_}
+use Prim.Native.Nat.{ℕ, _≤_, _<_}
 use native.Mathlib.Omega.{arith}
 use lib.ListN.{length, drop}
 use lib.Seq.{drop-length}
@@ -16,7 +15,7 @@ use Rattle.ground.specs.declared.Name as code
 use Rattle.names.specs.declared.NewDefinition.{NewDefinition}
 use Rattle.names.specs.Index.{entry, homeNumber, Named, Says, Based}
 use Rattle.names.specs.Rows.{definitionRow}
-use Rattle.members.specs.Members.{Unlike, Owns}
+use Rattle.members.specs.Members.{Unlike}
 use Rattle.members.specs.Held.{Stands, heading, DefRow, OpenRow}
 use Rattle.readers.specs.Reads.{nameCut}
 

@@ -1,25 +1,23 @@
 -- Names that are taken, references, EXTENDS, properties.
 use mathlib.Core.Path.{_≡_, refl, sym, ap, _∙_, subst}
-use mathlib.Core.Bool.{Bool, true, false, cond, not, _&&_, _||_}
+use mathlib.Core.Bool.{Bool, true, false, _&&_, _||_}
 use mathlib.Core.Option.{Option, none, some}
 use mathlib.Core.List.{List}
-use Prim.Native.Nat.{ℕ, zero, suc, _+_, _≤_, _<_}
+use Prim.Native.Nat.{ℕ, zero, suc, _≤_}
 use native.Mathlib.Omega.{arith}
 use lib.ListN.{length}
-use lib.Dec.{eqb, ltb}
-use borrow.Author.Tests.{lt-ltb, le-ltb, eq-eqb, ne-eqb}
+use lib.Dec.{ltb}
+use borrow.Author.Tests.{lt-ltb, eq-eqb, ne-eqb}
 use Rattle.rules.specs.Names as R
 use Rattle.rules.specs.Grammar as G
 use Rattle.rules.specs.Declarations.{Def, Sort, sortNumber, isFound, State, resolve}
-use Rattle.rules.specs.Book.{flags, noBase, baseNumber}
+use Rattle.rules.specs.Book.{noBase, baseNumber}
 use Rattle.rules.specs.Judge.{hasTwice, isAbstract, isFinal, firstPlace, basesOf, resolved, extendsRules}
-use Rattle.rules.proofs.Tests.{or-l}
-use Rattle.ground.specs.declared.Name.{Name}
 use Rattle.ground.specs.declared.Reference.{Reference}
 use Rattle.ground.specs.declared.Reference.the-variants.{Bare, InModel, InTopic}
 use Rattle.enumerations.specs.Standing.{InText}
 use Rattle.names.specs.Index.{entry, row, Says, Known}
-use Rattle.names.specs.References.{bytesOf, nameOf, Inside, AllInside}
+use Rattle.names.specs.References.{nameOf, AllInside}
 use Rattle.names.specs.References as N
 use Rattle.names.proofs.IndexLaws.{there}
 use Rattle.names.proofs.BaseLaws.{entry-there}

@@ -1,7 +1,5 @@
 use mathlib.Core.Path.{refl}
 use Rattle.state.proofs.SharedLaws.{mixed-twice, mixed-abstract, mixed-other}
-use native.Mathlib.Omega.{arith}
-use borrow.Author.Needs.{needs}
 use Rattle.state.proofs.are_mixed.Statement.{statement}
 use Rattle.state.proofs.are_mixed.Tie as tie
 

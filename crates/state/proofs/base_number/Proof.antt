@@ -1,5 +1,4 @@
 use Rattle.state.proofs.SharedLaws.{number-none, number-some}
-use native.Mathlib.Omega.{arith}
 use borrow.Author.Needs.{needs}
 use Rattle.state.proofs.base_number.Statement.{statement}
 use Rattle.state.proofs.base_number.Tie as tie

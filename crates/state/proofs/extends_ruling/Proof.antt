@@ -1,6 +1,5 @@
 use mathlib.Core.Bool.{false}
 use Rattle.state.proofs.SharedLaws.{ruling-none, ruling-sort, ruling-final, ruling-fine}
-use native.Mathlib.Omega.{arith}
 use borrow.Author.Needs.{needs}
 use Rattle.state.proofs.extends_ruling.Statement.{statement}
 use Rattle.state.proofs.extends_ruling.Tie as tie

@@ -1,6 +1,5 @@
 use mathlib.Core.Path.{sym, ap, _∙_}
 use Rattle.state.proofs.SharedLaws.{firstOf, first-of}
-use native.Mathlib.Omega.{arith}
 use borrow.Author.Needs.{needs}
 use Rattle.state.proofs.first_place.Statement.{statement}
 use Rattle.state.proofs.first_place.Tie as tie

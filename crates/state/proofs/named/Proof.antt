@@ -4,7 +4,6 @@ use Rattle.rules.specs.Declarations.{resolve}
 use Rattle.members.proofs.HeldLaws.{indexed}
 use Rattle.state.proofs.JudgeLaws.{home-number}
 use Rattle.state.proofs.SharedLaws.{reference-cut}
-use native.Mathlib.Omega.{arith}
 use borrow.Author.Needs.{needs}
 use Rattle.state.proofs.named.Statement.{statement}
 use Rattle.state.proofs.named.Tie as tie

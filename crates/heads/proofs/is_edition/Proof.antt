@@ -1,0 +1,30 @@
+use Rattle.heads.proofs.UnitLaws.{edition-first, edition-second, edition-third, edition-other}
+use borrow.Author.Needs.{needs}
+use Rattle.heads.proofs.is_edition.Statement.{statement}
+use Rattle.heads.proofs.is_edition.Tie as tie
+
+returns : tie.Need-returns
+returns c = edition-third (c .before .before .before .before .before .before .before .args .text .now) (c .before .before .before .before .before .before .before .args .name) (c .before .before .before .before .before .before .before .pre) (c .before .before .before .before .before .if1 .taken) (c .before .before .before .if2 .taken) (c .before .if3 .taken)
+
+returns-2 : tie.Need-returns-2
+returns-2 c = edition-second (c .before .before .before .before .before .before .args .text .now) (c .before .before .before .before .before .before .args .name) (c .before .before .before .before .before .before .pre) (c .before .before .before .before .if1 .taken) (c .before .before .if2 .taken) (c .if3 .left)
+
+returns-3 : tie.Need-returns-3
+returns-3 c = edition-first (c .before .before .before .before .args .text .now) (c .before .before .before .before .args .name) (c .before .before .before .before .pre) (c .before .before .if1 .taken) (c .if2 .left)
+
+returns-4 : tie.Need-returns-4
+returns-4 c = edition-other (c .before .before .args .text .now) (c .before .before .args .name) (c .before .before .pre) (c .if1 .left)
+
+pub is-edition-spec : {M : Type 1} → statement M
+is-edition-spec =
+    tie.close
+    (tie.spec
+    (λ c. search needs)
+    (λ c. search needs)
+    (λ c. search needs)
+    (λ c. search needs)
+    (λ c. search needs)
+    returns
+    returns-2
+    returns-3
+    returns-4)
