@@ -1,0 +1,7 @@
+pub mod NameLaws
+pub mod GivenLaws
+pub mod UseLaws
+pub mod LayLaws
+pub mod EndLaws
+pub mod StageLaws
+pub mod WholeLaws

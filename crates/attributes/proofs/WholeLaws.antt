@@ -1,0 +1,180 @@
+-- Judging an attribute as a whole: what each stage hands to the next, and what the answer is.
+use mathlib.Core.Path.{_≡_, refl, sym, ap, _∙_, subst}
+use mathlib.Core.Bool.{Bool, true, false, not, _&&_}
+use mathlib.Core.Option.{Option, none, some}
+use mathlib.Core.List.{List, [], _∷_}
+use Prim.Native.Nat.{ℕ, _+_, _≤_, _<_}
+use native.Mathlib.Omega.{arith}
+use lib.ListN.{length, take}
+use lib.Dec.{ltb}
+use borrow.Author.Tests.{ltb-true, ltb-false, lt-ltb}
+use Rattle.rules.specs.Names as R
+use Rattle.rules.specs.Grammar as G
+use Rattle.rules.specs.Units as U
+use Rattle.rules.specs.Declarations.{tyOf, Attribute, Def, attributeAt, isFound, State, known}
+use Rattle.rules.specs.Book.{Record, bytes, useRecords}
+use Rattle.rules.specs.Judge.{Judged, ok, refused, judge, orNoAttribute, isExtended, hasTwice, elementRule, referenceIn, resolved}
+use Rattle.rules.specs.Check.{room}
+use Rattle.ground.specs.Parts.{splice}
+use Rattle.enumerations.specs.Merging.{sizeOf}
+use Rattle.enumerations.specs.declared.lists.Size.{Size}
+use Rattle.names.specs.Index.{entry}
+use Rattle.members.specs.Held.{attributesIn, useFor}
+use Rattle.scope.specs.Scope.{AnyIs, Begins}
+use Rattle.scope.proofs.KeepLaws.{judge-fair}
+use Rattle.types.specs.Rulings.{rulingOf, judgedBy}
+use Rattle.types.specs.declared.Ruling.{Ruling}
+use Rattle.types.proofs.TypeLaws.{once-of}
+use Rattle.units.specs.declared.AttributeUnit.{AttributeUnit}
+use Rattle.units.specs.declared.Unit.the-variants.{Attribute as V·Attribute}
+use Rattle.state.specs.declared.State as code
+use Rattle.state.specs.declared.Judged as code-judged
+use Rattle.state.specs.Keeping.{Keeps, Comes, JudgedAs, verdict}
+use Rattle.state.proofs.KeepLaws.{plain-use}
+use Rattle.domains.specs.Written.{LaidWhen}
+use Rattle.domains.specs.declared.written.Laying.{Laying}
+use Rattle.domains.specs.declared.written.Laying.the-variants.{Whole, Broken}
+use Rattle.attributes.specs.Stages.{useOf, nameRules, referenceRules, headRules}
+use Rattle.attributes.specs.Facts.{Given, Refers, Early-is, Typings-are, Lays, LaidAs, Passes, useIn, afterAttribute}
+use Rattle.attributes.specs.declared.early.Early.{Early}
+use Rattle.attributes.specs.declared.uses.Typings.{Typings}
+use Rattle.attributes.proofs.NameLaws.{found-is}
+use Rattle.attributes.proofs.StageLaws.{given, class-there, ready, at-name, is-twice, at-type, is-meant, early-off, refers-is, earlies, heads, uses, judged-in-stages, stage-broken, stage-passed}
+
+laid-refused : (b : Bool) (q : Ruling) (l : List Record) (i : ℕ) (o o₁ : List ℕ) (r : Ruling) → LaidWhen b q l i o o₁ (Broken r) → (b ≡ true) × (r ≡ q)
+laid-refused true q l i o o₁ r h = let e : r ≡ q = cc in (refl, e)
+laid-refused false q l i o o₁ r h = let e = h .0 in let z : _≡_ {A = ℕ} 0 1 = cc in absurd (omega arith)
+
+laid-accepted : (b : Bool) (q : Ruling) (l : List Record) (i : ℕ) (o o₁ : List ℕ) (s : Size) → LaidWhen b q l i o o₁ (Whole s) → (b ≡ false) × (s ≡ sizeOf l) × (i + length (bytes l) ≤ length o → o₁ ≡ splice o i (bytes l))
+laid-accepted true q l i o o₁ s h = let z : _≡_ {A = ℕ} 0 1 = cc in absurd (omega arith)
+laid-accepted false q l i o o₁ s h = let e = h .0 in let k : s ≡ sizeOf l = cc in (refl, k, h .1)
+
+based-of : (x f : Bool) → x ≡ true → (x && not f) ≡ false → f ≡ true
+based-of true true e h = refl
+based-of true false e h = sym h
+based-of false f e h = let z : _≡_ {A = ℕ} 0 1 = cc in absurd (omega arith)
+
+module _ (t : List ℕ) (s : State) (st : code.State) (o x z y ns ps : List ℕ) (n : R.Name) (p : List (List ℕ)) (w : G.Written) (a : AttributeUnit) (rs : List ℕ) (k : Keeps t s st o x z y ns ps) (m : Comes t s (U.attribute n p w) (V·Attribute a) rs) where
+  pub unit-is : Given t n p w rs a
+  unit-is = given t s n p w a rs m
+
+  pub class-is : (c : Def) × (s .open-class ≡ some c)
+  class-is = class-there s (m .stands)
+
+  abbrev c· : Def
+  c· = class-is .0
+
+  abbrev base· : Option Attribute
+  base· = attributeAt (n .bytes) (c· .inherited)
+
+  abbrev named· : Option Def
+  named· = resolved s (referenceIn (w .type))
+
+  stages : judge s (U.attribute n p w) ≡ judgedBy (rulingOf (earlies s c· n p w)) (judgedBy (rulingOf (heads s c· n p w)) (judgedBy (rulingOf (uses s c· n p w)) (ok (afterAttribute s c· n p w))))
+  stages = judged-in-stages s c· n p w (class-is .1)
+
+  module _ (e : Early) (ei : Early-is s (class-is .0) n (isExtended p) (w .type) ns ps (st .«in_hand») e) where
+    pub judged-first : 0 < e .ruling .number → judge s (U.attribute n p w) ≡ refused (e .ruling .number) (e .ruling .place)
+    judged-first h = stages ∙ ap (λ (r : Ruling). judgedBy r (judgedBy (rulingOf (heads s c· n p w)) (judgedBy (rulingOf (uses s c· n p w)) (ok (afterAttribute s c· n p w))))) (sym (ei .ruling)) ∙ stage-broken (e .ruling) _ h
+
+    module _ (h : e .ruling .number ≤ 0) where
+      first-off : e .ruling .number ≡ 0
+      first-off = omega arith
+
+      past-first : judge s (U.attribute n p w) ≡ judgedBy (rulingOf (heads s c· n p w)) (judgedBy (rulingOf (uses s c· n p w)) (ok (afterAttribute s c· n p w)))
+      past-first = stages ∙ ap (λ (r : Ruling). judgedBy r (judgedBy (rulingOf (heads s c· n p w)) (judgedBy (rulingOf (uses s c· n p w)) (ok (afterAttribute s c· n p w))))) (sym (ei .ruling)) ∙ stage-passed (e .ruling) _ h
+
+      base-is : entry (attributesIn s) (e .base) ≡ base·
+      base-is = ei .base first-off
+
+      named-is : entry (known (s .decls)) (e .named) ≡ named·
+      named-is = ei .named first-off
+
+      offs : (rulingOf (nameRules c· n (isExtended p)) .number ≡ 0) × (rulingOf (elementRule (w .type) ∷ []) .number ≡ 0) × (rulingOf (referenceRules (n .offset) (isExtended p) (isFound base·) (referenceIn (w .type)) named·) .number ≡ 0)
+      offs = early-off c· n (isExtended p) (isFound base·) (w .type) named· (ap (λ (r : Ruling). r .number) (sym (ei .ruling)) ∙ first-off)
+
+      refer : Refers (referenceIn (w .type)) named· × ((isExtended p && not (isFound base·)) ≡ false)
+      refer = refers-is (n .offset) (isExtended p) (isFound base·) (referenceIn (w .type)) named· (λ q. ap (resolved s) q) (offs .2)
+
+      pub refers-to : Refers (referenceIn (w .type)) (entry (known (s .decls)) (e .named))
+      refers-to = subst (Refers (referenceIn (w .type))) (sym named-is) (refer .0)
+
+      alone : w .type ≡ none → isFound (entry (attributesIn s) (e .base)) ≡ true
+      alone q = ap isFound base-is ∙ based-of (isExtended p) (isFound base·) (unit-is .fair .alone q) (refer .1)
+
+      module _ (r : Typings) (ri : Typings-are t (take (st .used) o) (known (s .decls)) (a .name .offset) (a .properties .twice) (w .type) (entry (known (s .decls)) (e .named)) (entry (attributesIn s) (e .base)) r) where
+        heads-are : r .ruling ≡ rulingOf (heads s c· n p w)
+        heads-are =
+            ri .ruling
+            ∙ ap (λ (i : ℕ). rulingOf (headRules i (orNoAttribute (entry (attributesIn s) (e .base)) .final) (a .properties .twice) (useOf (w .type) (entry (known (s .decls)) (e .named)) (orNoAttribute (entry (attributesIn s) (e .base)) .use-of)) (entry (known (s .decls)) (e .named)))) (at-name t n p w rs a unit-is)
+            ∙ ap (λ (b : Bool). rulingOf (headRules (n .offset) (orNoAttribute (entry (attributesIn s) (e .base)) .final) b (useOf (w .type) (entry (known (s .decls)) (e .named)) (orNoAttribute (entry (attributesIn s) (e .base)) .use-of)) (entry (known (s .decls)) (e .named)))) (is-twice t n p w rs a unit-is)
+            ∙ ap (λ (i : Option Attribute). rulingOf (headRules (n .offset) (orNoAttribute i .final) (hasTwice p) (useOf (w .type) (entry (known (s .decls)) (e .named)) (orNoAttribute i .use-of)) (entry (known (s .decls)) (e .named)))) base-is
+            ∙ ap (λ (d : Option Def). rulingOf (headRules (n .offset) (orNoAttribute base· .final) (hasTwice p) (useOf (w .type) d (orNoAttribute base· .use-of)) d)) named-is
+
+        pub judged-second : 0 < r .ruling .number → judge s (U.attribute n p w) ≡ refused (r .ruling .number) (r .ruling .place)
+        judged-second h2 = past-first ∙ ap (λ (q : Ruling). judgedBy q (judgedBy (rulingOf (uses s c· n p w)) (ok (afterAttribute s c· n p w)))) (sym heads-are) ∙ stage-broken (r .ruling) _ h2
+
+        module _ (h2 : r .ruling .number ≤ 0) where
+          past-second : judge s (U.attribute n p w) ≡ judgedBy (rulingOf (uses s c· n p w)) (ok (afterAttribute s c· n p w))
+          past-second = past-first ∙ ap (λ (q : Ruling). judgedBy q (judgedBy (rulingOf (uses s c· n p w)) (ok (afterAttribute s c· n p w)))) (sym heads-are) ∙ stage-passed (r .ruling) _ h2
+
+          pub lays : e .base ≤ st .total → e .named ≤ st .count → Lays t (take (st .used) o) (known (s .decls)) (attributesIn s) x (st .count) y (st .total) rs (a .written) (e .base) (e .named) (r .used) (r .own) (r .base) (w .type)
+          lays hb hn = record {
+            ready = ready t s st o x z y ns ps k;
+            within = hb;
+            meant = is-meant t n p w rs a unit-is;
+            begins = subst (λ (i : ℕ). AnyIs (Begins i) (w .type)) (sym (at-type t n p w rs a unit-is)) (unit-is .fair .begins);
+            scratched = unit-is .scratched;
+            once = once-of (w .type) (offs .1);
+            refers = refers-to;
+            alone = alone;
+            used = ri .used;
+            typed = ri .base;
+            valued = ri .own;
+            typed-named = λ v. ri .named (found-is (known (s .decls)) (e .named) (let i = k .held .all-defs in omega arith) ∙ lt-ltb 0 (e .named) v);
+          }
+
+          module _ (l : Laying) (o₁ : List ℕ) (li : LaidAs (a .written .place) (w .type) (entry (known (s .decls)) (e .named)) (entry (attributesIn s) (e .base)) (st .used + 11) o o₁ l) where
+            laid : LaidAs (w .place) (w .type) named· base· (st .used + 11) o o₁ l
+            laid =
+                subst (λ (d : Option Def). LaidAs (w .place) (w .type) d base· (st .used + 11) o o₁ l) named-is
+                (subst (λ (i : Option Attribute). LaidAs (w .place) (w .type) (entry (known (s .decls)) (e .named)) i (st .used + 11) o o₁ l) base-is
+                (subst (λ (i : ℕ). LaidAs i (w .type) (entry (known (s .decls)) (e .named)) (entry (attributesIn s) (e .base)) (st .used + 11) o o₁ l) (at-type t n p w rs a unit-is) li))
+
+            abbrev Is : Laying → Type 0
+            Is i = LaidWhen (ltb 0 (rulingOf (uses s c· n p w) .number)) (rulingOf (uses s c· n p w)) (useRecords (useIn s c· n w)) (st .used + 11) o o₁ i
+
+            pub judged-third : (q : Ruling) → l ≡ Broken q → judge s (U.attribute n p w) ≡ refused (q .number) (q .place)
+            judged-third q f =
+                let (b, i) = laid-refused (ltb 0 (rulingOf (uses s c· n p w) .number)) (rulingOf (uses s c· n p w)) (useRecords (useIn s c· n w)) (st .used + 11) o o₁ q (subst Is f laid) in
+                past-second ∙ stage-broken (rulingOf (uses s c· n p w)) (ok (afterAttribute s c· n p w)) (ltb-true 0 (rulingOf (uses s c· n p w) .number) b) ∙ ap (λ (j : Ruling). refused (j .number) (j .place)) (sym i)
+
+            module _ (size : Size) (f : l ≡ Whole size) where
+              accepted : (ltb 0 (rulingOf (uses s c· n p w) .number) ≡ false) × (size ≡ sizeOf (useRecords (useIn s c· n w))) × (st .used + 11 + length (bytes (useRecords (useIn s c· n w))) ≤ length o → o₁ ≡ splice o (st .used + 11) (bytes (useRecords (useIn s c· n w))))
+              accepted = laid-accepted (ltb 0 (rulingOf (uses s c· n p w) .number)) (rulingOf (uses s c· n p w)) (useRecords (useIn s c· n w)) (st .used + 11) o o₁ size (subst Is f laid)
+
+              pub judged-all : judge s (U.attribute n p w) ≡ ok (afterAttribute s c· n p w)
+              judged-all = past-second ∙ stage-passed (rulingOf (uses s c· n p w)) (ok (afterAttribute s c· n p w)) (ltb-false 0 (rulingOf (uses s c· n p w) .number) (accepted .0))
+
+              pub size-solid : size .records ≤ size .bytes
+              size-solid = let i = ap (λ (j : Size). j .records) (accepted .1) in let j = ap (λ (j : Size). j .bytes) (accepted .1) in let q = plain-use (useIn s c· n w) .solid in omega arith
+
+              pub passes : (u : ℕ) → useFor (entry (known (s .decls)) u) (tyOf (useOf (w .type) (entry (known (s .decls)) (e .named)) (orNoAttribute (entry (attributesIn s) (e .base)) .use-of))) ≡ useOf (w .type) (entry (known (s .decls)) (e .named)) (orNoAttribute (entry (attributesIn s) (e .base)) .use-of)
+                  → Passes t s st o o₁ x z y ns ps rs c· n p w a (e .slot) (e .base) (e .named) u size
+              passes u eu = record {
+                keeps = k;
+                open-is = class-is .1;
+                given = unit-is;
+                new = offs .0;
+                at-slot = ei .slot first-off;
+                inherits = base-is;
+                names = named-is;
+                uses = rw (named-is, base-is) at eu;
+                sized = accepted .1;
+                laid = accepted .2;
+                fair = judge-fair t s (afterAttribute s c· n p w) (U.attribute n p w) (m .fair) (m .stands) (k .fair) judged-all;
+              }
+
+              -- the end's answer is the whole answer
+              pub judged-end : (j : code-judged.Judged) (o₂ y′ ns′ ps′ : List ℕ) → JudgedAs t (room (length o) (n .offset) (ok (afterAttribute s c· n p w))) st j o₂ x z y′ ns′ ps′ → JudgedAs t (verdict s (U.attribute n p w) o) st j o₂ x z y′ ns′ ps′
+              judged-end j o₂ y′ ns′ ps′ q = subst (λ (i : Judged). JudgedAs t (room (length o) (n .offset) i) st j o₂ x z y′ ns′ ps′) (sym judged-all) q

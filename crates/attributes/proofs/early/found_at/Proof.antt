@@ -1,0 +1,19 @@
+use Rattle.attributes.proofs.NameLaws.{no-slot, at-slot, slot-within}
+use native.Mathlib.Omega.{arith}
+use borrow.Author.Needs.{needs}
+use Rattle.attributes.proofs.early.found_at.Statement.{statement}
+use Rattle.attributes.proofs.early.found_at.Tie as tie
+
+returns : tie.Need-returns
+returns c = (omega arith, λ ms h ns k n et f e. no-slot ms h ns _ k n f (c .before .before .args .slot) e (c .if1 .taken))
+
+returns-2 : tie.Need-returns-2
+returns-2 c = (omega arith, λ ms h ns k n et f e. at-slot ms h ns _ k n f (c .before .before .before .before .before .args .slot) e (c .before .before .before .if1 .left) _ (c .before .wide2 .ensures .0))
+
+returns-3 : tie.Need-returns-3
+returns-3 c = (omega arith, λ ms h ns k n et f e. let v = slot-within ms h ns _ k n f (c .before .before .before .before .before .args .slot) e (c .before .before .before .if1 .left) _ (c .before .wide2 .ensures .0) in absurd (omega (arith, c .if2 .left)))
+
+pub found-at-spec : {M : Type 1} → statement M
+found-at-spec =
+    tie.close
+    (tie.spec returns (λ c. search needs) (λ c. search needs) (λ c. search needs) (λ c κs. search needs) returns-2 returns-3)

@@ -1,0 +1,16 @@
+use mathlib.Core.Path.{refl}
+use Rattle.attributes.proofs.UseLaws.{named-domain, named-structure}
+use borrow.Author.Needs.{needs}
+use Rattle.attributes.proofs.uses.named_type.Statement.{statement}
+use Rattle.attributes.proofs.uses.named_type.Tie as tie
+
+returns : tie.Need-returns
+returns c = λ t ks ms n y total d r e. named-domain t _ ks ms _ n y total r (c .before .before .before .before .before .before .args .p) d e _ (c .before .before .before .sort-of .ensures) (c .before .before .if1 .taken) _ (c .before .place-of .ensures .0) _ (c .type-at .ensures)
+
+returns-2 : tie.Need-returns-2
+returns-2 c = λ t ks ms n y total d r e. named-structure t _ ks ms _ n y total r (c .before .before .before .before .args .p) d e _ (c .before .sort-of .ensures) (c .if1 .left) _ refl
+
+pub named-type-spec : {M : Type 1} → statement M
+named-type-spec =
+    tie.close
+    (tie.spec (λ c κs. search needs) (λ c κs. search needs) (λ c. search needs) (λ c κs. search needs) returns returns-2)
