@@ -1,0 +1,142 @@
+use mathlib.Core.Path.{refl}
+use Rattle.judge.specs.Judging.{Answers}
+use Rattle.judge.proofs.UnitLaws.{by-header, by-model, by-topic, by-class, by-domain, by-attribute, by-close, by-mark, a-header, a-model, a-topic, a-class, a-domain, an-attribute, a-close}
+use native.Mathlib.Omega.{arith}
+use borrow.Author.Needs.{needs}
+use Rattle.judge.proofs.judge.Statement.{statement}
+use Rattle.judge.proofs.judge.Tie as tie
+
+judge-header-requires : tie.Need-judge-header-requires
+judge-header-requires c κs =
+    let s = c .before .before .before .before .before .before .before .before .before .before .before .before .before in
+    let (i, v, k, m) = s .pre .1 .1 .1 .1 .1 in
+    let (x, h) = a-header v m (c .before .unit .given .1) in
+    (s .pre .0 .0, (i, x, _, _, _, _, _, _, _, k, h))
+
+judge-model-requires : tie.Need-judge-model-requires
+judge-model-requires c κs =
+    let s = c .before .before .before .before .before .before .before .before .before .before .before .before .before .before in
+    let (i, v, k, m) = s .pre .1 .1 .1 .1 .1 in
+    let (n, h) = a-model v m (c .before .before .unit2 .given .1) in
+    (s .pre .0, (i, n, _, _, _, _, _, _, k, h))
+
+judge-topic-requires : tie.Need-judge-topic-requires
+judge-topic-requires c κs =
+    let s = c .before .before .before .before .before .before .before .before .before .before .before .before .before .before .before .before in
+    let (i, v, k, m) = s .pre .1 .1 .1 .1 .1 in
+    let (n, h) = a-topic v m (c .before .before .before .before .unit3 .given .1) in
+    (s .pre .0, ((s .pre .1 .0 .0, s .pre .1 .0 .1), (i, n, _, _, _, _, k, h)))
+
+judge-class-requires : tie.Need-judge-class-requires
+judge-class-requires c κs =
+    let s = c .before .before .before .before .before .before .before .before .before .before .before .before .before .before .before .before .before .before .before in
+    let (i, v, k, m) = s .pre .1 .1 .1 .1 .1 in
+    let (q, n, p, b, h) = a-class v m (c .before .before .before .before .before .before .before .unit4 .given .1) in
+    (s .pre .0, (s .pre .1 .0, (s .pre .1 .1 .0, (i, q, n, p, b, _, k, h))))
+
+judge-domain-requires : tie.Need-judge-domain-requires
+judge-domain-requires c κs =
+    let s = c .before .before .before .before .before .before .before .before .before .before .before .before .before .before .before .before .before .before in
+    let (i, v, k, m) = s .pre .1 .1 .1 .1 .1 in
+    let (n, p, b, w, h) = a-domain v m (c .before .before .before .before .before .before .unit5 .given .1) in
+    (s .pre .0, ((s .pre .1 .0 .0, s .pre .1 .0 .1), (s .pre .1 .1 .1 .0, (s .pre .1 .1 .1 .1 .0, (i, n, p, b, w, _, _, _, k, h)))))
+
+judge-attribute-requires : tie.Need-judge-attribute-requires
+judge-attribute-requires c κs =
+    let s = c .before .before .before .before .before .before .before .before .before .before .before .before .before .before .before .before .before .before .before .before .before in
+    let (i, v, k, m) = s .pre .1 .1 .1 .1 .1 in
+    let (n, p, w, h) = an-attribute v m (c .before .before .before .before .before .before .before .before .before .unit6 .given .1) in
+    (s .pre .0, (s .pre .1 .0, (s .pre .1 .1 .0, (s .pre .1 .1 .1 .0, (s .pre .1 .1 .1 .1 .0, (i, n, p, w, k, h))))))
+
+judge-close-requires : tie.Need-judge-close-requires
+judge-close-requires c κs =
+    let s = c .before .before .before .before .before .before .before .before .before .before .before .before .before .before .before .before in
+    let (i, v, k, m) = s .pre .1 .1 .1 .1 .1 in
+    let (n, h) = a-close v m (c .before .before .before .before .unit7 .given .1) in
+    (s .pre .0, ((s .pre .1 .0 .0, s .pre .1 .0 .1), (i, n, _, _, _, _, k, h)))
+
+returns : tie.Need-returns
+returns c =
+    λ s v k m. by-header (Answers _ _ s _ _ _ _ _ _ _ _) v m (c .before .before .unit .given .1) (λ x h. record { as-judged = c .judge-header .ensures s x _ _ _ _ _ _ _ k h })
+
+returns-2 : tie.Need-returns-2
+returns-2 c =
+    λ s v k m. by-model (Answers _ _ s _ _ _ _ _ _ _ _) v m (c .before .before .before .before .before .unit2 .given .1) (λ n h. record { as-judged = c .before .before .judge-model .ensures s n _ _ _ _ _ _ k h })
+
+returns-3 : tie.Need-returns-3
+returns-3 c =
+    λ s v k m. by-topic (Answers _ _ s _ _ _ _ _ _ _ _) v m (c .before .before .before .before .before .before .before .before .before .before .before .unit3 .given .1) (λ n h. record { as-judged = c .before .before .before .before .before .before .judge-topic .ensures s n _ _ _ _ k h })
+
+returns-4 : tie.Need-returns-4
+returns-4 c =
+    λ s v k m. by-class (Answers _ _ s _ _ _ _ _ _ _ _) v m (c .before .before .before .before .before .before .before .before .before .before .before .before .before .before .before .before .unit4 .given .1) (λ q n p b h. record { as-judged = c .before .before .before .before .before .before .before .before .judge-class .ensures s q n p b _ k h })
+
+returns-5 : tie.Need-returns-5
+returns-5 c =
+    λ s v k m. by-domain (Answers _ _ s _ _ _ _ _ _ _ _) v m (c .before .before .before .before .before .before .before .before .before .before .before .before .before .before .before .before .before .unit5 .given .1) (λ n p b w h. record { as-judged = c .before .before .before .before .before .before .before .before .before .before .judge-domain .ensures s n p b w _ _ _ k h })
+
+returns-6 : tie.Need-returns-6
+returns-6 c =
+    λ s v k m. by-attribute (Answers _ _ s _ _ _ _ _ _ _ _) v m (c .before .before .before .before .before .before .before .before .before .before .before .before .before .before .before .before .before .before .before .before .before .before .unit6 .given .1) (λ n p w h. record { as-judged = c .before .before .before .before .before .before .before .before .before .before .before .before .judge-attribute .ensures s n p w k h })
+
+returns-7 : tie.Need-returns-7
+returns-7 c =
+    λ s v k m. by-close (Answers _ _ s _ _ _ _ _ _ _ _) v m (c .before .before .before .before .before .before .before .before .before .before .before .unit7 .given .1) (λ n h. record { as-judged = c .before .before .before .before .before .before .judge-close .ensures s n _ _ _ _ k h })
+
+returns-8 : tie.Need-returns-8
+returns-8 c =
+    λ s v k m. by-mark _ s _ (Answers _ _ s _ _ _ _ _ _ _ _) v _ m (c .enum-told .given .1) (record { as-judged = (_, refl, k, omega arith) })
+
+pub judge-spec : {M : Type 1} → statement M
+judge-spec =
+    tie.close
+    (tie.spec
+    (λ c. search needs)
+    judge-header-requires
+    (λ c. search needs)
+    judge-model-requires
+    (λ c. search needs)
+    judge-topic-requires
+    (λ c. search needs)
+    judge-class-requires
+    (λ c. search needs)
+    judge-domain-requires
+    (λ c. search needs)
+    judge-attribute-requires
+    (λ c. search needs)
+    judge-close-requires
+    (λ c. search needs)
+    returns
+    (λ c. search needs)
+    returns-2
+    (λ c. search needs)
+    (λ c. search needs)
+    (λ c. search needs)
+    returns-3
+    (λ c. search needs)
+    (λ c. search needs)
+    (λ c. search needs)
+    (λ c. search needs)
+    (λ c. search needs)
+    (λ c. search needs)
+    returns-4
+    (λ c. search needs)
+    (λ c. search needs)
+    (λ c. search needs)
+    (λ c. search needs)
+    (λ c. search needs)
+    returns-5
+    (λ c. search needs)
+    (λ c. search needs)
+    (λ c. search needs)
+    (λ c. search needs)
+    (λ c. search needs)
+    (λ c. search needs)
+    (λ c. search needs)
+    (λ c. search needs)
+    returns-6
+    (λ c. search needs)
+    (λ c. search needs)
+    (λ c. search needs)
+    returns-7
+    returns-8)
