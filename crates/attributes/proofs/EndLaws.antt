@@ -1,7 +1,7 @@
 -- The records of an attribute that breaks no rule, its row, its place in the open class, and 19.
 use mathlib.Core.Path.{_≡_, refl, sym, ap, _∙_, subst}
 use mathlib.Core.Bool.{Bool, true, false, not, _&&_, _||_}
-use mathlib.Core.Option.{Option, none, some}
+use mathlib.Core.Option.{Option, some}
 use mathlib.Core.List.{List, [], _∷_, _++_, append-nil}
 use Prim.Native.Nat.{ℕ, suc, _+_, _*_, _≤_, _<_}
 use native.Mathlib.Numerals.{add-one}
@@ -11,11 +11,10 @@ use lib.Dec.{leb}
 use borrow.Author.Tests.{leb-true, leb-false}
 use Rattle.rules.specs.Names as R
 use Rattle.rules.specs.Grammar as G
-use Rattle.rules.specs.Grammar.{WrittenType}
 use Rattle.rules.specs.Declarations.{Use, Attribute, Def, attributesOf, attributeAt, isFound, nameCount, State, known}
 use Rattle.rules.specs.Book.{bytes, flags, numberOr, headRecord, useRecords, attributeRecords, records, book}
-use Rattle.rules.specs.Judge.{ok, rule, orNoAttribute, baseOfAttribute, isFinal, isExtended, attributeUse, referenceIn, resolved, newAttribute, withAttribute, opened}
-use Rattle.rules.specs.Check.{room}
+use Rattle.rules.specs.Judge.{ok, rule, baseOfAttribute, isFinal, isExtended, referenceIn, resolved, newAttribute, withAttribute, opened}
+use Rattle.rules.specs.Check.{lent, room}
 use Rattle.rules.proofs.Tests.{or-fails}
 use Rattle.ground.specs.Parts.{splice}
 use Rattle.ground.proofs.BufferLaws.{length-splice}
@@ -42,7 +41,7 @@ use Rattle.state.proofs.KeepLaws as keep
 use Rattle.state.proofs.KeepLaws.{keeps-member, open-fair, records-member, book-grown}
 use Rattle.state.proofs.RowLaws.{in-text-named}
 use Rattle.state.proofs.JudgeLaws.{room-over, room-within}
-use Rattle.attributes.specs.Stages.{useOf, nameRules}
+use Rattle.attributes.specs.Stages.{nameRules}
 use Rattle.attributes.specs.Facts.{Given, Passes, useIn, afterAttribute, flagsIn}
 
 -- ---- the head
@@ -57,14 +56,6 @@ module _ (t : List ℕ) (n : R.Name) (p : List (List ℕ)) (w : G.Written) (rs :
       ∙ ap (headForm 6 (n .offset) (length (n .bytes)) (flags false (isFinal p) (isExtended p) (w .mandatory || x))) eb
 
 -- ---- the new attribute
-pub use-is : (s : State) (v : Option WrittenType) (b : Use) → attributeUse s v b ≡ useOf v (resolved s (referenceIn v)) b
-use-is s none b = refl
-use-is s (some (G.text m n)) b = refl
-use-is s (some (G.range x y)) b = refl
-use-is s (some G.numeric) b = refl
-use-is s (some (G.enum e)) b = refl
-use-is s (some (G.named r)) b = refl
-
 abbrev pub newOf : State → Def → R.Name → List (List ℕ) → G.Written → Attribute
 newOf s c n p w = newAttribute s n p w (attributeAt (n .bytes) (c .inherited)) (resolved s (referenceIn (w .type)))
 
@@ -79,7 +70,7 @@ module _ (s : State) (c : Def) (n : R.Name) (p : List (List ℕ)) (w : G.Written
 
   new-use : newOf s c n p w .use-of ≡ useIn s c n w
   unfolding newAttribute
-  new-use = use-is s (w .type) (orNoAttribute (attributeAt (n .bytes) (c .inherited)) .use-of)
+  new-use = refl
 
   new-flags : flags false (newOf s c n p w .final) (newOf s c n p w .extended) (newOf s c n p w .mandatory) ≡ flagsIn p w (resolved s (referenceIn (w .type))) (attributeAt (n .bytes) (c .inherited))
   unfolding newAttribute
@@ -172,7 +163,7 @@ module _ (t : List ℕ) (s : State) (st : code.State) (b b₁ x z y ns ps rs : L
   held-front = h .keeps .held
 
   pub end-over : leb (st .used + 11 + size .bytes) (length b₁) ≡ false → (o : ℕ) → o ≡ a .name .offset → (r : code-judged.Judged) → r ≡ Refused 19 o → (o′ y′ ns′ ps′ : List ℕ)
-      → JudgedAs t (room (length b) (n .offset) (ok (afterAttribute s c n p w))) st r o′ x z y′ ns′ ps′
+      → JudgedAs t (room (lent (length b)) (n .offset) (ok (afterAttribute s c n p w))) st r o′ x z y′ ns′ ps′
   end-over e o eo r er o′ y′ ns′ ps′ =
       let v = leb-false (st .used + 11 + size .bytes) (length b₁) e in
       let i = whole in
@@ -252,7 +243,7 @@ module _ (t : List ℕ) (s : State) (st : code.State) (b b₁ x z y ns ps rs : L
           (λ g q u. held (attributesIn s ++ (new· ∷ [])) g new· v (h .keeps .numbered ∙ sym (new-number s c n p w)) (slots g q) q)
 
       pub end-fine : used ≤ st .count → (st .total + 2) * 6 ≤ length y → (r : code-judged.Judged) → r ≡ Fine (memberBy st (11 + size .bytes) (1 + size .records) k)
-          → JudgedAs t (room (length b) (n .offset) (ok (afterAttribute s c n p w))) st r b₂ x z y′ ns′ ps′
+          → JudgedAs t (room (lent (length b)) (n .offset) (ok (afterAttribute s c n p w))) st r b₂ x z y′ ns′ ps′
       end-fine hu hy r er =
           let i = whole in
           let d = room-is in

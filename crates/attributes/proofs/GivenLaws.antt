@@ -3,10 +3,7 @@ use mathlib.Core.Path.{_≡_, subst}
 use mathlib.Core.Option.{Option, none}
 use mathlib.Core.List.{List}
 use Prim.Native.Nat.{ℕ}
-use Rattle.rules.specs.Names as R
-use Rattle.rules.specs.Grammar as G
 use Rattle.rules.specs.Grammar.{Reference, WrittenType}
-use Rattle.rules.specs.Units as U
 use Rattle.rules.specs.Declarations.{State, known, resolve}
 use Rattle.rules.specs.Judge.{referenceIn, resolved}
 use Rattle.ground.specs.declared.Reference as code
@@ -15,7 +12,8 @@ use Rattle.names.specs.References.{AllInside}
 use Rattle.parts.specs.Forms.{anyOf, referenceOf}
 use Rattle.parts.specs.declared.types.Meant.{Meant}
 use Rattle.parts.specs.declared.types.Meant.the-variants.{Named}
-use Rattle.scope.specs.Scope.{AnyIs, FairType, FairReference}
+use Rattle.rules.specs.All.{AnyIs}
+use Rattle.scope.specs.Scope.{FairType, FairReference}
 use Rattle.state.proofs.SharedLaws.{reference-inside}
 use Rattle.attributes.proofs.NameLaws.{named-is}
 

@@ -11,13 +11,14 @@ use lib.Dec.{eqb, ltb}
 use borrow.Author.Tests.{eq-eqb, eqb-true, lt-ltb, le-ltb}
 use types.Run.{OneOf}
 use denote.Enum.Declared.{tagOf}
+use Rattle.scope.proofs.TypeLaws.{sort-domain}
 use Rattle.rules.specs.Grammar as G
 use Rattle.rules.specs.Grammar.{Reference, WrittenType}
 use Rattle.rules.specs.Types as T
 use Rattle.rules.specs.Types.{Ty, kindOf, fits}
-use Rattle.rules.specs.Declarations.{Use, inline, named, struct, tyOf, linkOf, Attribute, Def, isSort, domain, isFound, sortNumber}
-use Rattle.rules.specs.Book.{Record, low, bytes, typeRecords, useRecords}
-use Rattle.rules.specs.Judge.{Rule, rule, kindRule, orNoAttribute, naming, basesOf, isAmong, descends, referenceIn, domainType, typeRules, mayType}
+use Rattle.rules.specs.Declarations.{Use, inline, ofDomain, ofStructure, tyOf, linkOf, Attribute, Def, isSort, domain, isFound, sortNumber}
+use Rattle.rules.specs.Book.{Record, lowFirst, bytes, typeRecords, useRecords}
+use Rattle.rules.specs.Judge.{attributeUse, Rule, rule, kindRule, orNoAttribute, naming, basesOf, isAmong, descends, referenceIn, domainType, typeRules, mayType}
 use Rattle.rules.proofs.Tests.{not-fails}
 use Rattle.book.specs.Forms.{lengthForm}
 use Rattle.ground.specs.Parts.{splice}
@@ -30,7 +31,8 @@ use Rattle.parts.specs.declared.types.Meant.{Meant}
 use Rattle.parts.specs.declared.types.Meant.the-variants.{Alone}
 use Rattle.parts.specs.declared.types.Written.{Written}
 use Rattle.parts.proofs.types.Meant.{the-type as Meant·the-type}
-use Rattle.scope.specs.Scope.{AnyIs, Fair, FairUse}
+use Rattle.rules.specs.All.{AnyIs}
+use Rattle.scope.specs.Scope.{Fair, FairUse}
 use Rattle.types.specs.Rulings.{rulingOf}
 use Rattle.types.specs.Values.{Valued, Typed, FairOrNone}
 use Rattle.types.specs.declared.Ruling.{Ruling}
@@ -39,10 +41,10 @@ use Rattle.types.proofs.TypeLaws.{fits-split}
 use Rattle.domains.specs.Written.{LaidWhen, writtenRules}
 use Rattle.domains.specs.declared.written.Laying.{Laying}
 use Rattle.domains.specs.declared.written.Laying.the-variants.{Whole, Broken}
-use Rattle.attributes.specs.Stages.{useOf, baseRules, useRules}
+use Rattle.attributes.specs.Stages.{baseRules, useRules}
 use Rattle.attributes.specs.Facts.{Ready, Refers, Lays, LaidAs}
 use Rattle.attributes.proofs.NameLaws.{fair, brokenAt, found-is}
-use Rattle.attributes.proofs.UseLaws.{is-domain, no-domain, sort-is, def-there, in-place-type, named-type, refers-none, fair-or-none, fair-base}
+use Rattle.attributes.proofs.UseLaws.{is-domain, no-domain, def-there, in-place-type, named-type, refers-none, fair-or-none, fair-base}
 
 -- ---- MANDATORY alone
 pub alone-is : (m : Meant) → m ≡ Alone → (w : Option WrittenType) → m ≡ anyOf w → w ≡ none
@@ -63,10 +65,10 @@ not-alone m o e =
     let l = tags (tagOf Meant·the-type m) o in
     omega arith
 
-pub alone-use : (ks : List Def) (u : ℕ) (g : Option Def) (w : Option WrittenType) (v : Use) → w ≡ none → useFor (entry ks u) (tyOf v) ≡ v → useFor (entry ks u) (tyOf (useOf w g v)) ≡ useOf w g v
+pub alone-use : (ks : List Def) (u : ℕ) (g : Option Def) (w : Option WrittenType) (v : Use) → w ≡ none → useFor (entry ks u) (tyOf v) ≡ v → useFor (entry ks u) (tyOf (attributeUse w g v)) ≡ attributeUse w g v
 alone-use ks u g w v e h = rw e h
 
-in-place : (w : Option WrittenType) (g : Option Def) (v : Use) → ¬ (w ≡ none) → referenceIn w ≡ none → inline (tyOf (useOf w g v)) ≡ useOf w g v
+in-place : (w : Option WrittenType) (g : Option Def) (v : Use) → ¬ (w ≡ none) → referenceIn w ≡ none → inline (tyOf (attributeUse w g v)) ≡ attributeUse w g v
 in-place none g v z e = absurd (z refl)
 in-place (some (G.text m n)) g v z e = refl
 in-place (some (G.range x y)) g v z e = refl
@@ -74,15 +76,15 @@ in-place (some G.numeric) g v z e = refl
 in-place (some (G.enum x)) g v z e = refl
 in-place (some (G.named b)) g v z e = let y : _≡_ {A = ℕ} 0 1 = cc in absurd (omega arith)
 
-pub written-use : (g : Option Def) (m : Meant) → OneOf (1 ∷ 2 ∷ 3 ∷ 4 ∷ 5 ∷ 6 ∷ []) (tagOf Meant·the-type m) → (w : Option WrittenType) → m ≡ anyOf w → Refers (referenceIn w) g → (v : Use) → useFor g (tyOf (useOf w g v)) ≡ useOf w g v
+pub written-use : (g : Option Def) (m : Meant) → OneOf (1 ∷ 2 ∷ 3 ∷ 4 ∷ 5 ∷ 6 ∷ []) (tagOf Meant·the-type m) → (w : Option WrittenType) → m ≡ anyOf w → Refers (referenceIn w) g → (v : Use) → useFor g (tyOf (attributeUse w g v)) ≡ attributeUse w g v
 written-use none m o w e r v = in-place w none v (λ z. not-alone m o (e ∙ ap anyOf z)) (refers-none (referenceIn w) r)
 written-use (some d) m o w e r v = sym (named-type w d v r)
 
 -- ---- the record of what is named
-naming-records : (d : Def) → useRecords (naming d) ≡ (cond (isSort domain (d .sort)) 17 12 ∷ low 4 (d .number)) ∷ []
+naming-records : (d : Def) → useRecords (naming d) ≡ (cond (isSort domain (d .sort)) 17 12 ∷ lowFirst 4 (d .number)) ∷ []
 naming-records d = go (isSort domain (d .sort))
   where
-    go : (k : Bool) → useRecords (cond k (named (linkOf d) (d .bases)) (struct (linkOf d) (d .bases))) ≡ (cond k 17 12 ∷ low 4 (d .number)) ∷ []
+    go : (k : Bool) → useRecords (cond k (ofDomain (linkOf d) (d .bases)) (ofStructure (linkOf d) (d .bases))) ≡ (cond k 17 12 ∷ lowFirst 4 (d .number)) ∷ []
     go true = refl
     go false = refl
 
@@ -124,21 +126,21 @@ kind-five t T.structure f e = f
 pub descends-inline : (ks : List Def) (u : ℕ) (d : Def) (v : Use) → u ≡ 0 → useFor (entry ks u) (tyOf v) ≡ v → false ≡ descends (naming d) v
 descends-inline ks u d v z e = go (isSort domain (d .sort)) v (sym (ap (λ (j : ℕ). useFor (entry ks j) (tyOf v)) z) ∙ e)
   where
-    go : (k : Bool) (v : Use) → inline (tyOf v) ≡ v → false ≡ descends (cond k (named (linkOf d) (d .bases)) (struct (linkOf d) (d .bases))) v
+    go : (k : Bool) (v : Use) → inline (tyOf v) ≡ v → false ≡ descends (cond k (ofDomain (linkOf d) (d .bases)) (ofStructure (linkOf d) (d .bases))) v
     go true (inline x) q = refl
     go false (inline x) q = refl
-    go k (named l bs) q = let y : _≡_ {A = ℕ} 0 1 = cc in absurd (omega arith)
-    go k (struct l bs) q = let y : _≡_ {A = ℕ} 0 1 = cc in absurd (omega arith)
+    go k (ofDomain l bs) q = let y : _≡_ {A = ℕ} 0 1 = cc in absurd (omega arith)
+    go k (ofStructure l bs) q = let y : _≡_ {A = ℕ} 0 1 = cc in absurd (omega arith)
 
 descends-both : (t : List ℕ) (d e : Def) → (d .sort ≡ domain → Fair t (d .type)) → (e .sort ≡ domain → Fair t (e .type)) → kindOf (tyOf (naming d)) ≡ kindOf (tyOf (naming e)) → isAmong (e .number) (linkOf d ∷ d .bases) ≡ descends (naming d) (naming e)
 descends-both t d e fd fe = go (isSort domain (d .sort)) refl (isSort domain (e .sort)) refl
   where
     go : (k : Bool) → isSort domain (d .sort) ≡ k → (j : Bool) → isSort domain (e .sort) ≡ j
-        → kindOf (tyOf (cond k (named (linkOf d) (d .bases)) (struct (linkOf d) (d .bases)))) ≡ kindOf (tyOf (cond j (named (linkOf e) (e .bases)) (struct (linkOf e) (e .bases))))
-        → isAmong (e .number) (linkOf d ∷ d .bases) ≡ descends (cond k (named (linkOf d) (d .bases)) (struct (linkOf d) (d .bases))) (cond j (named (linkOf e) (e .bases)) (struct (linkOf e) (e .bases)))
+        → kindOf (tyOf (cond k (ofDomain (linkOf d) (d .bases)) (ofStructure (linkOf d) (d .bases)))) ≡ kindOf (tyOf (cond j (ofDomain (linkOf e) (e .bases)) (ofStructure (linkOf e) (e .bases))))
+        → isAmong (e .number) (linkOf d ∷ d .bases) ≡ descends (cond k (ofDomain (linkOf d) (d .bases)) (ofStructure (linkOf d) (d .bases))) (cond j (ofDomain (linkOf e) (e .bases)) (ofStructure (linkOf e) (e .bases)))
     go true p true q h = refl
-    go true p false q h = absurd (kind-five t (d .type) (fd (sort-is (d .sort) p)) h)
-    go false p true q h = absurd (kind-five t (e .type) (fe (sort-is (e .sort) q)) (sym h))
+    go true p false q h = absurd (kind-five t (d .type) (fd (sort-domain (d .sort) p)) h)
+    go false p true q h = absurd (kind-five t (e .type) (fe (sort-domain (e .sort) q)) (sym h))
     go false p false q h = refl
 
 module _ (t b : List ℕ) (ks : List Def) (ms : List Attribute) (x : List ℕ) (count : ℕ) (y : List ℕ) (total : ℕ) (r : Ready t b ks ms x count y total) (p : ℕ) (d : Def) (e : entry ks p ≡ some d) (u : ℕ) (w : u ≤ count) (z : ¬ (u ≡ 0)) (v : Use) (eu : useFor (entry ks u) (tyOf v) ≡ v)
@@ -185,7 +187,7 @@ laid-whole : (q : Ruling) (l : List Record) (i : ℕ) (o o₁ : List ℕ) (r : L
 laid-whole q l i o o₁ r h k = rw (le-ltb 0 (q .number) h) k
 
 -- a reference has no other rules
-named-rules : (p : ℕ) (f : Bool) (v : Option WrittenType) (d : Def) (b : Use) → Refers (referenceIn v) (some d) → useRules p f v (useOf v (some d) b) b ≡ baseRules p f true (naming d) b
+named-rules : (p : ℕ) (f : Bool) (v : Option WrittenType) (d : Def) (b : Use) → Refers (referenceIn v) (some d) → useRules p f v (attributeUse v (some d) b) b ≡ baseRules p f true (naming d) b
 named-rules p f none d b e = let z : _≡_ {A = ℕ} 0 1 = cc in absurd (omega arith)
 named-rules p f (some (G.text m n)) d b e = let z : _≡_ {A = ℕ} 0 1 = cc in absurd (omega arith)
 named-rules p f (some (G.range m n)) d b e = let z : _≡_ {A = ℕ} 0 1 = cc in absurd (omega arith)
@@ -194,7 +196,7 @@ named-rules p f (some (G.enum m)) d b e = let z : _≡_ {A = ℕ} 0 1 = cc in ab
 named-rules p f (some (G.named m)) d b e = refl
 
 module _ (p : ℕ) (v : Option WrittenType) (d : Def) (o : Option Attribute) (e : Refers (referenceIn v) (some d)) (q : Ruling) (eq : q ≡ rulingOf (baseRules p (isFound o) true (naming d) (orNoAttribute o .use-of))) (i : ℕ) (out out₁ : List ℕ) where
-  rule-is : rulingOf (useRules p (isFound o) v (useOf v (some d) (orNoAttribute o .use-of)) (orNoAttribute o .use-of)) ≡ q
+  rule-is : rulingOf (useRules p (isFound o) v (attributeUse v (some d) (orNoAttribute o .use-of)) (orNoAttribute o .use-of)) ≡ q
   rule-is = ap rulingOf (named-rules p (isFound o) v d (orNoAttribute o .use-of) e) ∙ sym eq
 
   lay-broken-by : 0 < q .number → LaidAs p v (some d) o i out out₁ (Broken q)
@@ -225,7 +227,7 @@ in-place-rules p f v u b e h = rw (e, h) (rules-on (typeRules f p v) _ _ (last-r
 naming-inline : (d : Def) (x : Ty) → ¬ (naming d ≡ inline x)
 naming-inline d x = go (isSort domain (d .sort))
   where
-    go : (k : Bool) → ¬ (cond k (named (linkOf d) (d .bases)) (struct (linkOf d) (d .bases)) ≡ inline x)
+    go : (k : Bool) → ¬ (cond k (ofDomain (linkOf d) (d .bases)) (ofStructure (linkOf d) (d .bases)) ≡ inline x)
     go true e = let y : _≡_ {A = ℕ} 0 1 = cc in omega arith
     go false e = let y : _≡_ {A = ℕ} 0 1 = cc in omega arith
 
@@ -265,7 +267,7 @@ module _ (t b : List ℕ) (ks : List Def) (ms : List Attribute) (x : List ℕ) (
         go (some r) h = let (f, q, m) = h in let k : d ≡ f = cc in rw k m
 
     pub typed-naming : 0 < named → Typed t b (tyOf (naming d)) own
-    typed-naming z = subst (λ (k : Use). Typed t b (tyOf k) own) (ap (λ (g : Option Def). useOf v g kept) e ∙ named-type v d kept refers) (l .typed-named z)
+    typed-naming z = subst (λ (k : Use). Typed t b (tyOf k) own) (ap (λ (g : Option Def). attributeUse v g kept) e ∙ named-type v d kept refers) (l .typed-named z)
 
     module _ (q : Ruling) (eq : q ≡ rulingOf (baseRules (w .place) (isFound (entry ms base)) true (naming d) kept)) where
       pub lay-broken : (i : ℕ) (out out₁ : List ℕ) → 0 < q .number → LaidAs (w .place) v (entry ks named) (entry ms base) i out out₁ (Broken q)
@@ -275,7 +277,7 @@ module _ (t b : List ℕ) (ks : List Def) (ms : List Attribute) (x : List ℕ) (
       lay-reference i out out₁ h r k = rw e (lay-named-by (w .place) v d (entry ms base) refers q eq i out out₁ h r k)
 
   -- no reference
-  module _ (z : named ≤ 0) (k : ℕ) (ek : useFor (entry ks k) (tyOf (useOf v (entry ks named) kept)) ≡ useOf v (entry ks named) kept) where
+  module _ (z : named ≤ 0) (k : ℕ) (ek : useFor (entry ks k) (tyOf (attributeUse v (entry ks named) kept)) ≡ attributeUse v (entry ks named) kept) where
     nothing : entry ks named ≡ none
     nothing = let n : named ≡ 0 = omega arith in ap (entry ks) n
 
@@ -286,9 +288,9 @@ module _ (t b : List ℕ) (ks : List Def) (ms : List Attribute) (x : List ℕ) (
     kept-there h c = let a = l .ready .held .all-defs in entry-there ks k h (omega arith)
 
     pub lay-kept : (d : Def) → entry ks k ≡ some d → (i : ℕ) (out out₁ : List ℕ) (r : Laying) → Named d i out out₁ r → LaidAs (w .place) v (entry ks named) (entry ms base) i out out₁ r
-    lay-kept d e i out out₁ r h = go v no-reference (sym (ap (λ (g : Option Def). useFor g (tyOf (useOf v (entry ks named) kept))) e) ∙ ek)
+    lay-kept d e i out out₁ r h = go v no-reference (sym (ap (λ (g : Option Def). useFor g (tyOf (attributeUse v (entry ks named) kept))) e) ∙ ek)
       where
-        go : (v : Option WrittenType) → referenceIn v ≡ none → naming d ≡ useOf v (entry ks named) kept → LaidAs (w .place) v (entry ks named) (entry ms base) i out out₁ r
+        go : (v : Option WrittenType) → referenceIn v ≡ none → naming d ≡ attributeUse v (entry ks named) kept → LaidAs (w .place) v (entry ks named) (entry ms base) i out out₁ r
         go none n q = rw (unbroken (w .place) (isFound (entry ms base)) t kept base-fair, ← q) h
         go (some (G.text m c)) n q = absurd (naming-inline d _ q)
         go (some (G.range m c)) n q = absurd (naming-inline d _ q)
@@ -303,7 +305,7 @@ module _ (t b : List ℕ) (ks : List Def) (ms : List Attribute) (x : List ℕ) (
         go none e = refl
         go (some a) e = let y : _≡_ {A = ℕ} 0 1 = cc in absurd (omega arith)
 
-    own-is : tyOf (useOf v (entry ks named) kept) ≡ domainType v (tyOf kept)
+    own-is : tyOf (attributeUse v (entry ks named) kept) ≡ domainType v (tyOf kept)
     own-is = in-place-type v (entry ks named) kept no-reference
 
     pub valued-own : Valued (domainType v (tyOf kept)) own
@@ -314,8 +316,8 @@ module _ (t b : List ℕ) (ks : List Def) (ms : List Attribute) (x : List ℕ) (
         → LaidAs (w .place) v (entry ks named) (entry ms base) i out out₁ r
     lay-in-place h i out out₁ r q =
         let n : k ≡ 0 = omega arith in
-        let c : inline (tyOf (useOf v (entry ks named) kept)) ≡ useOf v (entry ks named) kept = sym (ap (λ (j : ℕ). useFor (entry ks j) (tyOf (useOf v (entry ks named) kept))) n) ∙ ek in
-        let a : rulingOf (useRules (w .place) (isFound (entry ms base)) v (useOf v (entry ks named) kept) kept) ≡ rulingOf (writtenRules (ltb 0 base) (w .place) v (tyOf kept)) =
-        in-place-rules (w .place) (isFound (entry ms base)) v (useOf v (entry ks named) kept) kept no-reference own-is ∙ ap (λ (f : Bool). rulingOf (writtenRules f (w .place) v (tyOf kept))) based-is in
-        let m : useRecords (useOf v (entry ks named) kept) ≡ typeRecords (domainType v (tyOf kept)) = ap useRecords (sym c) ∙ ap typeRecords own-is in
-        laid-as (rulingOf (useRules (w .place) (isFound (entry ms base)) v (useOf v (entry ks named) kept) kept)) _ a _ _ m i out out₁ r q
+        let c : inline (tyOf (attributeUse v (entry ks named) kept)) ≡ attributeUse v (entry ks named) kept = sym (ap (λ (j : ℕ). useFor (entry ks j) (tyOf (attributeUse v (entry ks named) kept))) n) ∙ ek in
+        let a : rulingOf (useRules (w .place) (isFound (entry ms base)) v (attributeUse v (entry ks named) kept) kept) ≡ rulingOf (writtenRules (ltb 0 base) (w .place) v (tyOf kept)) =
+        in-place-rules (w .place) (isFound (entry ms base)) v (attributeUse v (entry ks named) kept) kept no-reference own-is ∙ ap (λ (f : Bool). rulingOf (writtenRules f (w .place) v (tyOf kept))) based-is in
+        let m : useRecords (attributeUse v (entry ks named) kept) ≡ typeRecords (domainType v (tyOf kept)) = ap useRecords (sym c) ∙ ap typeRecords own-is in
+        laid-as (rulingOf (useRules (w .place) (isFound (entry ms base)) v (attributeUse v (entry ks named) kept) kept)) _ a _ _ m i out out₁ r q

@@ -16,7 +16,7 @@ use Rattle.rules.specs.Enumerations.{twice}
 use Rattle.rules.specs.Declarations.{tyOf, Attribute, Def, attributeAt, isFound, State, known}
 use Rattle.rules.specs.Book.{records, bytes}
 use Rattle.rules.specs.Judge as J
-use Rattle.rules.specs.Judge.{Rule, rule, Judged, ok, refused, unless, judge, judgeMember, judgeAttribute, attributeRules, attributeEarly, attributeLate, newAttribute, orNoAttribute, isExtended, hasTwice, referenceIn, resolved, elementRule, typeRules, kindRule, mayType, placeOf}
+use Rattle.rules.specs.Judge.{Rule, rule, Judged, ok, refused, firstBrokenOr, judge, memberRules, afterMember, attributeRules, attributeTo16, attribute17To18, newAttribute, orNoAttribute, isExtended, hasTwice, referenceIn, resolved, elementRule, typeRules, kindRule, mayType, placeOf}
 use Rattle.rules.proofs.Tests.{not-fails}
 use Rattle.names.specs.Index.{entry, row, Says, Known}
 use Rattle.names.specs.References.{bytesOf, Inside}
@@ -30,7 +30,7 @@ use Rattle.scope.proofs.ListLaws.{all-entry}
 use Rattle.scope.proofs.UseLaws.{attribute-fair}
 use Rattle.types.specs.Rulings.{rulingOf, judgedBy}
 use Rattle.types.specs.declared.Ruling.{Ruling}
-use Rattle.types.proofs.RulingLaws.{Positive, unless-by, positive-append}
+use Rattle.types.proofs.RulingLaws.{Positive, first-broken-by, positive-append}
 use Rattle.types.proofs.TypeLaws.{scratched}
 use Rattle.units.specs.declared.AttributeUnit.{AttributeUnit}
 use Rattle.units.specs.declared.Unit.the-variants.{Attribute as V·Attribute}
@@ -38,10 +38,10 @@ use Rattle.state.specs.declared.State as code
 use Rattle.state.specs.Keeping.{Keeps, Comes, OpenIs}
 use Rattle.state.proofs.KeepLaws.{open-fair}
 use Rattle.domains.proofs.WrittenLaws.{ruling-append, ruling-rest, type-positive}
-use Rattle.attributes.specs.Stages.{nameRules, targetRules, referenceRules, earlyRules, headRules, useRules}
+use Rattle.attributes.specs.Stages.{nameRules, targetRules, referenceRules, rulesTo11, headRules, useRules}
 use Rattle.attributes.specs.Facts.{Ready, Given, Refers, Early-is, useIn, afterAttribute}
 use Rattle.attributes.specs.declared.early.Early.{Early}
-use Rattle.attributes.proofs.EndLaws.{use-is, two-off, no-own}
+use Rattle.attributes.proofs.EndLaws.{two-off, no-own}
 
 -- ---- the unit, and where it stands
 pub given : (t : List ℕ) (s : State) (n : R.Name) (p : List (List ℕ)) (w : G.Written) (a : AttributeUnit) (rs : List ℕ) → Comes t s (U.attribute n p w) (V·Attribute a) rs → Given t n p w rs a
@@ -121,21 +121,21 @@ module _ (c : Def) (n : R.Name) (x : Bool) (f : Bool) (w : Option WrittenType) (
   name-positive : Positive (nameRules c n x)
   name-positive = (omega arith, (omega arith, tt))
 
-  pub early-name : 0 < rulingOf (nameRules c n x) .number → rulingOf (nameRules c n x) ≡ rulingOf (earlyRules c n x f w g)
+  pub early-name : 0 < rulingOf (nameRules c n x) .number → rulingOf (nameRules c n x) ≡ rulingOf (rulesTo11 c n x f w g)
   early-name h = first-broken (nameRules c n x) (elementRule w ∷ referenceRules (n .offset) x f (referenceIn w) g) name-positive h
 
   module _ (e : rulingOf (nameRules c n x) .number ≡ 0) where
-    behind-name : rulingOf (earlyRules c n x f w g) ≡ rulingOf ((elementRule w ∷ []) ++ referenceRules (n .offset) x f (referenceIn w) g)
+    behind-name : rulingOf (rulesTo11 c n x f w g) ≡ rulingOf ((elementRule w ∷ []) ++ referenceRules (n .offset) x f (referenceIn w) g)
     behind-name = ruling-rest (nameRules c n x) (elementRule w ∷ referenceRules (n .offset) x f (referenceIn w) g) name-positive e
 
-    pub early-element : 0 < rulingOf (elementRule w ∷ []) .number → rulingOf (elementRule w ∷ []) ≡ rulingOf (earlyRules c n x f w g)
+    pub early-element : 0 < rulingOf (elementRule w ∷ []) .number → rulingOf (elementRule w ∷ []) ≡ rulingOf (rulesTo11 c n x f w g)
     early-element h = first-broken (elementRule w ∷ []) (referenceRules (n .offset) x f (referenceIn w) g) (element-positive w) h ∙ sym behind-name
 
-    pub early-reference : rulingOf (elementRule w ∷ []) .number ≡ 0 → rulingOf (referenceRules (n .offset) x f (referenceIn w) g) ≡ rulingOf (earlyRules c n x f w g)
+    pub early-reference : rulingOf (elementRule w ∷ []) .number ≡ 0 → rulingOf (referenceRules (n .offset) x f (referenceIn w) g) ≡ rulingOf (rulesTo11 c n x f w g)
     early-reference h = sym (behind-name ∙ ruling-rest (elementRule w ∷ []) (referenceRules (n .offset) x f (referenceIn w) g) (element-positive w) h)
 
 -- what is left where none is broken
-pub early-off : (c : Def) (n : R.Name) (x f : Bool) (w : Option WrittenType) (g : Option Def) → rulingOf (earlyRules c n x f w g) .number ≡ 0
+pub early-off : (c : Def) (n : R.Name) (x f : Bool) (w : Option WrittenType) (g : Option Def) → rulingOf (rulesTo11 c n x f w g) .number ≡ 0
     → (rulingOf (nameRules c n x) .number ≡ 0) × (rulingOf (elementRule w ∷ []) .number ≡ 0) × (rulingOf (referenceRules (n .offset) x f (referenceIn w) g) .number ≡ 0)
 early-off c n x f w g e =
     let a : rulingOf (nameRules c n x) .number ≡ 0 = first-off (nameRules c n x) (elementRule w ∷ referenceRules (n .offset) x f (referenceIn w) g) (name-positive c n x f w g) e in
@@ -154,7 +154,7 @@ refers-is p x f r g h e =
     go (some r) (some d) h q = (d, refl, not-fails (q .1))
 
 stopped-is : (s : State) (c : Def) (n : R.Name) (x : Bool) (w : Option WrittenType) (ns ps : List ℕ) (k : ℕ) (r : Ruling) → 0 < r .number
-    → r ≡ rulingOf (earlyRules c n x (isFound (attributeAt (n .bytes) (c .inherited))) w (resolved s (referenceIn w))) → (e : Early) → e ≡ record { ruling = r; slot = 0; base = 0; named = 0 } → Early-is s c n x w ns ps k e
+    → r ≡ rulingOf (rulesTo11 c n x (isFound (attributeAt (n .bytes) (c .inherited))) w (resolved s (referenceIn w))) → (e : Early) → e ≡ record { ruling = r; slot = 0; base = 0; named = 0 } → Early-is s c n x w ns ps k e
 stopped-is s c n x w ns ps k r h q e ee =
     let i : e .ruling ≡ r = ap (λ (u : Early). u .ruling) ee in
     let j : ¬ (e .ruling .number ≡ 0) = λ v. let m = ap (λ (u : Ruling). u .number) i in omega arith in
@@ -231,7 +231,7 @@ module _ (s : State) (c : Def) (n : R.Name) (p : List (List ℕ)) (w : G.Written
   named· = resolved s (referenceIn (w .type))
 
   abbrev pub earlies : List Rule
-  earlies = earlyRules c n (isExtended p) (isFound base·) (w .type) named·
+  earlies = rulesTo11 c n (isExtended p) (isFound base·) (w .type) named·
 
   abbrev pub heads : List Rule
   heads = headRules (n .offset) (orNoAttribute base· .final) (hasTwice p) (useIn s c n w) named·
@@ -240,12 +240,9 @@ module _ (s : State) (c : Def) (n : R.Name) (p : List (List ℕ)) (w : G.Written
   uses = useRules (w .place) (isFound base·) (w .type) (useIn s c n w) (orNoAttribute base· .use-of)
 
   in-stages : attributeRules s c n p w base· named· ≡ earlies ++ (heads ++ uses)
-  unfolding attributeRules attributeEarly newAttribute
+  unfolding attributeRules attributeTo16 newAttribute
   in-stages =
-      rw (
-        use-is s (w .type) (orNoAttribute base· .use-of),
-        append-assoc (typeRules (isFound base·) (w .place) (w .type)) (kindRule (w .place) (isFound base·) (tyOf (useIn s c n w)) (tyOf (orNoAttribute base· .use-of)) ∷ []) (attributeLate (w .place) (isFound base·) (isFound (referenceIn (w .type))) (useIn s c n w) (orNoAttribute base· .use-of)),
-      )
+      rw (append-assoc (typeRules (isFound base·) (w .place) (w .type)) (kindRule (w .place) (isFound base·) (tyOf (useIn s c n w)) (tyOf (orNoAttribute base· .use-of)) ∷ []) (attribute17To18 (w .place) (isFound base·) (isFound (referenceIn (w .type))) (useIn s c n w) (orNoAttribute base· .use-of)))
 
   early-positive : Positive earlies
   early-positive = (omega arith, (omega arith, positive-append (elementRule (w .type) ∷ []) (referenceRules (n .offset) (isExtended p) (isFound base·) (referenceIn (w .type)) named·) (element-positive (w .type)) (omega arith, (omega arith, (omega arith, tt)))))
@@ -256,16 +253,16 @@ module _ (s : State) (c : Def) (n : R.Name) (p : List (List ℕ)) (w : G.Written
   use-positive : Positive uses
   use-positive = positive-append (typeRules (isFound base·) (w .place) (w .type)) _ (type-positive (isFound base·) (w .place) (w .type)) (omega arith, (omega arith, (omega arith, tt)))
 
-  all-rules : unless (attributeRules s c n p w base· named·) (afterAttribute s c n p w) ≡ judgedBy (rulingOf earlies) (judgedBy (rulingOf heads) (judgedBy (rulingOf uses) (ok (afterAttribute s c n p w))))
+  all-rules : firstBrokenOr (attributeRules s c n p w base· named·) (afterAttribute s c n p w) ≡ judgedBy (rulingOf earlies) (judgedBy (rulingOf heads) (judgedBy (rulingOf uses) (ok (afterAttribute s c n p w))))
   all-rules =
-      ap (λ (l : List Rule). unless l (afterAttribute s c n p w)) in-stages
-      ∙ unless-by earlies (heads ++ uses) (afterAttribute s c n p w) early-positive
-      ∙ ap (judgedBy (rulingOf earlies)) (unless-by heads uses (afterAttribute s c n p w) head-positive
-      ∙ ap (judgedBy (rulingOf heads)) (ap (λ (l : List Rule). unless l (afterAttribute s c n p w)) (sym (append-nil uses)) ∙ unless-by uses [] (afterAttribute s c n p w) use-positive))
+      ap (λ (l : List Rule). firstBrokenOr l (afterAttribute s c n p w)) in-stages
+      ∙ first-broken-by earlies (heads ++ uses) (afterAttribute s c n p w) early-positive
+      ∙ ap (judgedBy (rulingOf earlies)) (first-broken-by heads uses (afterAttribute s c n p w) head-positive
+      ∙ ap (judgedBy (rulingOf heads)) (ap (λ (l : List Rule). firstBrokenOr l (afterAttribute s c n p w)) (sym (append-nil uses)) ∙ first-broken-by uses [] (afterAttribute s c n p w) use-positive))
 
   pub judged-in-stages : s .open-class ≡ some c → judge s (U.attribute n p w) ≡ judgedBy (rulingOf earlies) (judgedBy (rulingOf heads) (judgedBy (rulingOf uses) (ok (afterAttribute s c n p w))))
-  unfolding judge judgeMember judgeAttribute
-  judged-in-stages e = ap (judgeMember s n p w) e ∙ all-rules
+  unfolding judge
+  judged-in-stages e = ap (λ (o : Option Def). firstBrokenOr (memberRules s n p w o) (afterMember s n p w o)) e ∙ all-rules
 
 -- one stage
 pub stage-broken : (r : Ruling) (j : Judged) → 0 < r .number → judgedBy r j ≡ refused (r .number) (r .place)

@@ -7,26 +7,27 @@ use Prim.Native.Nat.{ℕ, zero, suc, _+_, _≤_, _<_}
 use native.Mathlib.Omega.{arith}
 use lib.ListN.{length, getD}
 use borrow.Author.Tests.{eq-eqb, ne-eqb}
+use Rattle.scope.proofs.TypeLaws.{sort-domain}
 use Rattle.rules.specs.Grammar as G
 use Rattle.rules.specs.Grammar.{Reference, WrittenType}
 use Rattle.rules.specs.Types as T
 use Rattle.rules.specs.Types.{Ty}
-use Rattle.rules.specs.Declarations as D
-use Rattle.rules.specs.Declarations.{Use, inline, named, struct, tyOf, linkOf, Attribute, Def, Sort, isSort, sortNumber, domain, isFound}
+use Rattle.rules.specs.Declarations.{Use, inline, ofDomain, ofStructure, tyOf, linkOf, Attribute, Def, Sort, isSort, sortNumber, domain, isFound}
 use Rattle.rules.specs.Book.{flags, numberOr, typeRecords}
-use Rattle.rules.specs.Judge.{orNoDef, orNoAttribute, naming, referenceIn, domainType, isNumeric, isDomain, baseOfAttribute}
+use Rattle.rules.specs.Judge.{attributeUse, orNoDef, orNoAttribute, naming, referenceIn, domainType, isNumeric, isDomain, baseOfAttribute}
 use Rattle.names.specs.Index.{entry, row, Says}
 use Rattle.names.proofs.BaseLaws.{entry-there}
 use Rattle.members.specs.Members.{Tells}
 use Rattle.members.specs.Held.{Held, DefRow, AttributeRow, Stands, heading, useFor}
 use Rattle.members.proofs.HeldLaws.{type-stands, use-in-place, use-named}
-use Rattle.scope.specs.Scope.{AnyIs, FairType, Fair, FairUse}
+use Rattle.rules.specs.All.{AnyIs}
+use Rattle.scope.specs.Scope.{FairType, Fair, FairUse}
 use Rattle.types.specs.Rulings.{rulingOf}
 use Rattle.types.specs.Values.{Valued, Typed, Sized, FairOrNone}
 use Rattle.types.specs.declared.Typing.{Typing}
 use Rattle.types.specs.declared.Typing.the-variants.{Structure}
 use Rattle.types.proofs.TypeLaws.{sized-base, sized-meant}
-use Rattle.attributes.specs.Stages.{useOf, abstractDomain, headRules}
+use Rattle.attributes.specs.Stages.{abstractDomain, headRules}
 use Rattle.attributes.specs.Facts.{Ready, Refers}
 use Rattle.attributes.proofs.NameLaws.{fair, brokenAt}
 
@@ -36,12 +37,6 @@ is-domain k d e h = eq-eqb 3 (sortNumber d) (sym h ∙ e)
 
 pub no-domain : (k : ℕ) (d : Sort) → k ≡ sortNumber d → ¬ (k ≡ 3) → isSort domain d ≡ false
 no-domain k d e h = ne-eqb 3 (sortNumber d) (λ q. h (e ∙ sym q))
-
-pub sort-is : (d : Sort) → isSort domain d ≡ true → d ≡ domain
-sort-is D.topic e = let z : _≡_ {A = ℕ} 0 1 = cc in absurd (omega arith)
-sort-is D.class e = let z : _≡_ {A = ℕ} 0 1 = cc in absurd (omega arith)
-sort-is D.struct e = let z : _≡_ {A = ℕ} 0 1 = cc in absurd (omega arith)
-sort-is D.domain e = refl
 
 -- ---- rows that are there
 module _ (t b : List ℕ) (ks : List Def) (ms : List Attribute) (x : List ℕ) (count : ℕ) (y : List ℕ) (total : ℕ) (h : Held t b ks ms x count y total) where
@@ -99,7 +94,7 @@ module _ (t b : List ℕ) (ks : List Def) (ms : List Attribute) (x : List ℕ) (
     pub named-domain : s ≡ 3 → (at : ℕ) → at ≡ getD (row 10 x p) 6 0 → (c : Typing) → ((u : List ℕ) (v : Ty) → Fair u v → Stands b (at + 11) (typeRecords v) → Typed u b v c) → Typed t b (tyOf (naming d)) c
     named-domain h at ea c g =
         let k : isSort domain (d .sort) ≡ true = is-domain s (d .sort) same-sort h in
-        let q : d .sort ≡ domain = sort-is (d .sort) k in
+        let q : d .sort ≡ domain = sort-domain (d .sort) k in
         let w : Stands b (getD (row 10 x p) 6 0) (heading domain d) = subst (λ (i : Sort). Stands b (getD (row 10 x p) 6 0) (heading i d)) q (r .held .def-rows p d e .stands) in
         domain-typed t b d c k (g t (d .type) (r .types p d e q) (rw ea (type-stands b (getD (row 10 x p) 6 0) d w)))
 
@@ -132,7 +127,7 @@ pub no-type : (t b : List ℕ) (ms : List Attribute) (q : ℕ) → q ≡ 0 → T
 no-type t b ms q e = rw e
 
 -- ---- the attribute's own type
-pub in-place-type : (w : Option WrittenType) (g : Option Def) (b : Use) → referenceIn w ≡ none → tyOf (useOf w g b) ≡ domainType w (tyOf b)
+pub in-place-type : (w : Option WrittenType) (g : Option Def) (b : Use) → referenceIn w ≡ none → tyOf (attributeUse w g b) ≡ domainType w (tyOf b)
 in-place-type none g b e = refl
 in-place-type (some (G.text m n)) g b e = refl
 in-place-type (some (G.range m n)) g b e = refl
@@ -141,7 +136,7 @@ in-place-type (some (G.enum m)) g b e = refl
 in-place-type (some (G.named m)) g b e = let z : _≡_ {A = ℕ} 0 1 = cc in absurd (omega arith)
 
 -- a reference is there where what it names is
-pub named-type : (w : Option WrittenType) (d : Def) (b : Use) → Refers (referenceIn w) (some d) → useOf w (some d) b ≡ naming d
+pub named-type : (w : Option WrittenType) (d : Def) (b : Use) → Refers (referenceIn w) (some d) → attributeUse w (some d) b ≡ naming d
 named-type none d b e = let z : _≡_ {A = ℕ} 0 1 = cc in absurd (omega arith)
 named-type (some (G.text m n)) d b e = let z : _≡_ {A = ℕ} 0 1 = cc in absurd (omega arith)
 named-type (some (G.range m n)) d b e = let z : _≡_ {A = ℕ} 0 1 = cc in absurd (omega arith)
@@ -153,34 +148,34 @@ pub refers-none : (r : Option Reference) → Refers r none → r ≡ none
 refers-none none e = refl
 refers-none (some r) e = let (d, q, m) = e in let z : _≡_ {A = ℕ} 0 1 = cc in absurd (omega arith)
 
-pub own-in-place : (ks : List Def) (p : ℕ) (w : Option WrittenType) (b : Use) (c : Typing) → p ≡ 0 → Refers (referenceIn w) (entry ks p) → Valued (domainType w (tyOf b)) c → Valued (tyOf (useOf w (entry ks p) b)) c
+pub own-in-place : (ks : List Def) (p : ℕ) (w : Option WrittenType) (b : Use) (c : Typing) → p ≡ 0 → Refers (referenceIn w) (entry ks p) → Valued (domainType w (tyOf b)) c → Valued (tyOf (attributeUse w (entry ks p) b)) c
 own-in-place ks p w b c z r h =
     let e : referenceIn w ≡ none = refers-none (referenceIn w) (subst (λ (i : ℕ). Refers (referenceIn w) (entry ks i)) z r) in
     rw (in-place-type w (entry ks p) b e) h
 
 pub own-named : (t o : List ℕ) (ks : List Def) (p : ℕ) (w : Option WrittenType) (b : Use) (c : Typing) → p ≤ length ks → ¬ (p ≡ 0) → Refers (referenceIn w) (entry ks p) → ((d : Def) → entry ks p ≡ some d → Typed t o (tyOf (naming d)) c)
-    → Typed t o (tyOf (useOf w (entry ks p) b)) c
+    → Typed t o (tyOf (attributeUse w (entry ks p) b)) c
 own-named t o ks p w b c l z r g =
     let (d, e) = entry-there ks p (omega arith) l in
     rw (e, named-type w d b (subst (Refers (referenceIn w)) e r)) (g d e)
 
 -- ---- 12 and 13
 -- the last part of 13
-pub abstract-is : (w : Option WrittenType) (g : Option Def) (b : Use) → Refers (referenceIn w) g → (isDomain (useOf w g b) && orNoDef g .abstract) ≡ abstractDomain g
-abstract-is w none b r = none-and (isDomain (useOf w none b))
+pub abstract-is : (w : Option WrittenType) (g : Option Def) (b : Use) → Refers (referenceIn w) g → (isDomain (attributeUse w g b) && orNoDef g .abstract) ≡ abstractDomain g
+abstract-is w none b r = none-and (isDomain (attributeUse w none b))
   where
     none-and : (c : Bool) → (c && false) ≡ false
     none-and true = refl
     none-and false = refl
 abstract-is w (some d) b r = rw (named-type w d b r) (go (isSort domain (d .sort)))
   where
-    go : (k : Bool) → (isDomain (cond k (named (linkOf d) (d .bases)) (struct (linkOf d) (d .bases))) && d .abstract) ≡ (k && d .abstract)
+    go : (k : Bool) → (isDomain (cond k (ofDomain (linkOf d) (d .bases)) (ofStructure (linkOf d) (d .bases))) && d .abstract) ≡ (k && d .abstract)
     go true = refl
     go false = refl
 
 module _ (p : ℕ) (f twice : Bool) (w : Option WrittenType) (g : Option Def) (b : Use) (r : Refers (referenceIn w) g) where
   abbrev own : Use
-  own = useOf w g b
+  own = attributeUse w g b
 
   pub head-final : (v : Bool) → v ≡ f → v ≡ true → brokenAt 12 p ≡ rulingOf (headRules p f twice own g)
   head-final v e h = rw (← e, h)
@@ -222,15 +217,15 @@ fair-any t T.structure f = tt
 
 pub fair-or-none : (t : List ℕ) (u : Use) → FairUse t u → FairOrNone t (tyOf u)
 fair-or-none t (inline x) f = fair-any t x f
-fair-or-none t (named l bs) f = fair-any t (l .type) f
-fair-or-none t (struct l bs) f = tt
+fair-or-none t (ofDomain l bs) f = fair-any t (l .type) f
+fair-or-none t (ofStructure l bs) f = tt
 
 -- of what is named at all
 pub fair-naming : (t : List ℕ) (d : Def) → (d .sort ≡ domain → Fair t (d .type)) → FairOrNone t (tyOf (naming d))
 fair-naming t d f = go (isSort domain (d .sort)) refl
   where
-    go : (k : Bool) → isSort domain (d .sort) ≡ k → FairOrNone t (tyOf (cond k (named (linkOf d) (d .bases)) (struct (linkOf d) (d .bases))))
-    go true e = fair-any t (d .type) (f (sort-is (d .sort) e))
+    go : (k : Bool) → isSort domain (d .sort) ≡ k → FairOrNone t (tyOf (cond k (ofDomain (linkOf d) (d .bases)) (ofStructure (linkOf d) (d .bases))))
+    go true e = fair-any t (d .type) (f (sort-domain (d .sort) e))
     go false e = tt
 
 pub fair-base : (t b : List ℕ) (ks : List Def) (ms : List Attribute) (x : List ℕ) (count : ℕ) (y : List ℕ) (total : ℕ) → Ready t b ks ms x count y total → (q : ℕ) → FairOrNone t (tyOf (orNoAttribute (entry ms q) .use-of))
@@ -242,10 +237,10 @@ fair-base t b ks ms x count y total r q = go (entry ms q) refl
 
 -- ---- bounds of both types
 pub own-sized : (t b : List ℕ) (ks : List Def) (ms : List Attribute) (x : List ℕ) (count : ℕ) (y : List ℕ) (total : ℕ) → Ready t b ks ms x count y total → (p : ℕ) (w : Option WrittenType) (u : Use) (c : Typing) → AnyIs (FairType t) w
-    → Refers (referenceIn w) (entry ks p) → FairOrNone t (tyOf u) → Valued (tyOf (useOf w (entry ks p) u)) c → Sized c
+    → Refers (referenceIn w) (entry ks p) → FairOrNone t (tyOf u) → Valued (tyOf (attributeUse w (entry ks p) u)) c → Sized c
 own-sized t b ks ms x count y total r p w u c f h k v = go (entry ks p) refl h v
   where
-    go : (g : Option Def) → entry ks p ≡ g → Refers (referenceIn w) g → Valued (tyOf (useOf w g u)) c → Sized c
+    go : (g : Option Def) → entry ks p ≡ g → Refers (referenceIn w) g → Valued (tyOf (attributeUse w g u)) c → Sized c
     go none e h v = sized-meant t w (tyOf u) c f k (rw (in-place-type w none u (refers-none (referenceIn w) h)) at v)
     go (some d) e h v = sized-base t (tyOf (naming d)) c (fair-naming t d (r .types p d e)) (rw (named-type w d u h) at v)
 

@@ -13,15 +13,16 @@ use Rattle.rules.specs.Grammar as G
 use Rattle.rules.specs.Units as U
 use Rattle.rules.specs.Declarations.{tyOf, Attribute, Def, attributeAt, isFound, State, known}
 use Rattle.rules.specs.Book.{Record, bytes, useRecords}
-use Rattle.rules.specs.Judge.{Judged, ok, refused, judge, orNoAttribute, isExtended, hasTwice, elementRule, referenceIn, resolved}
-use Rattle.rules.specs.Check.{room}
+use Rattle.rules.specs.Judge.{attributeUse, Judged, ok, refused, judge, orNoAttribute, isExtended, hasTwice, elementRule, referenceIn, resolved}
+use Rattle.rules.specs.Check.{lent, room}
 use Rattle.ground.specs.Parts.{splice}
 use Rattle.enumerations.specs.Merging.{sizeOf}
 use Rattle.enumerations.specs.declared.lists.Size.{Size}
 use Rattle.names.specs.Index.{entry}
 use Rattle.members.specs.Held.{attributesIn, useFor}
-use Rattle.scope.specs.Scope.{AnyIs, Begins}
-use Rattle.scope.proofs.KeepLaws.{judge-fair}
+use Rattle.rules.specs.All.{AnyIs}
+use Rattle.scope.specs.Scope.{Begins}
+use Rattle.scope.proofs.KeepLaws.{judge-fair, found-there}
 use Rattle.types.specs.Rulings.{rulingOf, judgedBy}
 use Rattle.types.specs.declared.Ruling.{Ruling}
 use Rattle.types.proofs.TypeLaws.{once-of}
@@ -34,7 +35,7 @@ use Rattle.state.proofs.KeepLaws.{plain-use}
 use Rattle.domains.specs.Written.{LaidWhen}
 use Rattle.domains.specs.declared.written.Laying.{Laying}
 use Rattle.domains.specs.declared.written.Laying.the-variants.{Whole, Broken}
-use Rattle.attributes.specs.Stages.{useOf, nameRules, referenceRules, headRules}
+use Rattle.attributes.specs.Stages.{nameRules, referenceRules, headRules}
 use Rattle.attributes.specs.Facts.{Given, Refers, Early-is, Typings-are, Lays, LaidAs, Passes, useIn, afterAttribute}
 use Rattle.attributes.specs.declared.early.Early.{Early}
 use Rattle.attributes.specs.declared.uses.Typings.{Typings}
@@ -48,11 +49,6 @@ laid-refused false q l i o o₁ r h = let e = h .0 in let z : _≡_ {A = ℕ} 0 
 laid-accepted : (b : Bool) (q : Ruling) (l : List Record) (i : ℕ) (o o₁ : List ℕ) (s : Size) → LaidWhen b q l i o o₁ (Whole s) → (b ≡ false) × (s ≡ sizeOf l) × (i + length (bytes l) ≤ length o → o₁ ≡ splice o i (bytes l))
 laid-accepted true q l i o o₁ s h = let z : _≡_ {A = ℕ} 0 1 = cc in absurd (omega arith)
 laid-accepted false q l i o o₁ s h = let e = h .0 in let k : s ≡ sizeOf l = cc in (refl, k, h .1)
-
-based-of : (x f : Bool) → x ≡ true → (x && not f) ≡ false → f ≡ true
-based-of true true e h = refl
-based-of true false e h = sym h
-based-of false f e h = let z : _≡_ {A = ℕ} 0 1 = cc in absurd (omega arith)
 
 module _ (t : List ℕ) (s : State) (st : code.State) (o x z y ns ps : List ℕ) (n : R.Name) (p : List (List ℕ)) (w : G.Written) (a : AttributeUnit) (rs : List ℕ) (k : Keeps t s st o x z y ns ps) (m : Comes t s (U.attribute n p w) (V·Attribute a) rs) where
   pub unit-is : Given t n p w rs a
@@ -100,16 +96,16 @@ module _ (t : List ℕ) (s : State) (st : code.State) (o x z y ns ps : List ℕ)
       refers-to = subst (Refers (referenceIn (w .type))) (sym named-is) (refer .0)
 
       alone : w .type ≡ none → isFound (entry (attributesIn s) (e .base)) ≡ true
-      alone q = ap isFound base-is ∙ based-of (isExtended p) (isFound base·) (unit-is .fair .alone q) (refer .1)
+      alone q = ap isFound base-is ∙ found-there (isExtended p) (isFound base·) (unit-is .fair .alone q) (refer .1)
 
       module _ (r : Typings) (ri : Typings-are t (take (st .used) o) (known (s .decls)) (a .name .offset) (a .properties .twice) (w .type) (entry (known (s .decls)) (e .named)) (entry (attributesIn s) (e .base)) r) where
         heads-are : r .ruling ≡ rulingOf (heads s c· n p w)
         heads-are =
             ri .ruling
-            ∙ ap (λ (i : ℕ). rulingOf (headRules i (orNoAttribute (entry (attributesIn s) (e .base)) .final) (a .properties .twice) (useOf (w .type) (entry (known (s .decls)) (e .named)) (orNoAttribute (entry (attributesIn s) (e .base)) .use-of)) (entry (known (s .decls)) (e .named)))) (at-name t n p w rs a unit-is)
-            ∙ ap (λ (b : Bool). rulingOf (headRules (n .offset) (orNoAttribute (entry (attributesIn s) (e .base)) .final) b (useOf (w .type) (entry (known (s .decls)) (e .named)) (orNoAttribute (entry (attributesIn s) (e .base)) .use-of)) (entry (known (s .decls)) (e .named)))) (is-twice t n p w rs a unit-is)
-            ∙ ap (λ (i : Option Attribute). rulingOf (headRules (n .offset) (orNoAttribute i .final) (hasTwice p) (useOf (w .type) (entry (known (s .decls)) (e .named)) (orNoAttribute i .use-of)) (entry (known (s .decls)) (e .named)))) base-is
-            ∙ ap (λ (d : Option Def). rulingOf (headRules (n .offset) (orNoAttribute base· .final) (hasTwice p) (useOf (w .type) d (orNoAttribute base· .use-of)) d)) named-is
+            ∙ ap (λ (i : ℕ). rulingOf (headRules i (orNoAttribute (entry (attributesIn s) (e .base)) .final) (a .properties .twice) (attributeUse (w .type) (entry (known (s .decls)) (e .named)) (orNoAttribute (entry (attributesIn s) (e .base)) .use-of)) (entry (known (s .decls)) (e .named)))) (at-name t n p w rs a unit-is)
+            ∙ ap (λ (b : Bool). rulingOf (headRules (n .offset) (orNoAttribute (entry (attributesIn s) (e .base)) .final) b (attributeUse (w .type) (entry (known (s .decls)) (e .named)) (orNoAttribute (entry (attributesIn s) (e .base)) .use-of)) (entry (known (s .decls)) (e .named)))) (is-twice t n p w rs a unit-is)
+            ∙ ap (λ (i : Option Attribute). rulingOf (headRules (n .offset) (orNoAttribute i .final) (hasTwice p) (attributeUse (w .type) (entry (known (s .decls)) (e .named)) (orNoAttribute i .use-of)) (entry (known (s .decls)) (e .named)))) base-is
+            ∙ ap (λ (d : Option Def). rulingOf (headRules (n .offset) (orNoAttribute base· .final) (hasTwice p) (attributeUse (w .type) d (orNoAttribute base· .use-of)) d)) named-is
 
         pub judged-second : 0 < r .ruling .number → judge s (U.attribute n p w) ≡ refused (r .ruling .number) (r .ruling .place)
         judged-second h2 = past-first ∙ ap (λ (q : Ruling). judgedBy q (judgedBy (rulingOf (uses s c· n p w)) (ok (afterAttribute s c· n p w)))) (sym heads-are) ∙ stage-broken (r .ruling) _ h2
@@ -159,7 +155,7 @@ module _ (t : List ℕ) (s : State) (st : code.State) (o x z y ns ps : List ℕ)
               pub size-solid : size .records ≤ size .bytes
               size-solid = let i = ap (λ (j : Size). j .records) (accepted .1) in let j = ap (λ (j : Size). j .bytes) (accepted .1) in let q = plain-use (useIn s c· n w) .solid in omega arith
 
-              pub passes : (u : ℕ) → useFor (entry (known (s .decls)) u) (tyOf (useOf (w .type) (entry (known (s .decls)) (e .named)) (orNoAttribute (entry (attributesIn s) (e .base)) .use-of))) ≡ useOf (w .type) (entry (known (s .decls)) (e .named)) (orNoAttribute (entry (attributesIn s) (e .base)) .use-of)
+              pub passes : (u : ℕ) → useFor (entry (known (s .decls)) u) (tyOf (attributeUse (w .type) (entry (known (s .decls)) (e .named)) (orNoAttribute (entry (attributesIn s) (e .base)) .use-of))) ≡ attributeUse (w .type) (entry (known (s .decls)) (e .named)) (orNoAttribute (entry (attributesIn s) (e .base)) .use-of)
                   → Passes t s st o o₁ x z y ns ps rs c· n p w a (e .slot) (e .base) (e .named) u size
               passes u eu = record {
                 keeps = k;
@@ -176,5 +172,5 @@ module _ (t : List ℕ) (s : State) (st : code.State) (o x z y ns ps : List ℕ)
               }
 
               -- the end's answer is the whole answer
-              pub judged-end : (j : code-judged.Judged) (o₂ y′ ns′ ps′ : List ℕ) → JudgedAs t (room (length o) (n .offset) (ok (afterAttribute s c· n p w))) st j o₂ x z y′ ns′ ps′ → JudgedAs t (verdict s (U.attribute n p w) o) st j o₂ x z y′ ns′ ps′
-              judged-end j o₂ y′ ns′ ps′ q = subst (λ (i : Judged). JudgedAs t (room (length o) (n .offset) i) st j o₂ x z y′ ns′ ps′) (sym judged-all) q
+              pub judged-end : (j : code-judged.Judged) (o₂ y′ ns′ ps′ : List ℕ) → JudgedAs t (room (lent (length o)) (n .offset) (ok (afterAttribute s c· n p w))) st j o₂ x z y′ ns′ ps′ → JudgedAs t (verdict s (U.attribute n p w) o) st j o₂ x z y′ ns′ ps′
+              judged-end j o₂ y′ ns′ ps′ q = subst (λ (i : Judged). JudgedAs t (room (lent (length o)) (n .offset) i) st j o₂ x z y′ ns′ ps′) (sym judged-all) q

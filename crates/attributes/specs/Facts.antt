@@ -11,7 +11,7 @@ use Rattle.rules.specs.Grammar as G
 use Rattle.rules.specs.Grammar.{Reference, WrittenType}
 use Rattle.rules.specs.Declarations.{Use, tyOf, Attribute, Def, domain, attributeAt, isFound, State, known}
 use Rattle.rules.specs.Book.{bytes, flags, useRecords}
-use Rattle.rules.specs.Judge.{isFinal, isExtended, mayType, orNoDef, orNoAttribute, referenceIn, resolved, newAttribute, withAttribute, opened}
+use Rattle.rules.specs.Judge.{attributeUse, isFinal, isExtended, mayType, orNoDef, orNoAttribute, referenceIn, resolved, newAttribute, withAttribute, opened}
 use Rattle.ground.specs.Parts.{splice}
 use Rattle.names.specs.Index.{entry}
 use Rattle.members.specs.Members.{slotOf}
@@ -22,7 +22,8 @@ use Rattle.enumerations.specs.declared.lists.Size.{Size}
 use Rattle.readers.specs.Reads.{nameCut}
 use Rattle.parts.specs.Forms.{anyOf, flagsOf, writtenOf}
 use Rattle.parts.specs.declared.types.Written.{Written}
-use Rattle.scope.specs.Scope.{AnyIs, Begins, Fair, FairUse, FairWritten, FairState}
+use Rattle.rules.specs.All.{AnyIs}
+use Rattle.scope.specs.Scope.{Begins, Fair, FairUse, FairWritten, FairState}
 use Rattle.types.specs.Rulings.{rulingOf}
 use Rattle.types.specs.Values.{Valued, Typed, Sized, Scratched, Once}
 use Rattle.types.specs.declared.Typing.{Typing}
@@ -31,7 +32,7 @@ use Rattle.domains.specs.declared.written.Laying.{Laying}
 use Rattle.units.specs.declared.AttributeUnit.{AttributeUnit}
 use Rattle.state.specs.declared.State as code
 use Rattle.state.specs.Keeping.{Keeps}
-use Rattle.attributes.specs.Stages.{useOf, nameRules, earlyRules, headRules, useRules}
+use Rattle.attributes.specs.Stages.{nameRules, rulesTo11, headRules, useRules}
 use Rattle.attributes.specs.declared.early.Early.{Early}
 use Rattle.attributes.specs.declared.uses.Typings.{Typings}
 
@@ -55,18 +56,18 @@ Refers (some r) g = (d : Def) × (g ≡ some d) × (mayType (d .sort) ≡ true)
 
 -- 4 to 11; behind them the slot of the name in the open class c, the position of the nearest inherited one, and of what a reference names
 pub record Early-is (s : State) (c : Def) (n : R.Name) (extended : Bool) (w : Option WrittenType) (ns ps : List ℕ) (hand : ℕ) (e : Early) : Type 0 where
-  pub ruling : e .ruling ≡ rulingOf (earlyRules c n extended (isFound (attributeAt (n .bytes) (c .inherited))) w (resolved s (referenceIn w)))
+  pub ruling : e .ruling ≡ rulingOf (rulesTo11 c n extended (isFound (attributeAt (n .bytes) (c .inherited))) w (resolved s (referenceIn w)))
   pub slot : e .ruling .number ≡ 0 → (o : Opened (attributesIn s) ns ps hand c) → e .slot ≡ slotOf (n .bytes) (o .hand)
   pub base : e .ruling .number ≡ 0 → entry (attributesIn s) (e .base) ≡ attributeAt (n .bytes) (c .inherited)
   pub named : e .ruling .number ≡ 0 → entry (known (s .decls)) (e .named) ≡ resolved s (referenceIn w)
 
 -- 12 and 13; the types of the attribute and of its base, o, where b is the book
 pub record Typings-are (t b : List ℕ) (ks : List Def) (p : ℕ) (twice : Bool) (w : Option WrittenType) (g : Option Def) (o : Option Attribute) (r : Typings) : Type 0 where
-  pub ruling : r .ruling ≡ rulingOf (headRules p (orNoAttribute o .final) twice (useOf w g (orNoAttribute o .use-of)) g)
+  pub ruling : r .ruling ≡ rulingOf (headRules p (orNoAttribute o .final) twice (attributeUse w g (orNoAttribute o .use-of)) g)
   pub used : useFor (entry ks (r .used)) (tyOf (orNoAttribute o .use-of)) ≡ orNoAttribute o .use-of
   pub base : Typed t b (tyOf (orNoAttribute o .use-of)) (r .base)
-  pub own : Valued (tyOf (useOf w g (orNoAttribute o .use-of))) (r .own)
-  pub named : isFound g ≡ true → Typed t b (tyOf (useOf w g (orNoAttribute o .use-of))) (r .own)
+  pub own : Valued (tyOf (attributeUse w g (orNoAttribute o .use-of))) (r .own)
+  pub named : isFound g ≡ true → Typed t b (tyOf (attributeUse w g (orNoAttribute o .use-of))) (r .own)
   pub sized-own : Sized (r .own)
   pub sized-base : Sized (r .base)
 
@@ -82,18 +83,18 @@ pub record Lays (t b : List ℕ) (ks : List Def) (ms : List Attribute) (x : List
   pub alone : v ≡ none → isFound (entry ms base) ≡ true
   pub used : useFor (entry ks u) (tyOf (orNoAttribute (entry ms base) .use-of)) ≡ orNoAttribute (entry ms base) .use-of
   pub typed : Typed t b (tyOf (orNoAttribute (entry ms base) .use-of)) over
-  pub valued : Valued (tyOf (useOf v (entry ks named) (orNoAttribute (entry ms base) .use-of))) own
-  pub typed-named : 0 < named → Typed t b (tyOf (useOf v (entry ks named) (orNoAttribute (entry ms base) .use-of))) own
+  pub valued : Valued (tyOf (attributeUse v (entry ks named) (orNoAttribute (entry ms base) .use-of))) own
+  pub typed-named : 0 < named → Typed t b (tyOf (attributeUse v (entry ks named) (orNoAttribute (entry ms base) .use-of))) own
 
 -- the rule of 14 to 18 that is broken, or the records at the place i; g is what is named, o the base
 abbrev pub LaidAs : ℕ → Option WrittenType → Option Def → Option Attribute → ℕ → List ℕ → List ℕ → Laying → Type 0
 LaidAs p v g o i out out₁ r =
-    let q = rulingOf (useRules p (isFound o) v (useOf v g (orNoAttribute o .use-of)) (orNoAttribute o .use-of)) in
-    LaidWhen (ltb 0 (q .number)) q (useRecords (useOf v g (orNoAttribute o .use-of))) i out out₁ r
+    let q = rulingOf (useRules p (isFound o) v (attributeUse v g (orNoAttribute o .use-of)) (orNoAttribute o .use-of)) in
+    LaidWhen (ltb 0 (q .number)) q (useRecords (attributeUse v g (orNoAttribute o .use-of))) i out out₁ r
 
 -- what types the attribute, and the state after it
 abbrev pub useIn : State → Def → R.Name → G.Written → Use
-useIn s c n w = useOf (w .type) (resolved s (referenceIn (w .type))) (orNoAttribute (attributeAt (n .bytes) (c .inherited)) .use-of)
+useIn s c n w = attributeUse (w .type) (resolved s (referenceIn (w .type))) (orNoAttribute (attributeAt (n .bytes) (c .inherited)) .use-of)
 
 abbrev pub afterAttribute : State → Def → R.Name → List (List ℕ) → G.Written → State
 afterAttribute s c n p w = opened s (withAttribute c (newAttribute s n p w (attributeAt (n .bytes) (c .inherited)) (resolved s (referenceIn (w .type)))))

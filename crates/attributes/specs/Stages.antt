@@ -5,19 +5,9 @@ use mathlib.Core.List.{List, [], _∷_, _++_}
 use Prim.Native.Nat.{ℕ}
 use lib.Dec.{leb}
 use Rattle.rules.specs.Names.{Name}
-use Rattle.rules.specs.Grammar as G
 use Rattle.rules.specs.Grammar.{Reference, WrittenType}
-use Rattle.rules.specs.Declarations.{Use, inline, tyOf, domain, isSort, Def, attributesOf, attributeAt, isFound, nameCount}
-use Rattle.rules.specs.Judge.{Rule, rule, orNoDef, placeOf, mayType, meant, naming, referenceIn, isNumeric, isDomain, elementRule, typeRules, kindRule, attributeLate}
-
--- g is what a reference names, b what types the base
-abbrev pub useOf : Option WrittenType → Option Def → Use → Use
-useOf none g b = b
-useOf (some (G.text m n)) g b = inline (meant (G.text m n) (tyOf b))
-useOf (some (G.range x y)) g b = inline (meant (G.range x y) (tyOf b))
-useOf (some G.numeric) g b = inline (meant G.numeric (tyOf b))
-useOf (some (G.enum e)) g b = inline (meant (G.enum e) (tyOf b))
-useOf (some (G.named r)) g b = naming (orNoDef g)
+use Rattle.rules.specs.Declarations.{Use, tyOf, domain, isSort, Def, attributesOf, attributeAt, isFound, nameCount}
+use Rattle.rules.specs.Judge.{Rule, rule, orNoDef, placeOf, mayType, referenceIn, isNumeric, isDomain, elementRule, typeRules, kindRule, attribute17To18}
 
 -- 4 and 9 of the name
 abbrev pub nameRules : Def → Name → Bool → List Rule
@@ -35,8 +25,8 @@ abbrev pub referenceRules : ℕ → Bool → Bool → Option Reference → Optio
 referenceRules p extended based r g = rule 10 p (extended && not based) ∷ targetRules r g
 
 -- 4 to 11
-abbrev pub earlyRules : Def → Name → Bool → Bool → Option WrittenType → Option Def → List Rule
-earlyRules c n extended based w g = nameRules c n extended ++ (elementRule w ∷ referenceRules (n .offset) extended based (referenceIn w) g)
+abbrev pub rulesTo11 : Def → Name → Bool → Bool → Option WrittenType → Option Def → List Rule
+rulesTo11 c n extended based w g = nameRules c n extended ++ (elementRule w ∷ referenceRules (n .offset) extended based (referenceIn w) g)
 
 abbrev pub abstractDomain : Option Def → Bool
 abstractDomain none = false
@@ -48,7 +38,7 @@ headRules p final twice u g = rule 12 p final ∷ rule 13 p (twice || (isNumeric
 
 -- 16 to 18
 abbrev pub baseRules : ℕ → Bool → Bool → Use → Use → List Rule
-baseRules p based names u b = kindRule p based (tyOf u) (tyOf b) ∷ attributeLate p based names u b
+baseRules p based names u b = kindRule p based (tyOf u) (tyOf b) ∷ attribute17To18 p based names u b
 
 -- 14 to 18; the type stands at p
 abbrev pub useRules : ℕ → Bool → Option WrittenType → Use → Use → List Rule

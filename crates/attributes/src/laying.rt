@@ -19,17 +19,18 @@ ghost use Rattle.rules.specs.Grammar.{WrittenType};
 ghost use Rattle.rules.specs.Types.{kindOf};
 ghost use Rattle.rules.specs.Declarations.{Use, tyOf, Def, Attribute, isFound, isSort, domain};
 ghost use Rattle.rules.specs.Book.{bytes, useRecords};
-ghost use Rattle.rules.specs.Judge.{mayType, naming, descends, orNoAttribute, referenceIn};
+ghost use Rattle.rules.specs.Judge.{attributeUse, mayType, naming, descends, orNoAttribute, referenceIn};
 ghost use Rattle.ground.specs.Parts.{splice};
 ghost use Rattle.names.specs.Index.{entry, row, Says};
 ghost use Rattle.members.specs.Held.{Held, useFor};
 ghost use Rattle.enumerations.specs.Merging.{sizeOf};
 ghost use Rattle.parts.specs.Forms.{anyOf};
-ghost use Rattle.scope.specs.Scope.{AnyIs, FairUse};
+ghost use Rattle.rules.specs.All.{AnyIs};
+ghost use Rattle.scope.specs.Scope.{FairUse};
 ghost use Rattle.types.specs.Rulings.{rulingOf};
 ghost use Rattle.types.specs.Values.{Typed, Sized};
 ghost use Rattle.domains.specs.declared.written.Laying.the-variants.{Whole};
-ghost use Rattle.attributes.specs.Stages.{useOf, baseRules};
+ghost use Rattle.attributes.specs.Stages.{baseRules};
 ghost use Rattle.attributes.specs.Facts.{Ready, Refers, Lays, LaidAs};
 
 // ---- 16 to 18 of a domain or structure that is named
@@ -85,7 +86,7 @@ fn descent_ruling(
 // The definition that the attribute names: the one at `named`, or with MANDATORY alone the one u that its base names; 0 for a type in place.
 pub fn use_at(m: Meant, named: usize, u: usize) -> usize
     ensures { λ r. ⌜ ((ks : List Def) (w : Option WrittenType) (v : Use) → m ≡ anyOf w → named ≤ length ks → Refers (referenceIn w) (entry ks named) → useFor (entry ks u) (tyOf v) ≡ v
-        → useFor (entry ks r) (tyOf (useOf w (entry ks named) v)) ≡ useOf w (entry ks named) v) ⌝ }
+        → useFor (entry ks r) (tyOf (attributeUse w (entry ks named) v)) ≡ attributeUse w (entry ks named) v) ⌝ }
     ensures { λ r. ⌜ ((count : ℕ) → named ≤ count → u ≤ count → r ≤ count) ⌝ }
 {
     if let Meant::Alone = m {

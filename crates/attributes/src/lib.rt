@@ -28,7 +28,7 @@ ghost use Rattle.rules.specs.Declarations as D;
 ghost use Rattle.rules.specs.Declarations.{Def, Attribute};
 ghost use Rattle.rules.specs.Book.{numberOr, headRecord};
 ghost use Rattle.rules.specs.Judge.{ok, orNoDef, orNoAttribute, baseOfAttribute};
-ghost use Rattle.rules.specs.Check.{room};
+ghost use Rattle.rules.specs.Check.{lent, room};
 ghost use Rattle.ground.specs.Parts.{splice};
 ghost use Rattle.names.specs.Index.{entry};
 ghost use Rattle.members.specs.Held.{Held};
@@ -148,7 +148,7 @@ fn end_attribute(
     requires { ⌜ (a .name .offset + a .name .len ≤ 65535) × (size .records ≤ size .bytes) ⌝ }
     ensures { λ r. ⌜ ((t : List ℕ) (s : D.State) (b z rs : List ℕ) (c : Def) (n : R.Name) (p : List (List ℕ)) (w : G.Written) → length b ≡ length (now (book .entry))
         → Passes t s st b (now (book .entry)) (now (index .entry)) z (now (members .entry)) (now (numbers .entry)) (now (positions .entry)) rs c n p w a slot base named «use_of» size
-        → JudgedAs t (room (length b) (n .offset) (ok (afterAttribute s c n p w))) st r (now (book .exit)) (now (index .entry)) z (now (members .exit)) (now (numbers .exit)) (now (positions .exit))) ⌝ }
+        → JudgedAs t (room (lent (length b)) (n .offset) (ok (afterAttribute s c n p w))) st r (now (book .exit)) (now (index .entry)) z (now (members .exit)) (now (numbers .exit)) (now (positions .exit))) ⌝ }
 {
     let name = a.name;
     let used = st.used;

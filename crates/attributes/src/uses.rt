@@ -11,14 +11,15 @@ ghost use Prim.Native.Nat.{ℕ, _+_, _*_, _≤_, _<_};
 ghost use lib.ListN.{length, getD};
 ghost use Rattle.rules.specs.Grammar.{WrittenType};
 ghost use Rattle.rules.specs.Declarations.{Use, tyOf, Def, Attribute};
-ghost use Rattle.rules.specs.Judge.{naming, orNoAttribute, referenceIn};
+ghost use Rattle.rules.specs.Judge.{attributeUse, naming, orNoAttribute, referenceIn};
 ghost use Rattle.names.specs.Index.{entry, row};
 ghost use Rattle.members.specs.Held.{Held, useFor};
 ghost use Rattle.parts.specs.Forms.{anyOf};
-ghost use Rattle.scope.specs.Scope.{AnyIs, FairType};
+ghost use Rattle.rules.specs.All.{AnyIs};
+ghost use Rattle.scope.specs.Scope.{FairType};
 ghost use Rattle.types.specs.Rulings.{rulingOf};
 ghost use Rattle.types.specs.Values.{Valued, Typed};
-ghost use Rattle.attributes.specs.Stages.{useOf, abstractDomain, headRules};
+ghost use Rattle.attributes.specs.Stages.{abstractDomain, headRules};
 ghost use Rattle.attributes.specs.Facts.{Ready, Refers, Typings-are};
 
 // The rule of 12 and 13 that is broken; the position of what the base names, 0 for a type in place; the types of the attribute and of its
@@ -77,7 +78,7 @@ fn base_type(front: &[u8], index: &[u16], members: &[u16], q: usize, u: usize) -
 fn own_type(front: &[u8], index: &[u16], m: Meant, named: usize, base: Typing) -> Typing
     requires { ⌜ named * 10 + 10 ≤ length (now index) ⌝ }
     ensures { λ r. ⌜ ((t : List ℕ) (ks : List Def) (ms : List Attribute) (count : ℕ) (y : List ℕ) (total : ℕ) (w : Option WrittenType) (b : Use) → Ready t (now (front .entry)) ks ms (now (index .entry)) count y total → named ≤ count
-        → m ≡ anyOf w → Refers (referenceIn w) (entry ks named) → Valued (tyOf b) base → Valued (tyOf (useOf w (entry ks named) b)) r × (0 < named → Typed t (now (front .entry)) (tyOf (useOf w (entry ks named) b)) r)) ⌝ }
+        → m ≡ anyOf w → Refers (referenceIn w) (entry ks named) → Valued (tyOf b) base → Valued (tyOf (attributeUse w (entry ks named) b)) r × (0 < named → Typed t (now (front .entry)) (tyOf (attributeUse w (entry ks named) b)) r)) ⌝ }
 {
     if named == 0 {
         return types::meant(m, base);
@@ -122,8 +123,8 @@ fn head_ruling(
 ) -> Ruling
     requires { ⌜ (q * 6 + 6 ≤ length (now members)) × (named * 10 + 10 ≤ length (now index)) ⌝ }
     ensures { λ r. ⌜ ((t b : List ℕ) (ks : List Def) (ms : List Attribute) (count total : ℕ) (w : Option WrittenType) → Held t b ks ms (now (index .entry)) count (now (members .entry)) total → q ≤ total → named ≤ count
-        → Refers (referenceIn w) (entry ks named) → Valued (tyOf (useOf w (entry ks named) (orNoAttribute (entry ms q) .use-of))) own
-        → r ≡ rulingOf (headRules place (orNoAttribute (entry ms q) .final) twice (useOf w (entry ks named) (orNoAttribute (entry ms q) .use-of)) (entry ks named))) ⌝ }
+        → Refers (referenceIn w) (entry ks named) → Valued (tyOf (attributeUse w (entry ks named) (orNoAttribute (entry ms q) .use-of))) own
+        → r ≡ rulingOf (headRules place (orNoAttribute (entry ms q) .final) twice (attributeUse w (entry ks named) (orNoAttribute (entry ms q) .use-of)) (entry ks named))) ⌝ }
 {
     if is_last(members, q) {
         return broken(12, place);

@@ -21,7 +21,7 @@ use Rattle.rules.specs.Judge as J
 use Rattle.rules.specs.Judge.{judge}
 use Rattle.rules.specs.Book.{book, padded}
 use Rattle.rules.specs.Check as C
-use Rattle.rules.specs.Check.{capacity, isOver, runFrom, judged, room, unitPlace, afterJudge, afterUnit, finish, Next, run}
+use Rattle.rules.specs.Check.{Given, lent, capacity, isOver, runFrom, judged, room, unitPlace, afterJudge, afterUnit, finish, Next, run}
 use Rattle.rules.specs.Show.{Part}
 use Rattle.rules.proofs.Tests.{never}
 use Rattle.ground.proofs.BufferLaws.{padded-none}
@@ -29,21 +29,13 @@ use Rattle.book.specs.Names.{partOf}
 use Rattle.book.specs.declared.Part as code
 use Rattle.auzuplens.specs.declared.Answer.{Answer}
 use Rattle.auzuplens.specs.declared.Answer.the-variants.{Accepted, Refused}
-use Rattle.auzuplens.specs.Promise.{answerOf, Promise, OneOutcome, full, Tried}
+use Rattle.rules.specs.Promise.{Promise}
+use Rattle.auzuplens.specs.Promise.{answerOf, full, Tried}
 use Rattle.auzuplens.specs.Packing.{packed, packedPart}
 use Rattle.auzuplens.specs.Running.{Ended, keptOf}
 
--- ---- one outcome
-pub one-outcome : OneOutcome
-one-outcome t m = record {
-  answer = C.check t m .answer;
-  buffer = C.check t m .buffer;
-  promised = record { answer = refl; buffer = refl };
-  only = λ a b h. (h .answer, h .buffer);
-}
-
 -- ---- a buffer counts only up to the capacity
-module _ (t : List ℕ) (m n : ℕ) (e : capacity m ≡ capacity n) where
+module _ (t : List ℕ) (m n : Given) (e : capacity m ≡ capacity n) where
   room-same : (p : ℕ) (j : J.Judged) → room m p j ≡ room n p j
   room-same p (J.ok s) = ap (λ (c : ℕ). cond (ltb c (length (book s))) (J.refused 19 p) (J.ok s)) e
   room-same p (J.refused k q) = refl
@@ -52,13 +44,13 @@ module _ (t : List ℕ) (m n : ℕ) (e : capacity m ≡ capacity n) where
   judged-same s none = refl
   judged-same s (some u) = room-same (unitPlace u) (judge s u)
 
-  then-same : (j : J.Judged) (w : U.Where) (at : ℕ) (k l : Next) → ((s : State) → k w s at ≡ l w s at) → afterJudge j w at k ≡ afterJudge j w at l
-  then-same (J.ok s) w at k l h = h s
-  then-same (J.refused i p) w at k l h = refl
+  then-same : (x : State) (j : J.Judged) (w : U.Where) (at : ℕ) (k l : Next) → ((s : State) → k w s at ≡ l w s at) → afterJudge x j w at k ≡ afterJudge x j w at l
+  then-same x (J.ok s) w at k l h = h s
+  then-same x (J.refused i p) w at k l h = refl
 
   unit-same : (s : State) (r : Result U.Step) (k l : Next) → ((w : U.Where) (u : State) (at : ℕ) → k w u at ≡ l w u at) → afterUnit m s r k ≡ afterUnit n s r l
   unit-same s (done q y) k l h =
-      ap (λ (j : J.Judged). afterJudge j (q .next) (q .behind) k) (judged-same s (q .unit)) ∙ then-same (judged n s (q .unit)) (q .next) (q .behind) k l (λ u. h (q .next) u (q .behind))
+      ap (λ (j : J.Judged). afterJudge s j (q .next) (q .behind) k) (judged-same s (q .unit)) ∙ then-same s (judged n s (q .unit)) (q .next) (q .behind) k l (λ u. h (q .next) u (q .behind))
   unit-same s (refused i p) k l h = refl
 
   from-same : (f : ℕ) (w : U.Where) (s : State) (at : ℕ) → runFrom f t m w s at ≡ runFrom f t n w s at
@@ -74,25 +66,25 @@ module _ (t : List ℕ) (m n : ℕ) (e : capacity m ≡ capacity n) where
 abbrev isFull : C.Outcome → Bool
 isFull o = full (C.answerOf o)
 
-module _ (t : List ℕ) (m n : ℕ) (e : capacity m ≤ capacity n) where
-  room-within : (p : ℕ) (x : State) (w : U.Where) (at : ℕ) (k l : Next) → (isFull (k w x at) ≡ false → k w x at ≡ l w x at) → isFull (afterJudge (room m p (J.ok x)) w at k) ≡ false →
-      afterJudge (room m p (J.ok x)) w at k ≡ afterJudge (room n p (J.ok x)) w at l
-  room-within p x w at k l h f = go (ltb (capacity m) (length (book x))) refl f
+module _ (t : List ℕ) (m n : Given) (e : capacity m ≤ capacity n) where
+  room-within : (s : State) (p : ℕ) (x : State) (w : U.Where) (at : ℕ) (k l : Next) → (isFull (k w x at) ≡ false → k w x at ≡ l w x at) → isFull (afterJudge s (room m p (J.ok x)) w at k) ≡ false →
+      afterJudge s (room m p (J.ok x)) w at k ≡ afterJudge s (room n p (J.ok x)) w at l
+  room-within s p x w at k l h f = go (ltb (capacity m) (length (book x))) refl f
     where
-      go : (b : Bool) → ltb (capacity m) (length (book x)) ≡ b → isFull (afterJudge (cond b (J.refused 19 p) (J.ok x)) w at k) ≡ false →
-          afterJudge (cond b (J.refused 19 p) (J.ok x)) w at k ≡ afterJudge (room n p (J.ok x)) w at l
+      go : (b : Bool) → ltb (capacity m) (length (book x)) ≡ b → isFull (afterJudge s (cond b (J.refused 19 p) (J.ok x)) w at k) ≡ false →
+          afterJudge s (cond b (J.refused 19 p) (J.ok x)) w at k ≡ afterJudge s (room n p (J.ok x)) w at l
       go true c f = never (sym f)
       go false c f =
           let i = ltb-false (capacity m) (length (book x)) c in
           rw (le-ltb (capacity n) (length (book x)) (omega arith)) (h f)
 
   judged-within : (s : State) (u : Option U.Unit) (w : U.Where) (at : ℕ) (k l : Next) → ((x : State) → isFull (k w x at) ≡ false → k w x at ≡ l w x at) →
-      isFull (afterJudge (judged m s u) w at k) ≡ false → afterJudge (judged m s u) w at k ≡ afterJudge (judged n s u) w at l
+      isFull (afterJudge s (judged m s u) w at k) ≡ false → afterJudge s (judged m s u) w at k ≡ afterJudge s (judged n s u) w at l
   judged-within s none w at k l h f = h s f
   judged-within s (some u) w at k l h f = go (judge s u) f
     where
-      go : (j : J.Judged) → isFull (afterJudge (room m (unitPlace u) j) w at k) ≡ false → afterJudge (room m (unitPlace u) j) w at k ≡ afterJudge (room n (unitPlace u) j) w at l
-      go (J.ok x) f = room-within (unitPlace u) x w at k l (h x) f
+      go : (j : J.Judged) → isFull (afterJudge s (room m (unitPlace u) j) w at k) ≡ false → afterJudge s (room m (unitPlace u) j) w at k ≡ afterJudge s (room n (unitPlace u) j) w at l
+      go (J.ok x) f = room-within s (unitPlace u) x w at k l (h x) f
       go (J.refused i q) f = refl
 
   unit-within : (s : State) (r : Result U.Step) (k l : Next) → ((w : U.Where) (x : State) (at : ℕ) → isFull (k w x at) ≡ false → k w x at ≡ l w x at) →
@@ -113,8 +105,8 @@ module _ (t : List ℕ) (m n : ℕ) (e : capacity m ≤ capacity n) where
   unfolding run
   run-within h = go (ltb 65535 (length t)) h
     where
-      go : (b : Bool) → isFull (cond b (C.unread C·too-long 0) (runFrom (enough t) t m U.start C.nothing 0)) ≡ false →
-          cond b (C.unread C·too-long 0) (runFrom (enough t) t m U.start C.nothing 0) ≡ cond b (C.unread C·too-long 0) (runFrom (enough t) t n U.start C.nothing 0)
+      go : (b : Bool) → isFull (cond b (C.unread C.nothing C·too-long 0) (runFrom (enough t) t m U.start C.nothing 0)) ≡ false →
+          cond b (C.unread C.nothing C·too-long 0) (runFrom (enough t) t m U.start C.nothing 0) ≡ cond b (C.unread C.nothing C·too-long 0) (runFrom (enough t) t n U.start C.nothing 0)
       go true h = refl
       go false h = from-within (enough t) U.start C.nothing 0 h
 
@@ -134,22 +126,22 @@ pub ended-fits : (t : List ℕ) (m : ℕ) (a : Answer) (o d : List ℕ) → Ende
 ended-fits t m (Accepted n k) o d (s, r, i, j, h, w) = rw (length-append o d) (omega arith)
 ended-fits t m (Refused n p) o d h = omega arith
 
-ended-answer : (t : List ℕ) (m : ℕ) (a : Answer) (o : List ℕ) → Ended t m a o → C.answerOf (run t m) ≡ answerOf a
+ended-answer : (t : List ℕ) (m : ℕ) (a : Answer) (o : List ℕ) → Ended t m a o → C.answerOf (run t (lent m)) ≡ answerOf a
 ended-answer t m (Accepted n k) o (s, r, i, j, h, w) = rw (r, i, j)
 ended-answer t m (Refused n p) o h = h
 
-refused-buffer : (o : C.Outcome) (n p m : ℕ) → C.answerOf o ≡ C.refusal n p → padded [] m ≡ C.bufferOf o m
+refused-buffer : (o : C.Outcome) (n p m : ℕ) → C.answerOf o ≡ C.refusing n p → padded [] m ≡ C.bufferOf o m
 refused-buffer (C.kept s) n p m h = absurd (let q : _≡_ {A = ℕ} 0 1 = cc in omega arith)
-refused-buffer (C.unread f q) n p m h = refl
-refused-buffer (C.broken i q) n p m h = refl
+refused-buffer (C.unread s f q) n p m h = refl
+refused-buffer (C.ruledOut s i q) n p m h = refl
 
 module _ (t : List ℕ) (m l : ℕ) (a : Answer) (o d b : List ℕ) (h : Ended t m a o) (e : b ≡ padded (take (keptOf a) (o ++ d)) l) where
-  promised-by : run t m ≡ run t l → Promise t l (answerOf a) b
+  promised-by : run t (lent m) ≡ run t (lent l) → Promise t (lent l) (answerOf a) b
   promised-by same = record { answer = sym (ended-answer t m a o h) ∙ ap C.answerOf same; buffer = go a h e }
     where
-      go : (a : Answer) → Ended t m a o → b ≡ padded (take (keptOf a) (o ++ d)) l → b ≡ C.bufferOf (run t l) l
+      go : (a : Answer) → Ended t m a o → b ≡ padded (take (keptOf a) (o ++ d)) l → b ≡ C.bufferOf (run t (lent l)) l
       go (Accepted n k) (s, r, i, j, h, w) e = rw (sym same ∙ r) (e ∙ ap (λ (x : List ℕ). padded x l) (take-append-le n o d h ∙ w))
-      go (Refused n p) h e = e ∙ refused-buffer (run t l) n p l (ap C.answerOf (sym same) ∙ h)
+      go (Refused n p) h e = e ∙ refused-buffer (run t (lent l)) n p l (ap C.answerOf (sym same) ∙ h)
 
 pub tried : (t b o l : List ℕ) (m most : ℕ) (a : Answer) → m ≡ min (length b) most → most ≤ 65535 → length o ≡ length (take m b) → Ended t (length (take m b)) a o →
     l ≡ padded (take (keptOf a) (o ++ drop m b)) (length (o ++ drop m b)) → Tried t (length b) most (answerOf a) l
@@ -160,12 +152,12 @@ tried t b o l m most a e small f h c =
     let rest : l ≡ padded (take (keptOf a) (o ++ drop m b)) (length b) = c ∙ ap (padded (take (keptOf a) (o ++ drop m b))) whole in
     let by = promised-by t (length (take m b)) (length b) a o (drop m b) l h rest in
     record {
-      whole = λ i. by (run-same t (length (take m b)) (length b) (rw count (omega arith)));
-      unless-full = λ i. by (run-within t (length (take m b)) (length b) (rw count (omega arith)) (ap full (ended-answer t (length (take m b)) a o h) ∙ i));
+      whole = λ i. by (run-same t (lent (length (take m b))) (lent (length b)) (rw count (omega arith)));
+      unless-full = λ i. by (run-within t (lent (length (take m b))) (lent (length b)) (rw count (omega arith)) (ap full (ended-answer t (length (take m b)) a o h) ∙ i));
     }
 
 -- ---- a text that is too long
-pub too-long : (t : List ℕ) (m : ℕ) (l : List ℕ) → 65535 < length t → l ≡ padded [] m → Promise t m (C.refusal 1 0) l
+pub too-long : (t : List ℕ) (m : ℕ) (l : List ℕ) → 65535 < length t → l ≡ padded [] m → Promise t (lent m) (C.refusing 1 0) l
 unfolding run
 too-long t m l h e = record { answer = rw (lt-ltb 65535 (length t) h); buffer = rw (lt-ltb 65535 (length t) h) e }
 
@@ -180,5 +172,5 @@ pub packed-part : (p : Part) (q : code.Part) → q ≡ partOf p → q .start % 4
 packed-part p q e = rw e
 
 -- ---- of a buffer of as many bytes
-pub promise-sized : {t : List ℕ} {m m′ : ℕ} {a : C.Answer} {b : List ℕ} → m ≡ m′ → Promise t m a b → Promise t m′ a b
+pub promise-sized : {t : List ℕ} {m m′ : ℕ} {a : C.Answer} {b : List ℕ} → m ≡ m′ → Promise t (lent m) a b → Promise t (lent m′) a b
 promise-sized e h = rw e at h

@@ -1,11 +1,11 @@
 -- The loop over the units runs as `run` does.
 use mathlib.Core.Path.{_≡_, refl, sym, ap, _∙_, subst}
-use mathlib.Core.Bool.{Bool, true, false, cond}
+use mathlib.Core.Bool.{Bool, true, false, cond, not}
 use mathlib.Core.Option.{Option, none, some}
 use mathlib.Core.List.{List}
 use Prim.Native.Nat.{ℕ, zero, suc, _+_, _*_, _≤_, _<_}
 use native.Mathlib.Omega.{arith}
-use lib.ListN.{length, take, replicate}
+use lib.ListN.{length, replicate}
 use lib.Dec.{ltb}
 use borrow.Author.Tests.{le-ltb}
 use Rattle.rules.specs.Symbols as rules
@@ -19,7 +19,7 @@ use Rattle.rules.specs.Judge as J
 use Rattle.rules.specs.Judge.{judge}
 use Rattle.rules.specs.Book as B
 use Rattle.rules.specs.Check as C
-use Rattle.rules.specs.Check.{isOver, runFrom, judged, room, unitPlace, afterJudge, afterUnit, finish, nothing, run}
+use Rattle.rules.specs.Check.{lent, isOver, runFrom, judged, room, unitPlace, afterJudge, afterUnit, finish, nothing, run}
 use Rattle.rules.proofs.SymbolLaws.{Lies, next-lies}
 use Rattle.rules.proofs.ForwardLaws.{Ends, Stepped, unit-steps}
 use Rattle.symbols.specs.declared.Symbol.{Symbol}
@@ -31,8 +31,9 @@ use Rattle.units.specs.declared.Where.the-variants.{Start}
 use Rattle.units.specs.declared.Unit.{Unit}
 use Rattle.units.specs.declared.Step.{Step}
 use Rattle.units.specs.declared.Step.the-variants.{Read, Unread}
-use Rattle.units.specs.Steps.{whereOf, placeOf, IsAny, StepIs, Steps}
-use Rattle.scope.specs.Scope.{AnyIs, FairUnit, MayStand, Placed}
+use Rattle.units.specs.Steps.{aroundOf, runOf, behindOf, whereOf, placeOf, IsAny, StepIs, Steps}
+use Rattle.rules.specs.All.{AnyIs}
+use Rattle.scope.specs.Scope.{FairUnit, MayStand, Placed}
 use Rattle.scope.proofs.ReadLaws.{unit-fair}
 use Rattle.scope.proofs.StandLaws.{may-stand, placed-mark, placed-next}
 use Rattle.state.specs.declared.State as code
@@ -68,21 +69,21 @@ module _ {t : List ℕ} {m : ℕ} {g : Stage} {o x z y ns ps : List ℕ} (R : Ru
 
 -- ---- a turn of the run, at the result r of reading
 abbrev turn : ℕ → List ℕ → ℕ → U.Where → State → Result U.Step → C.Outcome
-turn f t m w s r = cond (isOver w) (finish s r) (afterUnit m s r (λ v u b. runFrom f t m v u b))
+turn f t m w s r = cond (isOver w) (finish s r) (afterUnit (lent m) s r (λ v u b. runFrom f t (lent m) v u b))
 
-turn-refused : (f : ℕ) (t : List ℕ) (m : ℕ) (w : U.Where) (s : State) (n : rules.Fault) (p : ℕ) → turn f t m w s (refused n p) ≡ C.unread n p
+turn-refused : (f : ℕ) (t : List ℕ) (m : ℕ) (w : U.Where) (s : State) (n : rules.Fault) (p : ℕ) → turn f t m w s (refused n p) ≡ C.unread s n p
 turn-refused f t m w s n p = go (isOver w)
   where
-    go : (b : Bool) → cond b (C.unread n p) (C.unread n p) ≡ C.unread n p
+    go : (b : Bool) → cond b (C.unread s n p) (C.unread s n p) ≡ C.unread s n p
     go true = refl
     go false = refl
 
 -- a refusal, as the code ends with it
-refused-ends : (t : List ℕ) (m : ℕ) (o : List ℕ) (f : rules.Fault) (p : ℕ) → run t m ≡ C.unread f p → Ended t m (Refused (numberOf f) p) o
-refused-ends t m o f p e = ap C.answerOf e
+refused-ends : (t : List ℕ) (m : ℕ) (o : List ℕ) (s : State) (f : rules.Fault) (p : ℕ) → run t (lent m) ≡ C.unread s f p → Ended t m (Refused (numberOf f) p) o
+refused-ends t m o s f p e = ap C.answerOf e
 
-broken-ends : (t : List ℕ) (m : ℕ) (o : List ℕ) (n p : ℕ) → run t m ≡ C.broken n p → Ended t m (Refused n p) o
-broken-ends t m o n p e = ap C.answerOf e
+broken-ends : (t : List ℕ) (m : ℕ) (o : List ℕ) (s : State) (n p : ℕ) → run t (lent m) ≡ C.ruledOut s n p → Ended t m (Refused n p) o
+broken-ends t m o s n p e = ap C.answerOf e
 
 -- ---- what has been read: the unit v of the rules, which is u, in the state s; where the next one stands and its first symbol, further on
 pub record Given (t : List ℕ) (m : ℕ) (g : Stage) (s : State) (p : ℕ) (rs : List ℕ) (u : Unit) (w : Where) (n : Symbol) : Type 0 where
@@ -97,12 +98,12 @@ pub record Given (t : List ℕ) (m : ℕ) (g : Stage) (s : State) (p : ℕ) (rs 
   pub on : g .next .place < behind
   pub within : behind ≤ length t
   pub left : length t < behind + fuel
-  pub goes-on : run t m ≡ afterJudge (judged m s unit) next behind (λ v x b. runFrom fuel t m v x b)
-  pub placed : (x : State) → judged m s unit ≡ J.ok x → Placed next x
+  pub goes-on : run t (lent m) ≡ afterJudge s (judged (lent m) s unit) next behind (λ v x b. runFrom fuel t (lent m) v x b)
+  pub placed : (x : State) → judged (lent m) s unit ≡ J.ok x → Placed next x
 
-room-ok : (m p : ℕ) (j : J.Judged) (x : State) → room m p j ≡ J.ok x → j ≡ J.ok x
+pub room-ok : (m p : ℕ) (j : J.Judged) (x : State) → room (lent m) p j ≡ J.ok x → j ≡ J.ok x
 room-ok m p (J.refused n q) x e = e
-room-ok m p (J.ok s) x e = go (ltb (C.capacity m) (length (B.book s))) e
+room-ok m p (J.ok s) x e = go (ltb (C.capacity (lent m)) (length (B.book s))) e
   where
     go : (b : Bool) → cond b (J.refused 19 p) (J.ok s) ≡ J.ok x → J.ok s ≡ J.ok x
     go true h = absurd (let q : _≡_ {A = ℕ} 0 1 = cc in omega arith)
@@ -112,8 +113,8 @@ comes-any : (t rs₀ rs : List ℕ) (s : State) (u : Unit) (v : Option U.Unit) �
 comes-any t rs₀ rs s u none i f h = i
 comes-any t rs₀ rs s u (some v) i f h = record { scratch = rs₀; is = i; fair = f; stands = h }
 
-placed-then : (t : List ℕ) (m : ℕ) (w : U.Where) (s : State) (y : rules.Symbol) (q : U.Step) (z : rules.Symbol) → Placed w s → isOver w ≡ false → unitAt w t y ≡ done q z →
-    (v : Option U.Unit) → q .unit ≡ v → (x : State) → judged m s v ≡ J.ok x → Placed (q .next) x
+pub placed-then : (t : List ℕ) (m : ℕ) (w : U.Where) (s : State) (y : rules.Symbol) (q : U.Step) (z : rules.Symbol) → Placed w s → isOver w ≡ false → unitAt w t y ≡ done q z →
+    (v : Option U.Unit) → q .unit ≡ v → (x : State) → judged (lent m) s v ≡ J.ok x → Placed (q .next) x
 placed-then t m w s y q z p o e none n x j = let h : s ≡ x = cc in subst (Placed (q .next)) h (placed-mark t w s y q z p o e n)
 placed-then t m w s y q z p o e (some u) n x j = placed-next t w s y q z p o e u n x (room-ok m (unitPlace u) (judge s u) x j)
 
@@ -122,8 +123,8 @@ module _ {t : List ℕ} {m : ℕ} {g : Stage} {o x z y ns ps : List ℕ} (R : Ru
   here = placeOf (g .at)
 
   -- the run, one turn further
-  run-turn : (f : ℕ) → R .fuel ≡ f → (k : ℕ) → f ≡ suc k → run t m ≡ turn k t m here (R .state) (unitAt here t (now R))
-  run-turn f e k h = R .goes-on ∙ ap (λ (n : ℕ). runFrom n t m here (R .state) (R .place)) (e ∙ h)
+  run-turn : (f : ℕ) → R .fuel ≡ f → (k : ℕ) → f ≡ suc k → run t (lent m) ≡ turn k t m here (R .state) (unitAt here t (now R))
+  run-turn f e k h = R .goes-on ∙ ap (λ (n : ℕ). runFrom n t (lent m) here (R .state) (R .place)) (e ∙ h)
 
   module _ {rs₀ rs : List ℕ} {r : Step} (S : Steps t rs₀ rs (unitAt here) (g .next) r) where
     -- ---- it cannot be read
@@ -136,8 +137,8 @@ module _ {t : List ℕ} {m : ℕ} {g : Stage} {o x z y ns ps : List ℕ} (R : Ru
         go (suc k) h (refused f j) i s =
             let a : n ≡ numberOf f = cc in
             let b : p ≡ j = cc in
-            let c : run t m ≡ C.unread f j = run-turn (suc k) h k refl ∙ ap (turn k t m here (R .state)) i ∙ turn-refused k t m here (R .state) f j in
-            rw (a, b) (refused-ends t m o′ f j c)
+            let c : run t (lent m) ≡ C.unread (R .state) f j = run-turn (suc k) h k refl ∙ ap (turn k t m here (R .state)) i ∙ turn-refused k t m here (R .state) f j in
+            rw (a, b) (refused-ends t m o′ (R .state) f j c)
 
     -- ---- behind the model's END the text is at its end
     pub over-ends : {u : Unit} {w : Where} {n : Symbol} → r ≡ Read u w n → isOver here ≡ true → Ended t m (Accepted (g .state .used) (g .state .definitions)) o
@@ -147,7 +148,7 @@ module _ {t : List ℕ} {m : ℕ} {g : Stage} {o x z y ns ps : List ℕ} (R : Ru
         go zero h q i s = absurd (omega (arith, R .left, R .within))
         go (suc k) h (refused f j) i s = absurd (let q : _≡_ {A = ℕ} 0 1 = cc in omega arith)
         go (suc k) h (done q z′) i s =
-            let c : run t m ≡ C.kept (R .state) = run-turn (suc k) h k refl ∙ ap (turn k t m here (R .state)) i ∙ rw v in
+            let c : run t (lent m) ≡ C.kept (R .state) = run-turn (suc k) h k refl ∙ ap (turn k t m here (R .state)) i ∙ rw v in
             (R .state, c, R .keeps .used, R .keeps .defined, R .keeps .within, R .keeps .written)
 
     -- ---- a unit has been read
@@ -187,12 +188,24 @@ module _ {t : List ℕ} {m : ℕ} {g : Stage} {o x z y ns ps : List ℕ} (R : Ru
             }
 
 -- ---- and judged
+around-where : (a : U.Around) → aroundOf (not (U.isModel a)) ≡ a
+around-where U.in-model = refl
+around-where U.in-topic = refl
+
+run-where : (r : U.Run) → runOf (U.ofDomains r) ≡ r
+run-where U.no-run = refl
+run-where U.domains = refl
+
+behind-where : (b : U.Behind) → behindOf (U.isHead b) ≡ b
+behind-where U.its-head = refl
+behind-where U.a-member = refl
+
 place-where : (w : U.Where) → placeOf (whereOf w) ≡ w
 place-where U.start = refl
 place-where U.afterHeader = refl
 place-where U.over = refl
-place-where (U.body t r) = refl
-place-where (U.members t f) = refl
+place-where (U.body a r) = rw (around-where a, run-where r)
+place-where (U.members a b) = rw (around-where a, behind-where b)
 
 module _ {t : List ℕ} {m : ℕ} {g : Stage} {o x z y ns ps : List ℕ} (R : Runs t m g o x z y ns ps) {rs : List ℕ} {u : Unit} {w : Where} {n : Symbol}
     (G : Given t m g (R .state) (R .place) rs u w n) where
@@ -202,13 +215,13 @@ module _ {t : List ℕ} {m : ℕ} {g : Stage} {o x z y ns ps : List ℕ} (R : Ru
   next-place : n .place ≡ symbolAt t (G .behind) .place
   next-place = ap (λ (y : Symbol). y .place) (G .first)
 
-  goes-to : (k : State) → judged m (R .state) (G .unit) ≡ J.ok k → run t m ≡ runFrom (G .fuel) t m (placeOf w) k (G .behind)
+  goes-to : (k : State) → judged (lent m) (R .state) (G .unit) ≡ J.ok k → run t (lent m) ≡ runFrom (G .fuel) t (lent m) (placeOf w) k (G .behind)
   goes-to k e =
       G .goes-on
-      ∙ ap (λ (q : J.Judged). afterJudge q (G .next) (G .behind) (λ v x b. runFrom (G .fuel) t m v x b)) e
-      ∙ ap (λ (v : U.Where). runFrom (G .fuel) t m v k (G .behind)) (sym (ap placeOf (G .at) ∙ place-where (G .next)))
+      ∙ ap (λ (q : J.Judged). afterJudge (R .state) q (G .next) (G .behind) (λ v x b. runFrom (G .fuel) t (lent m) v x b)) e
+      ∙ ap (λ (v : U.Where). runFrom (G .fuel) t (lent m) v k (G .behind)) (sym (ap placeOf (G .at) ∙ place-where (G .next)))
 
-  fine : {o′ x′ z′ y′ ns′ ps′ : List ℕ} (k : State) (st : code.State) → judged m (R .state) (G .unit) ≡ J.ok k → Keeps t k st o′ x′ z′ y′ ns′ ps′ → st .count + st .total ≤ g .state .count + g .state .total + 1 →
+  fine : {o′ x′ z′ y′ ns′ ps′ : List ℕ} (k : State) (st : code.State) → judged (lent m) (R .state) (G .unit) ≡ J.ok k → Keeps t k st o′ x′ z′ y′ ns′ ps′ → st .count + st .total ≤ g .state .count + g .state .total + 1 →
       Turned t m g (after (Fine st) w n) o′ x′ z′ y′ ns′ ps′
   fine k st e h few = (
     record {
@@ -230,16 +243,16 @@ module _ {t : List ℕ} {m : ℕ} {g : Stage} {o x z y ns ps : List ℕ} (R : Ru
   pub turned : {j : code-judged.Judged} {r : Turn} {o′ x′ z′ y′ ns′ ps′ : List ℕ} → r ≡ after j w n → Answers t m (R .state) (g .state) j o′ x′ z′ y′ ns′ ps′ (G .unit) →
       Turned t m g r o′ x′ z′ y′ ns′ ps′
   turned {j} {r} {o′} {x′} {z′} {y′} {ns′} {ps′} e A =
-      subst (λ (r : Turn). Turned t m g r o′ x′ z′ y′ ns′ ps′) (sym e) (go (judged m (R .state) (G .unit)) refl (A .as-judged))
+      subst (λ (r : Turn). Turned t m g r o′ x′ z′ y′ ns′ ps′) (sym e) (go (judged (lent m) (R .state) (G .unit)) refl (A .as-judged))
     where
-      go : (q : J.Judged) → judged m (R .state) (G .unit) ≡ q → JudgedAs t q (g .state) j o′ x′ z′ y′ ns′ ps′ → Turned t m g (after j w n) o′ x′ z′ y′ ns′ ps′
+      go : (q : J.Judged) → judged (lent m) (R .state) (G .unit) ≡ q → JudgedAs t q (g .state) j o′ x′ z′ y′ ns′ ps′ → Turned t m g (after j w n) o′ x′ z′ y′ ns′ ps′
       go (J.ok k) e (st, i, h, few) = rw i (fine k st e h few)
       go (J.refused a b) e i =
-          rw i (broken-ends t m o′ a b (G .goes-on ∙ ap (λ (q : J.Judged). afterJudge q (G .next) (G .behind) (λ v x b. runFrom (G .fuel) t m v x b)) e))
+          rw i (broken-ends t m o′ (R .state) a b (G .goes-on ∙ ap (λ (q : J.Judged). afterJudge (R .state) q (G .next) (G .behind) (λ v x b. runFrom (G .fuel) t (lent m) v x b)) e))
 
 -- ---- the first stage
 module _ (t : List ℕ) (m : ℕ) (o x y ns ps : List ℕ) where
-  run-start : length t ≤ 65535 → run t m ≡ runFrom (enough t) t m U.start nothing 0
+  run-start : length t ≤ 65535 → run t (lent m) ≡ runFrom (enough t) t (lent m) U.start nothing 0
   unfolding run
   run-start h = rw (le-ltb 65535 (length t) h)
 
@@ -254,7 +267,7 @@ module _ (t : List ℕ) (m : ℕ) (o x y ns ps : List ℕ) where
         goes-on = rw w (run-start h);
         first = f;
         keeps = rw e k;
-        placed = rw w refl;
+        placed = rw w (record { decls = refl; topic = refl; open-class = refl });
         few = omega (arith, k .held .all-defs, k .held .all-attributes);
       }
 

@@ -1,7 +1,7 @@
 -- What holds between two units, and at the end.
 use mathlib.Core.Path.{_≡_}
 use mathlib.Core.List.{List}
-use Prim.Native.Nat.{ℕ, _+_, _*_, _-_, _≤_, _<_}
+use Prim.Native.Nat.{ℕ, _+_, _*_, _≤_, _<_}
 use lib.ListN.{length, take}
 use Rattle.rules.specs.Symbols.{symbolAt}
 use Rattle.rules.specs.Declarations.{State}
@@ -32,7 +32,7 @@ pub record Runs (t : List ℕ) (m : ℕ) (g : Stage) (o x z y ns ps : List ℕ) 
   pub place : ℕ
   pub within : place ≤ length t
   pub left : length t < place + fuel
-  pub goes-on : C.run t m ≡ C.runFrom fuel t m (placeOf (g .at)) state place
+  pub goes-on : C.run t (C.lent m) ≡ C.runFrom fuel t (C.lent m) (placeOf (g .at)) state place
   pub first : g .next ≡ cut (symbolAt t place)
   pub keeps : Keeps t state (g .state) o x z y ns ps
   pub placed : Placed (placeOf (g .at)) state
@@ -40,8 +40,8 @@ pub record Runs (t : List ℕ) (m : ℕ) (g : Stage) (o x z y ns ps : List ℕ) 
 
 -- the outcome is a book, which stands at the front of the buffer, or a refusal
 abbrev pub Ended : List ℕ → ℕ → Answer → List ℕ → Type 0
-Ended t m (Accepted n k) o = (s : State) × (C.run t m ≡ C.kept s) × (n ≡ length (B.book s)) × (k ≡ B.definitions (B.records s)) × (n ≤ length o) × (take n o ≡ B.book s)
-Ended t m (Refused n p) o = C.answerOf (C.run t m) ≡ C.refusal n p
+Ended t m (Accepted n k) o = (s : State) × (C.run t (C.lent m) ≡ C.kept s) × (n ≡ length (B.book s)) × (k ≡ B.definitions (B.records s)) × (n ≤ length o) × (take n o ≡ B.book s)
+Ended t m (Refused n p) o = C.answerOf (C.run t (C.lent m)) ≡ C.refusing n p
 
 -- after a unit: the next one, further on, or the end
 abbrev pub Turned : List ℕ → ℕ → Stage → Turn → List ℕ → List ℕ → List ℕ → List ℕ → List ℕ → List ℕ → Type 0

@@ -13,11 +13,12 @@ ghost use lib.ListN.{length, take, replicate};
 ghost use Rattle.rules.specs.Book.{padded};
 ghost use Rattle.rules.specs.Numbers.{readNumber, readRefusal, readValue};
 ghost use Rattle.rules.specs.Show.{showName};
-ghost use Rattle.rules.specs.Check.{isOver, check};
+ghost use Rattle.rules.specs.Check.{lent, isOver, check};
+ghost use Rattle.rules.specs.Promise.{Promise};
 ghost use Rattle.numbers.specs.Answer.{Promised};
 ghost use Rattle.book.specs.Names.{Shows};
 ghost use Rattle.units.specs.Steps.{placeOf};
-ghost use Rattle.auzuplens.specs.Promise.{answerOf, Promise, full, Tried};
+ghost use Rattle.auzuplens.specs.Promise.{answerOf, full, Tried};
 ghost use Rattle.auzuplens.specs.Packing.{packed, packedPart};
 ghost use Rattle.auzuplens.specs.Running.{Suffice, Runs, Ended, Turned, keptOf, after as Running·after};
 
@@ -241,7 +242,7 @@ fn check_with(
 // Texts to 1,024 bytes, with a buffer of 4,096.
 fn check_small(text: &[u8], book: &mut [u8]) -> Answer
     requires { ⌜ length (now text) ≤ 1024 ⌝ }
-    ensures { λ r. ⌜ (full (answerOf r) ≡ false → Promise (now (text .entry)) (length (now (book .entry))) (answerOf r) (now (book .exit))) ⌝ }
+    ensures { λ r. ⌜ (full (answerOf r) ≡ false → Promise (now (text .entry)) (lent (length (now (book .entry)))) (answerOf r) (now (book .exit))) ⌝ }
 {
     let mut index = [0u16; 10270];
     let mut chains = [0u16; 3075];
@@ -269,7 +270,7 @@ fn check_small(text: &[u8], book: &mut [u8]) -> Answer
 // Texts to 5,120 bytes, with a buffer of 16,384.
 fn check_medium(text: &[u8], book: &mut [u8]) -> Answer
     requires { ⌜ length (now text) ≤ 5120 ⌝ }
-    ensures { λ r. ⌜ (full (answerOf r) ≡ false → Promise (now (text .entry)) (length (now (book .entry))) (answerOf r) (now (book .exit))) ⌝ }
+    ensures { λ r. ⌜ (full (answerOf r) ≡ false → Promise (now (text .entry)) (lent (length (now (book .entry)))) (answerOf r) (now (book .exit))) ⌝ }
 {
     let mut index = [0u16; 51230];
     let mut chains = [0u16; 7171];
@@ -297,7 +298,7 @@ fn check_medium(text: &[u8], book: &mut [u8]) -> Answer
 // All texts: the book has room for 10,922 definitions or 5,957 attributes.
 fn check_large(text: &[u8], book: &mut [u8]) -> Answer
     requires { ⌜ length (now text) ≤ 65535 ⌝ }
-    ensures { λ r. ⌜ Promise (now (text .entry)) (length (now (book .entry))) (answerOf r) (now (book .exit)) ⌝ }
+    ensures { λ r. ⌜ Promise (now (text .entry)) (lent (length (now (book .entry)))) (answerOf r) (now (book .exit)) ⌝ }
 {
     let mut index = [0u16; 109250];
     let mut chains = [0u16; 12973];
@@ -335,10 +336,10 @@ fn is_full(a: Answer) -> bool
     }
 }
 
-// Whether the text keeps every rule of document 01. The book is written to the lent buffer, with zeros behind it; after a refusal it is zero.
+// Whether the text keeps every rule of document 01. The book is written to the lent buffer, with zeros behind it; after a refusal the whole buffer is zero.
 // Smaller texts are tried with smaller arrays, and anew where their book does not fit these.
 pub fn check_text(text: &[u8], book: &mut [u8]) -> Answer
-    ensures { λ r. ⌜ Promise (now (text .entry)) (length (now (book .entry))) (answerOf r) (now (book .exit)) ⌝ }
+    ensures { λ r. ⌜ Promise (now (text .entry)) (lent (length (now (book .entry)))) (answerOf r) (now (book .exit)) ⌝ }
 {
     let n = text.len();
     if 65535 < n {
@@ -396,7 +397,7 @@ fn pack(a: Answer) -> u64
 
 #[no_mangle]
 pub extern "C" fn auzuplens_check(text: &[u8], book: &mut [u8]) -> u64
-    ensures { λ r. ⌜ (r ≡ packed (check (now (text .entry)) (length (now (book .entry))) .answer)) × (now (book .exit) ≡ check (now (text .entry)) (length (now (book .entry))) .buffer) ⌝ }
+    ensures { λ r. ⌜ (r ≡ packed (check (now (text .entry)) (lent (length (now (book .entry)))) .answer)) × (now (book .exit) ≡ check (now (text .entry)) (lent (length (now (book .entry)))) .buffer) ⌝ }
 {
     let a = check_text(text, book);
     pack(a)

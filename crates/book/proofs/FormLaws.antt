@@ -8,7 +8,7 @@ use lib.ListN.{length}
 use Rattle.rules.specs.Names.{Name}
 use Rattle.rules.specs.Numbers.{Range}
 use Rattle.rules.specs.Types.{text, range}
-use Rattle.rules.specs.Declarations.{Link, named, struct}
+use Rattle.rules.specs.Declarations.{Link, ofDomain, ofStructure}
 use Rattle.rules.specs.Book.{nameRecord, headRecord, lengthOr, typeRecords, useRecords}
 use Rattle.book.specs.Forms.{nameForm, headForm, rangeForm, lengthForm}
 
@@ -24,8 +24,8 @@ range-form r = refl
 pub text-form : (m : Bool) (n : Option ℕ) → typeRecords (text m n) ≡ lengthForm (cond m 9 8) (lengthOr n) ∷ []
 text-form m n = refl
 
-pub domain-form : (l : Link) (bs : List Link) → useRecords (named l bs) ≡ lengthForm 17 (l .number) ∷ []
+pub domain-form : (l : Link) (bs : List Link) → useRecords (ofDomain l bs) ≡ lengthForm 17 (l .number) ∷ []
 domain-form l bs = refl
 
-pub structure-form : (l : Link) (bs : List Link) → useRecords (struct l bs) ≡ lengthForm 12 (l .number) ∷ []
+pub structure-form : (l : Link) (bs : List Link) → useRecords (ofStructure l bs) ≡ lengthForm 12 (l .number) ∷ []
 structure-form l bs = refl

@@ -2,4 +2,3 @@ pub mod WalkLaws
 pub mod NameLaws
 pub mod FormLaws
 pub mod IndexLaws
-pub mod SizedLaws

@@ -2,20 +2,20 @@
 use mathlib.Core.List.{_∷_, _++_}
 use Prim.Native.Nat.{ℕ}
 use lib.IntN.{ℤ}
-use Rattle.rules.specs.Book.{Record, low, twos}
+use Rattle.rules.specs.Book.{Record, lowFirst, twos}
 
 -- kind, and a name's offset and length
 abbrev pub nameForm : ℕ → ℕ → ℕ → Record
-nameForm k o n = k ∷ (low 4 o ++ low 1 n)
+nameForm k o n = k ∷ (lowFirst 4 o ++ lowFirst 1 n)
 
 -- kind, name, flags, base
 abbrev pub headForm : ℕ → ℕ → ℕ → ℕ → ℕ → Record
-headForm k o n f b = k ∷ (low 4 o ++ low 1 n ++ (f ∷ low 4 b))
+headForm k o n f b = k ∷ (lowFirst 4 o ++ lowFirst 1 n ++ (f ∷ lowFirst 4 b))
 
 -- decimals and both bounds
 abbrev pub rangeForm : ℕ → ℤ → ℤ → Record
-rangeForm d l h = 10 ∷ d ∷ (low 8 (twos l) ++ low 8 (twos h))
+rangeForm d l h = 10 ∷ d ∷ (lowFirst 8 (twos l) ++ lowFirst 8 (twos h))
 
 -- kind, and a length or a record number
 abbrev pub lengthForm : ℕ → ℕ → Record
-lengthForm k n = k ∷ low 4 n
+lengthForm k n = k ∷ lowFirst 4 n

@@ -12,27 +12,28 @@ use borrow.Author.Tests.{le-leb, ne-eqb}
 use Rattle.rules.specs.Enumerations.{Enum, end, elem}
 use Rattle.rules.specs.Types.{Ty, text, range, numeric, structure, enum}
 use Rattle.rules.specs.Declarations as D
-use Rattle.rules.specs.Declarations.{Use, inline, named, struct, Attribute, Sort, Def, Decl, State}
+use Rattle.rules.specs.Declarations.{Use, inline, ofDomain, ofStructure, Attribute, Sort, Def, Decl, State}
 use Rattle.rules.specs.Book.{Record, openRecord, innerRecords, elementRecords, typeRecords, useRecords, attributeRecords, attributesRecords, headRecords, endRecords, declRecords, declsRecords, openRecords, records, bytes, book, padded}
 use Rattle.rules.specs.Show.{sizeOf, recordsFrom}
-use Rattle.claims.proofs.StateLaws.{Every, every-append}
+use Rattle.rules.specs.All.{All}
+use Rattle.rules.proofs.AllLaws.{all-append}
 
 -- ---- a record has the size of its kind
 abbrev Sized : Record → Type 0
 Sized [] = ⊥
 Sized (b ∷ r) = sizeOf b ≡ suc (length r)
 
-elements-sized : (e : Enum) → Every Sized (elementRecords e)
+elements-sized : (e : Enum) → All Sized (elementRecords e)
 unfolding sizeOf
 elements-sized (end f) = (refl, tt)
-elements-sized (elem n i r) = (refl, every-append Sized (innerRecords i (openRecord i ∷ elementRecords i)) (elementRecords r) (inner i (elements-sized i)) (elements-sized r))
+elements-sized (elem n i r) = (refl, all-append Sized (innerRecords i (openRecord i ∷ elementRecords i)) (elementRecords r) (inner i (elements-sized i)) (elements-sized r))
   where
-    inner : (i : Enum) → Every Sized (elementRecords i) → Every Sized (innerRecords i (openRecord i ∷ elementRecords i))
+    inner : (i : Enum) → All Sized (elementRecords i) → All Sized (innerRecords i (openRecord i ∷ elementRecords i))
     inner (end false) h = tt
     inner (end true) h = (refl, h)
     inner (elem m j k) h = (refl, h)
 
-type-sized : (t : Ty) → Every Sized (typeRecords t)
+type-sized : (t : Ty) → All Sized (typeRecords t)
 unfolding sizeOf
 type-sized (text true n) = (refl, tt)
 type-sized (text false n) = (refl, tt)
@@ -41,42 +42,42 @@ type-sized numeric = (refl, tt)
 type-sized (enum e) = (refl, elements-sized e)
 type-sized structure = tt
 
-use-sized : (u : Use) → Every Sized (useRecords u)
+use-sized : (u : Use) → All Sized (useRecords u)
 unfolding sizeOf
 use-sized (inline t) = type-sized t
-use-sized (named l bs) = (refl, tt)
-use-sized (struct l bs) = (refl, tt)
+use-sized (ofDomain l bs) = (refl, tt)
+use-sized (ofStructure l bs) = (refl, tt)
 
-attributes-sized : (l : List Attribute) → Every Sized (attributesRecords l)
+attributes-sized : (l : List Attribute) → All Sized (attributesRecords l)
 unfolding sizeOf
 attributes-sized [] = tt
-attributes-sized (a ∷ l) = every-append Sized (attributeRecords a) (attributesRecords l) (refl, use-sized (a .use-of)) (attributes-sized l)
+attributes-sized (a ∷ l) = all-append Sized (attributeRecords a) (attributesRecords l) (refl, use-sized (a .use-of)) (attributes-sized l)
 
-head-sized : (x : Sort) (d : Def) → Every Sized (headRecords x d)
+head-sized : (x : Sort) (d : Def) → All Sized (headRecords x d)
 unfolding sizeOf
 head-sized D.topic d = (refl, tt)
 head-sized D.class d = (refl, attributes-sized (d .own))
 head-sized D.struct d = (refl, attributes-sized (d .own))
 head-sized D.domain d = (refl, type-sized (d .type))
 
-end-sized : (x : Sort) → Every Sized (endRecords x)
+end-sized : (x : Sort) → All Sized (endRecords x)
 unfolding sizeOf
 end-sized D.topic = tt
 end-sized D.class = (refl, tt)
 end-sized D.struct = (refl, tt)
 end-sized D.domain = tt
 
-decls-sized : (l : List Decl) → Every Sized (declsRecords l)
+decls-sized : (l : List Decl) → All Sized (declsRecords l)
 unfolding sizeOf
 decls-sized [] = tt
 decls-sized (D.model n ∷ l) = (refl, decls-sized l)
-decls-sized (D.def d ∷ l) = every-append Sized (declRecords (D.def d)) (declsRecords l) (every-append Sized (headRecords (d .sort) d) (endRecords (d .sort)) (head-sized (d .sort) d) (end-sized (d .sort))) (decls-sized l)
-decls-sized (D.endTopic ∷ l) = (refl, decls-sized l)
+decls-sized (D.def d ∷ l) = all-append Sized (declRecords (D.def d)) (declsRecords l) (all-append Sized (headRecords (d .sort) d) (endRecords (d .sort)) (head-sized (d .sort) d) (end-sized (d .sort))) (decls-sized l)
+decls-sized (D.endTopic n ∷ l) = (refl, decls-sized l)
 
-records-sized : (s : State) → Every Sized (records s)
-records-sized s = every-append Sized (declsRecords (s .decls)) (openRecords (s .open-class)) (decls-sized (s .decls)) (go (s .open-class))
+records-sized : (s : State) → All Sized (records s)
+records-sized s = all-append Sized (declsRecords (s .decls)) (openRecords (s .open-class)) (decls-sized (s .decls)) (go (s .open-class))
   where
-    go : (o : Option Def) → Every Sized (openRecords o)
+    go : (o : Option Def) → All Sized (openRecords o)
     go none = tt
     go (some c) = head-sized (c .sort) c
 
@@ -95,7 +96,7 @@ one b r rest e =
     let z : suc (length r) - 1 ≡ length r = omega arith in
     rw (e, x, y, z, skip r rest, take-append-seam r rest)
 
-all : (l : List Record) (rest : List ℕ) → Every Sized l → recordsFrom 0 (bytes l ++ rest) ≡ l ++ recordsFrom 0 rest
+all : (l : List Record) (rest : List ℕ) → All Sized l → recordsFrom 0 (bytes l ++ rest) ≡ l ++ recordsFrom 0 rest
 all [] rest h = refl
 all ([] ∷ l) rest h = absurd (h .0)
 all ((b ∷ r) ∷ l) rest h = rw append-assoc (one b r (bytes l ++ rest) (h .0) ∙ ap (λ (x : List Record). (b ∷ r) ∷ x) (all l rest (h .1)))

@@ -1,5 +1,5 @@
 -- `check` allows one outcome, and its buffer is the book and zeros, or zeros.
-use mathlib.Core.Path.{_≡_, refl, ap, _∙_}
+use mathlib.Core.Path.{_≡_, refl, sym, ap, _∙_}
 use mathlib.Core.List.{List, []}
 use Prim.Native.Nat.{ℕ, suc, _-_, _≤_}
 use native.Mathlib.Omega.{arith}
@@ -7,14 +7,37 @@ use lib.ListN.{length, take, drop, replicate, length-append, length-replicate}
 use lib.Seq.{take-append-seam, drop-append-seam}
 use Rattle.rules.specs.Book.{book, padded}
 use Rattle.rules.specs.Show.{recordsFrom}
-use Rattle.rules.specs.Check.{Outcome, kept, unread, broken, run, answerOf, bufferOf, accepted, refusal, check}
-use Rattle.claims.specs.Steps.{first, later}
+use Rattle.rules.specs.Check.{Outcome, kept, unread, ruledOut, run, Answer, accepted, refusal, accepting, refusing, answerOf, bufferOf, check}
+use Rattle.rules.specs.All.{first, later}
 use Rattle.claims.specs.Promise.{OneOutcome, Zeros, RefusedZeros, Booked, AcceptedBook}
 use Rattle.claims.proofs.BookLaws.{records-again}
 use Rattle.claims.proofs.RunLaws.{Ending, run-ends, reached-room}
 
+-- ---- equal answers are of one kind and have equal numbers
+abbrev firstNumber : Answer → ℕ
+firstNumber (accepted a) = a .length
+firstNumber (refusal r) = r .number
+
+abbrev secondNumber : Answer → ℕ
+secondNumber (accepted a) = a .definitions
+secondNumber (refusal r) = r .place
+
+pub same-accepted : {n k m j : ℕ} → accepting n k ≡ accepting m j → (n ≡ m) × (k ≡ j)
+same-accepted e = (ap firstNumber e, ap secondNumber e)
+
+pub same-refused : {n p m q : ℕ} → refusing n p ≡ refusing m q → (n ≡ m) × (p ≡ q)
+same-refused e = (ap firstNumber e, ap secondNumber e)
+
+pub clash : {B : Type 0} {n p l c : ℕ} → refusing n p ≡ accepting l c → B
+clash e = let z : _≡_ {A = ℕ} 0 1 = cc in absurd (omega arith)
+
 pub one-outcome : OneOutcome
-one-outcome t m = record { answer = check t m .answer; buffer = check t m .buffer; promised = record { answer = refl; buffer = refl }; only = λ a b h. (h .answer, h .buffer) }
+one-outcome t g = record {
+  answer = check t g .answer;
+  buffer = check t g .buffer;
+  promised = record { answer = refl; buffer = refl };
+  only = λ a b h. (h .answer, h .buffer);
+}
 
 -- ---- padding
 zeros : (n : ℕ) → Zeros (replicate n 0)
@@ -31,33 +54,33 @@ padded-back : (b : List ℕ) (m : ℕ) → Zeros (drop (length b) (padded b m))
 padded-back b m = rw (drop-append-seam b (replicate (m - length b) 0)) (zeros (m - length b))
 
 -- ---- refused
-refused-zeros-of : (o : Outcome) (m n p : ℕ) (b : List ℕ) → refusal n p ≡ answerOf o → b ≡ bufferOf o m → (length b ≡ m) × Zeros b
-refused-zeros-of (kept s) m n p b a e = let z : _≡_ {A = ℕ} 0 1 = cc in absurd (omega arith)
-refused-zeros-of (unread f q) m n p b a e = rw e (padded-length [] m (omega arith), zeros (m - 0))
-refused-zeros-of (broken i q) m n p b a e = rw e (padded-length [] m (omega arith), zeros (m - 0))
+refused-zeros-of : (o : Outcome) (m n p : ℕ) (b : List ℕ) → refusing n p ≡ answerOf o → b ≡ bufferOf o m → (length b ≡ m) × Zeros b
+refused-zeros-of (kept s) m n p b a e = clash a
+refused-zeros-of (unread s f q) m n p b a e = rw e (padded-length [] m (omega arith), zeros (m - 0))
+refused-zeros-of (ruledOut s i q) m n p b a e = rw e (padded-length [] m (omega arith), zeros (m - 0))
 
 pub refused-zeros : RefusedZeros
-refused-zeros t m n p b h = refused-zeros-of (run t m) m n p b (h .answer) (h .buffer)
+refused-zeros t g n p b h = refused-zeros-of (run t g) (g .buffer) n p b (h .answer) (h .buffer)
 
 -- ---- accepted
 pub accepted-book : AcceptedBook
-accepted-book t m n k b h = go (run t m) refl (run-ends t m) (h .answer) (h .buffer)
+accepted-book t g n k b h = go (run t g) refl (run-ends t g) (h .answer) (h .buffer)
   where
-    go : (o : Outcome) → run t m ≡ o → Ending t m o → accepted n k ≡ answerOf o → b ≡ bufferOf o m → Booked t m n k b
+    go : (o : Outcome) → run t g ≡ o → Ending t g o → accepting n k ≡ answerOf o → b ≡ bufferOf o (g .buffer) → Booked t g n k b
     go (kept s) e r a q =
-        let l : n ≡ length (book s) = cc in
-        let f = reached-room t m (r .reaches) in
+        let (l, c) = same-accepted a in
+        let f = reached-room t g (r .reaches) in
         record {
           state = s;
           runs = e;
           size = l;
-          count = cc;
+          count = c;
           fits = omega arith;
           short = omega arith;
-          whole = ap length q ∙ padded-length (book s) m (omega arith);
-          front = rw (l, q) (padded-front (book s) m);
-          back = rw (l, q) (padded-back (book s) m);
-          again = ap (recordsFrom 0) q ∙ records-again s m;
+          whole = ap length q ∙ padded-length (book s) (g .buffer) (omega arith);
+          front = rw (l, q) (padded-front (book s) (g .buffer));
+          back = rw (l, q) (padded-back (book s) (g .buffer));
+          again = ap (recordsFrom 0) q ∙ records-again s (g .buffer);
         }
-    go (unread f p) e r a q = let z : _≡_ {A = ℕ} 0 1 = cc in absurd (omega arith)
-    go (broken i p) e r a q = let z : _≡_ {A = ℕ} 0 1 = cc in absurd (omega arith)
+    go (unread s f p) e r a q = clash (sym a)
+    go (ruledOut s i p) e r a q = clash (sym a)

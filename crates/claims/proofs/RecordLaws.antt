@@ -6,20 +6,21 @@ use mathlib.Core.List.{List, [], _∷_, _++_, append-assoc}
 use Prim.Native.Nat.{ℕ, suc, _+_}
 use native.Mathlib.Omega.{arith}
 use lib.ListN.{length, length-append}
+use Rattle.rules.proofs.GrowLaws.{closed-records, open-records}
 use Rattle.rules.specs.Names.{Name}
 use Rattle.rules.specs.Grammar.{Written}
 use Rattle.rules.specs.Units as U
 use Rattle.rules.specs.Declarations as D
-use Rattle.rules.specs.Declarations.{Attribute, Sort, Def, attributeAt, Decl, def, State, known}
+use Rattle.rules.specs.Declarations.{Attribute, Sort, Def, Decl, def, State, known}
 use Rattle.rules.specs.Book.{Record, declRecords, declsRecords, headRecords, endRecords, defRecord, attributeRecords, attributesRecords, openRecords}
-use Rattle.rules.specs.Judge as J
-use Rattle.rules.specs.Judge.{ok, resolved, referenceIn, declare, opened, inTopic, newTopic, judgeTopic, newClass, classRules, judgeClass, newDomain, domainRules, judgeDomain, newAttribute, withAttribute, attributeRules, judgeAttribute, judgeMember, judgeClose, judge}
+use Rattle.rules.specs.Check.{Given}
+use Rattle.rules.specs.Judge.{resolved, referenceIn, declare, newTopic, newClass, newDomain, newAttribute, withAttribute, inheritedAs, afterMember, afterClose, rulesOf, nextState}
+use Rattle.rules.specs.All.{All, AnyIs, In, first, later, Unbroken}
+use Rattle.rules.proofs.AllLaws.{any-is}
 use Rattle.rules.proofs.Tests.{never}
-use Rattle.claims.specs.Steps.{In, first, later, Declared, StandsAt, RecordNumbers}
-use Rattle.claims.proofs.StateLaws.{Maybe}
-use Rattle.claims.proofs.RuleLaws.{unless-ok}
-use Rattle.claims.proofs.OpenLaws.{Moves}
-use Rattle.claims.proofs.JudgeLaws.{isOpen, closed-records, open-records}
+use Rattle.claims.specs.Steps.{Declared, StandsAt, RecordNumbers}
+use Rattle.claims.proofs.UnitLaws.{Moves, isClass}
+use Rattle.claims.proofs.JudgeLaws.{isOpen}
 use Rattle.claims.proofs.RunLaws.{Invariant, Ended, reached-keeps}
 
 -- ---- attributes from the record number n on
@@ -45,7 +46,7 @@ record DefAt (n : ℕ) (d : Def) : Type 0 where
 abbrev At : ℕ → Decl → Type 0
 At n (D.model x) = Unit
 At n (D.def d) = DefAt n d
-At n D.endTopic = Unit
+At n (D.endTopic x) = Unit
 
 abbrev Laid : ℕ → List Decl → Type 0
 Laid n [] = Unit
@@ -59,19 +60,13 @@ laid-append n (y ∷ l) x h k =
     (h .0, laid-append (n + length (declRecords y)) l x (h .1) (subst (λ (j : ℕ). At j x) e k))
 
 -- the open class is a class or a structure
-abbrev isClass : Sort → Bool
-isClass D.topic = false
-isClass D.class = true
-isClass D.struct = true
-isClass D.domain = false
-
 record OpenAt (n : ℕ) (c : Def) : Type 0 where
   def-at : DefAt n c
   sort : isClass (c .sort) ≡ true
 
 record InOrder (s : State) : Type 0 where
   laid : Laid 0 (s .decls)
-  opened : Maybe (OpenAt (length (declsRecords (s .decls)))) (s .open-class)
+  opened : AnyIs (OpenAt (length (declsRecords (s .decls)))) (s .open-class)
 
 -- ---- each unit keeps the order
 declared-laid : (s : State) → InOrder s → (x : Decl) → At (length (declsRecords (s .decls))) x → InOrder (declare s x)
@@ -79,7 +74,8 @@ declared-laid s h x k =
     let e : length (declsRecords (s .decls)) ≡ 0 + length (declsRecords (s .decls)) = omega arith in
     record { laid = laid-append 0 (s .decls) x (h .laid) (subst (λ (j : ℕ). At j x) e k); opened = tt }
 
-own-append : (x : Sort) (n : ℕ) (l : List Attribute) (a : Attribute) → isClass x ≡ true → Own x n l → a .number ≡ n + length (attributesRecords l) → Own x n (l ++ (a ∷ []))
+own-append : (x : Sort) (n : ℕ) (l : List Attribute) (a : Attribute) → isClass x ≡ true → Own x n l → a .number ≡ n + length (attributesRecords l) →
+    Own x n (l ++ (a ∷ []))
 own-append D.topic n l a z h e = never z
 own-append D.class n l a z h e = placed-append n l a h e
 own-append D.struct n l a z h e = placed-append n l a h e
@@ -91,7 +87,8 @@ head-length D.class c z = refl
 head-length D.struct c z = refl
 head-length D.domain c z = never z
 
-new-domain-at : (s : State) (n : Name) (p : List (List ℕ)) (w : Written) (o : Option Def) → isOpen s ≡ false → DefAt (length (declsRecords (s .decls))) (newDomain s n p w o)
+new-domain-at : (s : State) (n : Name) (p : List (List ℕ)) (w : Written) (o : Option Def) → isOpen s ≡ false →
+    DefAt (length (declsRecords (s .decls))) (newDomain s n p w o)
 unfolding newDomain
 new-domain-at s n p w o c = record { number = closed-records s c; own = refl }
 
@@ -99,59 +96,53 @@ new-topic-at : (s : State) (n : Name) → isOpen s ≡ false → DefAt (length (
 unfolding newTopic
 new-topic-at s n c = record { number = closed-records s c; own = refl }
 
-new-class-at : (s : State) (st : Bool) (n : Name) (p : List (List ℕ)) (o : Option Def) → isOpen s ≡ false → OpenAt (length (declsRecords (s .decls))) (newClass s (J.classSort st) n p o)
+new-class-at : (s : State) (x : Sort) (n : Name) (p : List (List ℕ)) (o : Option Def) → isOpen s ≡ false → isClass x ≡ true →
+    OpenAt (length (declsRecords (s .decls))) (newClass s x n p o)
 unfolding newClass
-new-class-at s true n p o c = record { def-at = record { number = closed-records s c; own = tt }; sort = refl }
-new-class-at s false n p o c = record { def-at = record { number = closed-records s c; own = tt }; sort = refl }
+new-class-at s D.topic n p o c z = never z
+new-class-at s D.class n p o c z = record { def-at = record { number = closed-records s c; own = tt }; sort = refl }
+new-class-at s D.struct n p o c z = record { def-at = record { number = closed-records s c; own = tt }; sort = refl }
+new-class-at s D.domain n p o c z = never z
 
-with-attribute-at : (k : ℕ) (c : Def) (a : Attribute) → OpenAt k c → a .number ≡ suc k + length (attributesRecords (c .own)) → OpenAt k (withAttribute c a)
+with-attribute-at : (k : ℕ) (c : Def) (a : Attribute) → OpenAt k c → a .number ≡ suc k + length (attributesRecords (c .own)) →
+    OpenAt k (withAttribute c a)
 unfolding withAttribute
 with-attribute-at k c a h e = record { def-at = record { number = h .def-at .number; own = own-append (c .sort) (suc k) (c .own) a (h .sort) (h .def-at .own) e }; sort = h .sort }
 
-new-attribute-number : (s : State) (c : Def) (n : Name) (p : List (List ℕ)) (w : Written) (o : Option Attribute) (g : Option Def) → s .open-class ≡ some c → isClass (c .sort) ≡ true →
+new-attribute-number : (s : State) (c : Def) (n : Name) (p : List (List ℕ)) (w : Written) (o : Option Attribute) (g : Option Def) →
+    s .open-class ≡ some c → isClass (c .sort) ≡ true →
     newAttribute s n p w o g .number ≡ suc (length (declsRecords (s .decls))) + length (attributesRecords (c .own))
 unfolding newAttribute
 new-attribute-number s c n p w o g e z = let a = open-records s c e in let b = head-length (c .sort) c z in omega arith
 
-member-order : (s t : State) (n : Name) (p : List (List ℕ)) (w : Written) → InOrder s → (o : Option Def) → s .open-class ≡ o → judgeMember s n p w o ≡ ok t → InOrder t
-unfolding judgeMember judgeAttribute
-member-order s t n p w h none e q = let r : s ≡ t = cc in subst InOrder r h
-member-order s t n p w h (some c) e q =
-    let o = attributeAt (n .bytes) (c .inherited) in
+open-at : (s : State) → InOrder s → (c : Def) → s .open-class ≡ some c → OpenAt (length (declsRecords (s .decls))) c
+open-at s h c e = any-is (OpenAt (length (declsRecords (s .decls)))) (s .open-class) c (h .opened) e
+
+member-order : (s : State) (n : Name) (p : List (List ℕ)) (w : Written) → InOrder s → (o : Option Def) → s .open-class ≡ o →
+    InOrder (afterMember s n p w o)
+member-order s n p w h none e = h
+member-order s n p w h (some c) e =
+    let o = inheritedAs c n in
     let g = resolved s (referenceIn (w .type)) in
-    let r = unless-ok (attributeRules s c n p w o g) _ t q in
-    let z : OpenAt (length (declsRecords (s .decls))) c = subst (Maybe (OpenAt (length (declsRecords (s .decls))))) e (h .opened) in
-    subst InOrder (r .next) (record { laid = h .laid; opened = with-attribute-at _ c (newAttribute s n p w o g) z (new-attribute-number s c n p w o g e (z .sort)) })
+    let z = open-at s h c e in
+    record { laid = h .laid; opened = with-attribute-at _ c (newAttribute s n p w o g) z (new-attribute-number s c n p w o g e (z .sort)) }
 
-close-order : (s t : State) (n : Name) → InOrder s → (o : Option Def) → s .open-class ≡ o → (m : Option Def) → judgeClose s n o m ≡ ok t → InOrder t
-unfolding judgeClose
-close-order s t n h (some c) e m q =
-    let r = unless-ok (J.endRules n (c .name)) (declare s (def c)) t q in
-    let z : OpenAt (length (declsRecords (s .decls))) c = subst (Maybe (OpenAt (length (declsRecords (s .decls))))) e (h .opened) in
-    subst InOrder (r .next) (declared-laid s h (def c) (z .def-at))
-close-order s t n h none e (some m) q =
-    let r = unless-ok (J.endRules n (m .name)) (inTopic (declare s D.endTopic) none) t q in
-    subst InOrder (r .next) (record { laid = declared-laid s h D.endTopic tt .laid; opened = tt })
-close-order s t n h none e none q = let r = unless-ok (J.endRules n (s .model)) s t q in subst InOrder (r .next) h
+close-order : (s : State) → InOrder s → (o : Option Def) → s .open-class ≡ o → (t : Option Def) → InOrder (afterClose s o t)
+close-order s h (some c) e t = declared-laid s h (def c) (open-at s h c e .def-at)
+close-order s h none e (some t) = record { laid = declared-laid s h (D.endTopic (t .name)) tt .laid; opened = tt }
+close-order s h none e none = h
 
-judge-order : (s t : State) (u : U.Unit) (b : Bool) → InOrder s → Moves (isOpen s) (some u) b → judge s u ≡ ok t → InOrder t
-unfolding judge judgeTopic judgeClass judgeDomain
-judge-order s t (U.header v) b h m q = let r = unless-ok (J.headerRules v) s t q in subst InOrder (r .next) h
-judge-order s t (U.model n) b h m q = let e : J.begun n ≡ t = cc in subst InOrder e (record { laid = (tt, tt); opened = tt })
-judge-order s t (U.topic n) b h m q =
-    let r = unless-ok (J.topicRules s n) _ t q in
-    subst InOrder (r .next) (record { laid = declared-laid s h (def (newTopic s n)) (new-topic-at s n (m .0)) .laid; opened = tt })
-judge-order s t (U.class st n p r) b h m q =
-    let z = unless-ok (classRules s (J.classSort st) n p r (resolved s r)) _ t q in
-    subst InOrder (z .next) (record { laid = h .laid; opened = new-class-at s st n p (resolved s r) (m .0) })
-judge-order s t (U.domain n p r w) b h m q =
-    let z = unless-ok (domainRules s n p r w (resolved s r)) _ t q in
-    subst InOrder (z .next) (declared-laid s h (def (newDomain s n p w (resolved s r))) (new-domain-at s n p w (resolved s r) (m .0)))
-judge-order s t (U.attribute n p w) b h m q = member-order s t n p w h (s .open-class) refl q
-judge-order s t (U.close n) b h m q = close-order s t n h (s .open-class) refl (s .topic) q
+next-order : (s : State) (u : U.Unit) (b : Bool) → InOrder s → Moves (isOpen s) (some u) b → All Unbroken (rulesOf s u) → InOrder (nextState s u)
+next-order s (U.header v) b h m q = h
+next-order s (U.model n x) b h m q = record { laid = (tt, tt); opened = tt }
+next-order s (U.topic n) b h m q = record { laid = declared-laid s h (def (newTopic s n)) (new-topic-at s n (m .0)) .laid; opened = tt }
+next-order s (U.class c n p r) b h m q = record { laid = h .laid; opened = new-class-at s c n p (resolved s r) (m .0) (m .2) }
+next-order s (U.domain n p r w) b h m q = declared-laid s h (def (newDomain s n p w (resolved s r))) (new-domain-at s n p w (resolved s r) (m .0))
+next-order s (U.attribute n p w) b h m q = member-order s n p w h (s .open-class) refl
+next-order s (U.close n) b h m q = close-order s h (s .open-class) refl (s .topic)
 
 order : Invariant InOrder
-order = record { begins = record { laid = tt; opened = tt }; goes = judge-order }
+order = record { begins = record { laid = tt; opened = tt }; goes = next-order }
 
 -- ---- so each is found there
 record Within (all : List Record) (n k : ℕ) (l : List Record) : Type 0 where
@@ -188,7 +179,8 @@ nested all l m n j k h i = record {
   count = let e = length-append (h .before) (i .before) in let c = h .count in let d = i .count in omega arith;
 }
 
-headed : (r : Record) (c : Def) (n : ℕ) → Placed (suc n) (c .own) → {a : Attribute} → In a (c .own) → (end : List Record) → Within (r ∷ (attributesRecords (c .own) ++ end)) n (a .number) (attributeRecords a)
+headed : (r : Record) (c : Def) (n : ℕ) → Placed (suc n) (c .own) → {a : Attribute} → In a (c .own) → (end : List Record) →
+    Within (r ∷ (attributesRecords (c .own) ++ end)) n (a .number) (attributeRecords a)
 headed r c n h {a} i end =
     let e : suc n ≡ n + length (r ∷ []) = omega arith in
     behind-more (r ∷ []) (attributesRecords (c .own) ++ end) n (a .number) (attributeRecords a)
@@ -198,7 +190,8 @@ in-none : {A B : Type 0} {a : A} {l : List A} → l ≡ [] → In a l → B
 in-none e first = let z : _≡_ {A = ℕ} 0 1 = cc in absurd (omega arith)
 in-none e (later i) = let z : _≡_ {A = ℕ} 0 1 = cc in absurd (omega arith)
 
-own-in : (x : Sort) (c : Def) (n : ℕ) → Own x (suc n) (c .own) → {a : Attribute} → In a (c .own) → Within (headRecords x c ++ endRecords x) n (a .number) (attributeRecords a)
+own-in : (x : Sort) (c : Def) (n : ℕ) → Own x (suc n) (c .own) → {a : Attribute} → In a (c .own) →
+    Within (headRecords x c ++ endRecords x) n (a .number) (attributeRecords a)
 own-in D.topic c n h i = in-none h i
 own-in D.class c n h i = headed (defRecord 4 c) c n h i (endRecords D.class)
 own-in D.struct c n h i = headed (defRecord 5 c) c n h i (endRecords D.struct)
@@ -216,7 +209,7 @@ laid-in : (n : ℕ) (l : List Decl) → Laid n l → {d : Def} → In d (known l
 laid-in n (D.model x ∷ l) h {d} i = found-more (D.model x) l n d (laid-in (n + 1) l (h .1) i)
 laid-in n (D.def e ∷ l) h first = record { at = n; def-at = h .0; within = here (declRecords (def e)) (declsRecords l) n n refl }
 laid-in n (D.def e ∷ l) h {d} (later i) = found-more (def e) l n d (laid-in (n + length (declRecords (def e))) l (h .1) i)
-laid-in n (D.endTopic ∷ l) h {d} i = found-more D.endTopic l n d (laid-in (n + 1) l (h .1) i)
+laid-in n (D.endTopic x ∷ l) h {d} i = found-more (D.endTopic x) l n d (laid-in (n + 1) l (h .1) i)
 
 module _ (s : State) (h : InOrder s) where
   stands : (k : ℕ) (l : List Record) → Within (declsRecords (s .decls)) 0 k l → StandsAt s k l
@@ -236,7 +229,7 @@ module _ (s : State) (h : InOrder s) where
       let f = found c i in
       stands (a .number) (attributeRecords a) (nested (declsRecords (s .decls)) (declRecords (def c)) (attributeRecords a) 0 (f .at) (a .number) (f .within) (own-in (c .sort) c (f .at) (f .def-at .own) j))
 
-pub record-numbers : (t : List ℕ) (m : ℕ) (s : State) → Ended t m s → RecordNumbers s
-record-numbers t m s h =
-    let i = reached-keeps t m InOrder order (h .reaches) in
+pub record-numbers : (t : List ℕ) (g : Given) (s : State) → Ended t g s → RecordNumbers s
+record-numbers t g s h =
+    let i = reached-keeps t g InOrder order (h .reaches) in
     record { definition = definition-stands s i; attribute = attribute-stands s i }

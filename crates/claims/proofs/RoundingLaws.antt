@@ -1,5 +1,5 @@
 -- Readings of numbers round as asked, and only they do.
-use mathlib.Core.Path.{_≡_, refl}
+use mathlib.Core.Path.{_≡_, refl, ap}
 use mathlib.Core.Logic.{_↔_}
 use mathlib.Core.Bool.{Bool, true, false, cond, _||_}
 use Prim.Native.Nat.{ℕ, _-_, _/_, _^_, _≤_, _<_}
@@ -7,11 +7,11 @@ use native.Mathlib.Omega.{arith}
 use borrow.Author.Tests.{ltb-true, ltb-false}
 use lib.IntN.{ℤ, pos, negsuc, _+ℤ_, _*ℤ_}
 use lib.Signed.{_≤ℤ_, ≤ℤ-refl}
-use lib.Dec.{ltb}
+use lib.Dec.{ltb, leb→le}
 use Rattle.rules.specs.Numbers as N
 use Rattle.rules.specs.Numbers.{rounded, readNumber, tooGreat}
+use Rattle.rules.proofs.NumberLaws.{mul→shr, shr→mul, ten-pos}
 use Rattle.claims.specs.Rounding.{RoundsTo, Rounding, OtherRoundings, TwoSteps}
-use Rattle.claims.proofs.NumberLaws.{≤ℤ-antisym, mul→shr, shr→mul, ten-pos}
 
 module _ (d db : ℕ) (v : ℤ) where
   abbrev picked : Bool → ℤ
@@ -31,6 +31,12 @@ module _ (d db : ℕ) (v : ℤ) where
       go true e = absurd (omega (arith, ltb-true db d e))
       go false e = refl
 
+≤ℤ-antisym : {a b : ℤ} → a ≤ℤ b → b ≤ℤ a → a ≡ b
+≤ℤ-antisym {a = pos a} {b = pos b} h k = ap pos (omega (arith, leb→le))
+≤ℤ-antisym {a = pos a} {b = negsuc b} h k = absurd (h .le)
+≤ℤ-antisym {a = negsuc a} {b = pos b} h k = absurd (k .le)
+≤ℤ-antisym {a = negsuc a} {b = negsuc b} h k = ap negsuc (omega (arith, leb→le))
+
 only : (v : ℤ) (m : ℕ) (u w : ℤ) → RoundsTo v m u → RoundsTo v m w → u ≡ w
 only v m u w h k = ≤ℤ-antisym (k u .1 (h u .0 (≤ℤ-refl u))) (h w .1 (k w .0 (≤ℤ-refl w)))
 
@@ -38,7 +44,7 @@ operation : (v : ℤ) (d db : ℕ) (w : ℤ) → readNumber v d db ≡ N.reads w
 unfolding readNumber
 operation v d db w = go (ltb 17 d || (ltb 17 db || tooGreat v)) (tooGreat (N.reading d db v))
   where
-    go : (s t : Bool) → cond s (N.unread 20) (cond t (N.unread 21) (N.reads (N.reading d db v))) ≡ N.reads w → w ≡ N.reading d db v
+    go : (s t : Bool) → cond s (N.notRead 20) (cond t (N.notRead 21) (N.reads (N.reading d db v))) ≡ N.reads w → w ≡ N.reading d db v
     go true t p = cc
     go false true p = cc
     go false false p = cc

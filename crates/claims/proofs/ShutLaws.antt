@@ -5,16 +5,14 @@ use Prim.Native.Nat.{ℕ}
 use native.Mathlib.Omega.{arith}
 use lib.ListN.{length, take, getD, replicate}
 use lib.IntN.{ℤ, pos, natAbs}
-use Rattle.rules.specs.Numbers.{Read, reads, readNumber, readValue}
-use Rattle.rules.specs.Symbols.{symbolOf, symbolAt}
-use Rattle.rules.specs.Grammar.{propertiesFrom, properties, reference, extends, closeFinal, enumeration, textLength, textType, rangeType, typeOf, typeOrReference, written}
-use Rattle.rules.specs.Units.{headerUnit, modelUnit, topicUnit, classUnit, domainUnit, attributeUnit, endUnit, wordStep, bodyEnd, bodyUnit, memberUnit, lastStep, unitAt}
-use Rattle.rules.specs.Judge.{newTopic, newClass, newDomain, newAttribute, withAttribute, extendsRules, classRules, domainEarly, domainRules, attributeEarly, attributeRules, judgeTopic, judgeClass, judgeDomain, judgeAttribute, judgeMember, judgeClose, judge}
+use Rattle.rules.specs.Numbers.{Read, reads, readValue}
 use Rattle.rules.specs.Book.{definitions}
-use Rattle.rules.specs.Check.{run, Answer, accepted, refusal, check}
+use Rattle.rules.specs.Check as C
+use Rattle.rules.specs.Check.{Answer, accepting, refusing, check}
 use Rattle.claims.specs.Cases.{modelOf}
 use Rattle.claims.specs.Shut.{Way, Keeps, laterDomain, laterAttribute, stepwiseDomain, stepwiseAttribute, straightDomain, Shut}
-use Rattle.claims.proofs.PromiseLaws.{accepted-book}
+use Rattle.claims.proofs.Tables.{computing, readings}
+use Rattle.claims.proofs.PromiseLaws.{clash, accepted-book}
 
 abbrev forty : List ℕ
 forty = modelOf "DOMAIN T=-10..40;"
@@ -23,23 +21,23 @@ abbrev more : List ℕ
 more = modelOf "DOMAIN T=-10..41;"
 
 abbrev at256 : List ℕ → Answer
-at256 t = check t 256 .answer
+at256 t = check t (C.lent 256) .answer
 
 record Computed : Type 0 where
-  one : at256 forty ≡ accepted 35 1
-  other : at256 more ≡ accepted 35 1
-  first-byte : getD (check forty 256 .buffer) 0 0 ≡ 1
-  last-bytes : getD (take 35 (check forty 256 .buffer)) 27 0 ≡ 40
-  other-bytes : getD (take 35 (check more 256 .buffer)) 27 0 ≡ 41
-  later-domain : at256 laterDomain ≡ refusal 17 83
-  later-zero : getD (check laterDomain 256 .buffer) 0 0 ≡ 0
-  later-attribute : at256 laterAttribute ≡ refusal 17 132
-  stepwise-domain : at256 stepwiseDomain ≡ accepted 93 3
-  stepwise-attribute : at256 stepwiseAttribute ≡ accepted 149 7
-  straight-domain : at256 straightDomain ≡ refusal 17 66
+  one : at256 forty ≡ accepting 35 1
+  other : at256 more ≡ accepting 35 1
+  first-byte : getD (check forty (C.lent 256) .buffer) 0 0 ≡ 1
+  last-bytes : getD (take 35 (check forty (C.lent 256) .buffer)) 27 0 ≡ 40
+  other-bytes : getD (take 35 (check more (C.lent 256) .buffer)) 27 0 ≡ 41
+  later-domain : at256 laterDomain ≡ refusing 17 83
+  later-zero : getD (check laterDomain (C.lent 256) .buffer) 0 0 ≡ 0
+  later-attribute : at256 laterAttribute ≡ refusing 17 132
+  stepwise-domain : at256 stepwiseDomain ≡ accepting 93 3
+  stepwise-attribute : at256 stepwiseAttribute ≡ accepting 149 7
+  straight-domain : at256 straightDomain ≡ refusing 17 66
 
 computed : Computed
-unfolding symbolOf symbolAt propertiesFrom properties reference extends closeFinal enumeration textLength textType rangeType typeOf typeOrReference written headerUnit modelUnit topicUnit classUnit domainUnit attributeUnit endUnit wordStep bodyEnd bodyUnit memberUnit lastStep unitAt newTopic newClass newDomain newAttribute withAttribute extendsRules classRules domainEarly domainRules attributeEarly attributeRules judgeTopic judgeClass judgeDomain judgeAttribute judgeMember judgeClose judge run
+unfolding computing
 computed = record {
   one = refl;
   other = refl;
@@ -54,11 +52,6 @@ computed = record {
   straight-domain = refl;
 }
 
--- 0.5 reads 1
-half : readNumber (pos 5) 1 0 ≡ reads (pos 1)
-unfolding readNumber
-half = refl
-
 unlike-reads : (v : ℤ) → reads v ≡ reads (pos 1) → natAbs v ≡ 1
 unlike-reads v e = ap (λ (r : Read). natAbs (readValue r)) e
 
@@ -69,30 +62,27 @@ lent = replicate 256 0
 answers : (f : Way) → Keeps f → (t : List ℕ) → f t lent .answer ≡ at256 t
 answers f k t = k t lent .answer
 
-leaves : (f : Way) → Keeps f → (t : List ℕ) → f t lent .buffer ≡ check t 256 .buffer
+leaves : (f : Way) → Keeps f → (t : List ℕ) → f t lent .buffer ≡ check t (C.lent 256) .buffer
 leaves f k t = k t lent .buffer
-
-clash : {n p l c : ℕ} → refusal n p ≡ accepted l c → ⊥
-clash e = let z : _≡_ {A = ℕ} 0 1 = cc in omega arith
 
 pub shut : Shut
 shut = record {
-  open-way = (λ t b. check t (length b), λ t b. record { answer = refl; buffer = refl });
+  open-way = (λ t b. check t (C.lent (length b)), λ t b. record { answer = refl; buffer = refl });
   refusing = λ f r k. let (n, p, e) = r forty lent in clash (sym e ∙ (answers f k forty ∙ computed .one));
   one-book = λ f r k.
       let (x, h) = r in
       let a : take 35 (f forty lent .buffer) ≡ x = h forty lent 35 1 (answers f k forty ∙ computed .one) in
       let b : take 35 (f more lent .buffer) ≡ x = h more lent 35 1 (answers f k more ∙ computed .other) in
-      let c : take 35 (check forty 256 .buffer) ≡ take 35 (check more 256 .buffer) = ap (take 35) (sym (leaves f k forty)) ∙ (a ∙ (sym b ∙ ap (take 35) (leaves f k more))) in
+      let c : take 35 (check forty (C.lent 256) .buffer) ≡ take 35 (check more (C.lent 256) .buffer) = ap (take 35) (sym (leaves f k forty)) ∙ (a ∙ (sym b ∙ ap (take 35) (leaves f k more))) in
       let z : _≡_ {A = ℕ} 40 41 = sym (computed .last-bytes) ∙ (ap (λ (l : List ℕ). getD l 27 0) c ∙ computed .other-bytes) in
       omega arith;
   invented-count = λ f r k.
       let (t, b, n, c, e, h) = r in
-      let p = accepted-book t (length b) n c (f t b .buffer) (record { answer = sym e ∙ k t b .answer; buffer = k t b .buffer }) in
+      let p = accepted-book t (C.lent (length b)) n c (f t b .buffer) (record { answer = sym e ∙ k t b .answer; buffer = k t b .buffer }) in
       h (p .count ∙ ap definitions (sym (p .again)));
   idle-refusing = λ f r k.
       let b : List ℕ = replicate 256 1 in
-      let e : f laterDomain b .answer ≡ refusal 17 83 = k laterDomain b .answer ∙ computed .later-domain in
+      let e : f laterDomain b .answer ≡ refusing 17 83 = k laterDomain b .answer ∙ computed .later-domain in
       let z : _≡_ {A = ℕ} 1 0 = ap (λ (l : List ℕ). getD l 0 0) (sym (r laterDomain b 17 83 e) ∙ k laterDomain b .buffer) ∙ computed .later-zero in
       omega arith;
   idle-accepting = λ f r k.
@@ -103,6 +93,6 @@ shut = record {
   stepwise-domain = λ f r k. clash (sym (r .2) ∙ (answers f k stepwiseDomain ∙ computed .stepwise-domain));
   stepwise-attribute = λ f r k. clash (sym (r .2) ∙ (answers f k stepwiseAttribute ∙ computed .stepwise-attribute));
   straight-domain = λ f r k. clash (sym (computed .straight-domain) ∙ (sym (answers f k straightDomain) ∙ r .2));
-  unrounded = λ f r k. let z : _≡_ {A = ℕ} 5 1 = unlike-reads (pos 5) (sym (r (pos 5) 1 0 (omega arith) (omega arith) (omega arith)) ∙ (k (pos 5) 1 0 ∙ half)) in omega arith;
-  cut-off = λ f r k. let z : _≡_ {A = ℕ} 0 1 = unlike-reads (pos 0) (sym (r (pos 5) 1 0 (omega arith) (omega arith) (omega arith)) ∙ (k (pos 5) 1 0 ∙ half)) in omega arith;
+  unrounded = λ f r k. let z : _≡_ {A = ℕ} 5 1 = unlike-reads (pos 5) (sym (r (pos 5) 1 0 (omega arith) (omega arith) (omega arith)) ∙ (k (pos 5) 1 0 ∙ readings .half)) in omega arith;
+  cut-off = λ f r k. let z : _≡_ {A = ℕ} 0 1 = unlike-reads (pos 0) (sym (r (pos 5) 1 0 (omega arith) (omega arith) (omega arith)) ∙ (k (pos 5) 1 0 ∙ readings .half)) in omega arith;
 }

@@ -4,18 +4,19 @@ use mathlib.Core.Path.{_≡_, refl, ap, _∙_}
 use mathlib.Core.Bool.{Bool, true, false, cond, not, _&&_, true≢false}
 use mathlib.Core.Option.{Option, none, some}
 use mathlib.Core.List.{List, [], _∷_}
-use Prim.Native.Nat.{ℕ, suc, _-_, _^_}
+use Prim.Native.Nat.{ℕ, suc}
 use native.Mathlib.Omega.{arith}
 use lib.ListN.{length}
-use lib.IntN.{ℤ, pos, negsuc, _*ℤ_}
+use lib.IntN.{ℤ, pos, negsuc}
 use lib.Signed.{leZ}
-use lib.Dec.{eqb, leb, ltb}
-use borrow.Author.Tests.{eqb-true, eq-eqb, lt-leb, ltb-true}
+use lib.Dec.{eqb, leb}
+use borrow.Author.Tests.{eqb-true, eq-eqb, lt-leb}
 use Rattle.rules.specs.Numbers as N
 use Rattle.rules.specs.Numbers.{Range, rangeFits, inRange}
 use Rattle.rules.specs.Texts.{within, oneLine, lengthFits, legalText}
 use Rattle.rules.specs.Enumerations.{Enum, Path, enumFits}
 use Rattle.rules.specs.Types.{Ty, text, range, numeric, structure, enum, kindOf, Value, string, number, path, legal, reading, fits}
+use Rattle.rules.proofs.NumberLaws.{reading-same}
 use Rattle.rules.proofs.Tests.{never, both, split, fail-r, not-both, is-false}
 use Rattle.claims.specs.Readings.{readable, reads, Inside, Outside, Judged, KindsTold, proper, TextsJudged, RangesJudged, NumericJudged, EnumerationsJudged, TypesJudged, StairsRead}
 use Rattle.claims.proofs.NumberLaws as NL
@@ -23,13 +24,15 @@ use Rattle.claims.proofs.TextLaws.{text-sound, text-complete}
 use Rattle.claims.proofs.EnumerationLaws as EL
 
 -- ---- what fits reads
-text-reads : (m k : Bool) (n l : Option ℕ) → (cond m k (not k) && lengthFits n l) ≡ true → (s : List ℕ) → legalText m n s ≡ true → legalText k l s ≡ true
+text-reads : (m k : Bool) (n l : Option ℕ) → (cond m k (not k) && lengthFits n l) ≡ true → (s : List ℕ) → legalText m n s ≡ true →
+    legalText k l s ≡ true
 text-reads true true n l p s q = text-sound true n l p s q
 text-reads true false n l p s q = never p
 text-reads false true n l p s q = never p
 text-reads false false n l p s q = text-sound false n l p s q
 
-range-reads : (r b : Range) → rangeFits r b ≡ true → (d : ℕ) (v : ℤ) → (eqb d (r .decimals) && inRange r v) ≡ true → (eqb (b .decimals) (b .decimals) && inRange b (N.reading d (b .decimals) v)) ≡ true
+range-reads : (r b : Range) → rangeFits r b ≡ true → (d : ℕ) (v : ℤ) → (eqb d (r .decimals) && inRange r v) ≡ true →
+    (eqb (b .decimals) (b .decimals) && inRange b (N.reading d (b .decimals) v)) ≡ true
 range-reads r b p d v h =
     let k : (eqb d (r .decimals) ≡ true) × (inRange r v ≡ true) = split h in
     let e : d ≡ r .decimals = eqb-true d (r .decimals) (k .0) in
@@ -92,18 +95,11 @@ unfolding above
 above-no (pos n) = lt-leb (suc n) n (omega arith)
 above-no (negsuc n) = refl
 
-read-same : (d m : ℕ) → N.reading d d (pos m) ≡ pos m
-read-same d m = go (ltb d d) refl
-  where
-    go : (t : Bool) → ltb d d ≡ t → cond t (N.rounded (pos m) (10 ^ (d - d))) (pos m *ℤ pos (10 ^ (d - d))) ≡ pos m
-    go true e = let z = ltb-true d d e in absurd (omega arith)
-    go false e = let z : d - d ≡ 0 = omega arith in rw z (ap pos (omega arith))
-
 numeric-shown : (b : Range) → Outside numeric (range b)
 numeric-shown b =
     let d = b .decimals in
     let v = above (b .high) in
-    (number d (pos v), refl, fail-r (eqb d d) (rw (read-same d v) (fail-r (leZ (b .low) (pos v)) (above-no (b .high)))))
+    (number d (pos v), refl, fail-r (eqb d d) (rw (reading-same d (pos v)) (fail-r (leZ (b .low) (pos v)) (above-no (b .high)))))
 
 enum-shown : (e b : Enum) → enumFits e b ≡ false → Outside (enum e) (enum b)
 enum-shown e b p = let (v, h, q) = EL.fits-complete e b p in (path v, h, rw q)

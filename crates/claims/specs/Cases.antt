@@ -1,40 +1,44 @@
--- What a case of a table says of the definitions, and that it holds: of whole texts checked from end to end, and of single readings.
+-- What a case of a table says of the definitions, and that it holds: of whole texts checked from end to end, and of
+-- readings at the domains that they declare.
 use mathlib.Core.Path.{_≡_}
 use mathlib.Core.Bool.{true}
-use mathlib.Core.Option.{some}
-use mathlib.Core.List.{List, [], _∷_, _++_}
+use mathlib.Core.Option.{none, some}
+use mathlib.Core.List.{List, _++_}
 use Prim.Native.Nat.{ℕ}
 use Prim.Native.String.{String}
 use Rattle.rules.specs.Bytes.{ascii}
-use Rattle.rules.specs.Types.{Ty, Value, legal, reading}
-use Rattle.rules.specs.Check.{Answer, accepted, refusal, answerOf, run}
+use Rattle.rules.specs.Types.{Ty, structure, Value, legal, reading}
+use Rattle.rules.specs.Declarations.{atHome}
+use Rattle.rules.specs.Judge.{orNoDef}
+use Rattle.rules.specs.Check as C
+use Rattle.rules.specs.Check.{Outcome, kept, unread, ruledOut, accepting, refusing, answerOf, run}
 
--- passes: the model with these units is accepted; gives: it is refused with a number and a place; lent: refused so with a buffer of a length;
--- reads: a value has a reading at a base, and the reading is legal there
+-- passes: the model with these units is accepted, with a book length and a definition count; gives: it is refused, with
+-- a number and a place; givesIn: refused so with a buffer of a length; readsAt: accepted, and a
+-- legal value of one domain has a reading at another, which is legal there
 pub data Case : Type 0 where
-  passes : String → Case
-  gives : String → ℕ → ℕ → Case
-  lent : ℕ → String → ℕ → ℕ → Case
-  reads : Value → Ty → Value → Case
+  passes gives : String → ℕ → ℕ → Case
+  givesIn : ℕ → String → ℕ → ℕ → Case
+  readsAt : String → String → Value → String → Value → Case
 
 -- the units stand behind a header and the head of the model M, 40 bytes in all, and before its END
 abbrev pub modelOf : String → List ℕ
 modelOf u = ascii "INTERLIS 2.4;MODEL M AT \"u\" VERSION \"1\"=" ++ (ascii u ++ ascii "END M.")
 
--- nothing for acceptance, else number and place
-abbrev pub verdict : Answer → List ℕ
-verdict (accepted l c) = []
-verdict (refusal n p) = n ∷ p ∷ []
+abbrev pub outcome : String → ℕ → Outcome
+outcome u m = run (modelOf u) (C.lent m)
 
-abbrev pub checks : String → ℕ → List ℕ
-checks u m = verdict (answerOf (run (modelOf u) m))
+-- the type of a domain of the model; a structure, which has no values, where the text is refused or has no such domain
+abbrev pub typeIn : Outcome → List ℕ → Ty
+typeIn (kept s) n = orNoDef (atHome s none n) .type
+typeIn (unread s f p) n = structure
+typeIn (ruledOut s k p) n = structure
+
+abbrev pub ReadsTo : Ty → Value → Ty → Value → Type 0
+ReadsTo e v b w = (legal e v ≡ true) × (reading b v ≡ some w) × (legal b w ≡ true)
 
 abbrev pub Holds : Case → Type 0
-Holds (passes u) = checks u 65535 ≡ []
-Holds (gives u n p) = checks u 65535 ≡ n ∷ p ∷ []
-Holds (lent m u n p) = checks u m ≡ n ∷ p ∷ []
-Holds (reads v b w) = (reading b v ≡ some w) × (legal b w ≡ true)
-
-abbrev pub All : List Case → Type 0
-All [] = Unit {0}
-All (c ∷ l) = Holds c × All l
+Holds (passes u l c) = answerOf (outcome u 65535) ≡ accepting l c
+Holds (gives u n p) = answerOf (outcome u 65535) ≡ refusing n p
+Holds (givesIn m u n p) = answerOf (outcome u m) ≡ refusing n p
+Holds (readsAt u e v b w) = let o = outcome u 65535 in ReadsTo (typeIn o (ascii e)) v (typeIn o (ascii b)) w

@@ -10,8 +10,10 @@ use Rattle.rules.specs.Types.{Ty, text, range, numeric, structure, enum, fits}
 use Rattle.rules.specs.Units.{Where}
 use Rattle.rules.specs.Declarations.{tyOf, Attribute, Def, attributesOf, State}
 use Rattle.rules.specs.Judge.{mergedInto}
-use Rattle.rules.proofs.MergeLaws.{distinct, addsNothing}
-use Rattle.claims.specs.Steps.{In, Declared}
+use Rattle.rules.specs.Merged.{distinct, addsNothing}
+use Rattle.rules.specs.Check.{Given}
+use Rattle.rules.specs.All.{In}
+use Rattle.claims.specs.Steps.{Declared}
 use Rattle.claims.specs.Reached.{Reaches}
 
 abbrev pub distinctIn : Ty → Bool
@@ -33,4 +35,4 @@ pub record DistinctAt (s : State) : Type 0 where
   pub member : (c : Def) → s .open-class ≡ some c → (a : Attribute) → In a (attributesOf c) → Distinct (tyOf (a .use-of))
 
 abbrev pub AllDistinct : Type 0
-AllDistinct = (t : List ℕ) (m f : ℕ) (w : Where) (s : State) (at : ℕ) → Reaches t m f w s at → DistinctAt s
+AllDistinct = (t : List ℕ) (g : Given) (f : ℕ) (w : Where) (s : State) (at : ℕ) → Reaches t g f w s at → DistinctAt s

@@ -1,12 +1,12 @@
--- Document 01, "Examples on both sides": the text of 63 bytes and its book; reading a number; and names shown from that book.
+-- Document 01, "Examples on both sides": the text of 63 bytes and its book; readings of numbers; names shown from it.
 use mathlib.Core.Path.{_≡_}
 use mathlib.Core.List.{List, [], _∷_}
 use Prim.Native.Nat.{ℕ, _-_, _^_}
 use lib.ListN.{length}
 use lib.IntN.{pos, negsuc}
 use Rattle.rules.specs.Bytes.{ascii}
-use Rattle.rules.specs.Numbers.{reads, unread, readNumber, readValue}
-use Rattle.rules.specs.Check.{accepted, refusal, check}
+use Rattle.rules.specs.Numbers.{reads, notRead, readNumber, readValue}
+use Rattle.rules.specs.Check.{lent, accepting, refusing, check}
 use Rattle.rules.specs.Book.{padded}
 use Rattle.rules.specs.Show.{Part, showName}
 
@@ -21,31 +21,33 @@ book =
     ∷ 0x0A ∷ 0x00 ∷ 0xF6 ∷ 0xFF ∷ 0xFF ∷ 0xFF ∷ 0xFF ∷ 0xFF ∷ 0xFF ∷ 0xFF ∷ 0x28 ∷ 0 ∷ 0 ∷ 0 ∷ 0 ∷ 0 ∷ 0 ∷ 0
     ∷ []
 
--- with a buffer of 35 bytes, with a longer one, with one of 34, and without any
+-- with a buffer of 35 bytes, with a longer one, with one of 34, and without any; no text, and another version
 pub record Checks : Type 0 where
   pub size : length text ≡ 63
-  pub exact : check text 35 ≡ record { answer = accepted 35 1; buffer = book }
-  pub longer : check text 40 ≡ record { answer = accepted 35 1; buffer = padded book 40 }
-  pub short : check text 34 ≡ record { answer = refusal 19 47; buffer = padded [] 34 }
-  pub empty : check text 0 ≡ record { answer = refusal 19 19; buffer = [] }
-  pub no-text : check [] 3 ≡ record { answer = refusal 5 0; buffer = 0 ∷ 0 ∷ 0 ∷ [] }
+  pub exact : check text (lent 35) ≡ record { answer = accepting 35 1; buffer = book }
+  pub longer : check text (lent 40) ≡ record { answer = accepting 35 1; buffer = padded book 40 }
+  pub short : check text (lent 34) ≡ record { answer = refusing 19 47; buffer = padded [] 34 }
+  pub empty : check text (lent 0) ≡ record { answer = refusing 19 19; buffer = [] }
+  pub no-text : check [] (lent 3) ≡ record { answer = refusing 5 0; buffer = 0 ∷ 0 ∷ 0 ∷ [] }
+  pub version : check (ascii "INTERLIS 2.40;") (lent 0) ≡ record { answer = refusing 7 9; buffer = [] }
 
 -- 10^17 and one less at one decimal more; halves on both sides of zero; what is given too large
 pub record Reads : Type 0 where
-  pub too-great : readNumber (pos (10 ^ 17)) 0 1 ≡ unread 21
+  pub too-great : readNumber (pos (10 ^ 17)) 0 1 ≡ notRead 21
   pub greatest : readNumber (pos (10 ^ 17 - 1)) 0 1 ≡ reads (pos 999999999999999990)
   pub half : readNumber (pos 5) 1 0 ≡ reads (pos 1)
   pub half-below : readNumber (negsuc 4) 1 0 ≡ reads (pos 0)
   pub below-half : readNumber (negsuc 5) 1 0 ≡ reads (negsuc 0)
-  pub decimals : readNumber (pos 1) 18 0 ≡ unread 20
-  pub base-decimals : readNumber (pos 1) 0 18 ≡ unread 20
-  pub magnitude : readNumber (negsuc (10 ^ 18 - 1)) 0 0 ≡ unread 20
-  pub nothing : readValue (unread 21) ≡ pos 0
+  pub decimals : readNumber (pos 1) 18 0 ≡ notRead 20
+  pub base-decimals : readNumber (pos 1) 0 18 ≡ notRead 20
+  pub magnitude : readNumber (negsuc (10 ^ 18 - 1)) 0 0 ≡ notRead 20
+  pub nothing : readValue (notRead 21) ≡ pos 0
 
 abbrev part : ℕ → ℕ → Part
 part s l = record { start = s; length = l }
 
--- both names; the range has none; the fourth record is not there; a book cut off; a kind that is none; a name past the text's end
+-- both names; the range has none; the fourth record is not there; a book cut off; a kind that is none; a name past the
+-- text's end
 pub record Shows : Type 0 where
   pub model : showName text book 0 ≡ part 19 1
   pub domain : showName text book 1 ≡ part 47 1

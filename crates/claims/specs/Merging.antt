@@ -7,7 +7,7 @@ use mathlib.Core.Option.{none, some}
 use mathlib.Core.List.{List, [], _++_}
 use Prim.Native.Nat.{ℕ}
 use Rattle.rules.specs.Enumerations.{Enum, final, at, merge, enumFits, twice}
-use Rattle.rules.proofs.MergeLaws.{names, newNames, distinct, addsNothing}
+use Rattle.rules.specs.Merged.{names, newNames, distinct, addsNothing}
 
 -- ---- the claims on the written x merged into the base's b; within a shared element they hold again, of what is merged there
 pub record Merged (b x : Enum) : Type 0 where

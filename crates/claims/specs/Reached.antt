@@ -13,21 +13,21 @@ use Rattle.rules.specs.Units as U
 use Rattle.rules.specs.Units.{Where, start, Step, unitAt}
 use Rattle.rules.specs.Declarations.{State}
 use Rattle.rules.specs.Judge.{ok}
-use Rattle.rules.specs.Check.{judged, isOver, nothing}
+use Rattle.rules.specs.Check.{Given, judged, isOver, nothing}
 
--- checking the text t with a buffer of m bytes comes, after units that were not refused, to a place, what may stand there, and a state; f
--- bounds the units that follow
-pub data Reaches (t : List ℕ) (m : ℕ) : ℕ → Where → State → ℕ → Type 0 where
-  begin : ltb 65535 (length t) ≡ false → Reaches t m (enough t) start nothing 0
-  pass : {f : ℕ} {w : Where} {s : State} {at : ℕ} → Reaches t m (suc f) w s at → isOver w ≡ false → (q : Step) (y : Symbol) (x : State) →
-      unitAt w t (symbolAt t at) ≡ done q y → judged m s (q .unit) ≡ ok x → Reaches t m f (q .next) x (q .behind)
+-- checking the text t with what is given, g, comes, after units that were not refused, to a place, what may stand there, and a state; f bounds
+-- the units that follow
+pub data Reaches (t : List ℕ) (g : Given) : ℕ → Where → State → ℕ → Type 0 where
+  begin : ltb 65535 (length t) ≡ false → Reaches t g (enough t) start nothing 0
+  pass : {f : ℕ} {w : Where} {s : State} {at : ℕ} → Reaches t g (suc f) w s at → isOver w ≡ false → (q : Step) (y : Symbol) (x : State) →
+      unitAt w t (symbolAt t at) ≡ done q y → judged g s (q .unit) ≡ ok x → Reaches t g f (q .next) x (q .behind)
 
 -- it judges the unit u in the state s
-pub record Judges (t : List ℕ) (m : ℕ) (s : State) (u : U.Unit) : Type 0 where
+pub record Judges (t : List ℕ) (g : Given) (s : State) (u : U.Unit) : Type 0 where
   pub left : ℕ
   pub stands : Where
   pub place : ℕ
-  pub reaches : Reaches t m (suc left) stands s place
+  pub reaches : Reaches t g (suc left) stands s place
   pub more : isOver stands ≡ false
   pub step : Step
   pub after : Symbol

@@ -48,7 +48,7 @@ pub record Judged (t b : Ty) : Type 0 where
   pub inside : (fits t b ≡ true) ↔ Inside t b
   pub outside : (fits t b ≡ false) ↔ Outside t b
 
--- a range's first bound is not greater: by 14 no other comes to 17. A range with no number would be judged by its bounds
+-- a range's first bound is not greater: by 14 no other comes to 17. One whose first bound is greater has no legal value, and its bounds would be judged all the same
 abbrev pub proper : Ty → Bool
 proper (text m n) = true
 proper (range r) = leZ (r .low) (r .high)
@@ -76,7 +76,7 @@ TypesJudged = (t b : Ty) → proper t ≡ true → kindOf t ≡ kindOf b → Jud
 abbrev pub KindsTold : Type 0
 KindsTold = (n : Option ℕ) → (fits (text false n) (text true n) ≡ false) × Inside (text false n) (text true n)
 
--- ---- down types of which each fits the next, a legal value of the first has a legal reading at each, one step after the other
+-- ---- along types of which each fits the next, a legal value of the first has a legal reading at each, one step after the other
 abbrev pub Stair : Ty → List Ty → Type 0
 Stair t [] = Unit
 Stair t (b ∷ l) = (fits t b ≡ true) × Stair b l

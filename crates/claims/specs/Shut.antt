@@ -9,44 +9,44 @@ use lib.Signed.{shrZ}
 use Rattle.rules.specs.Numbers.{Read, reads, readNumber}
 use Rattle.rules.specs.Book.{definitions}
 use Rattle.rules.specs.Show.{recordsFrom}
-use Rattle.rules.specs.Check.{accepted, refusal, Checked}
+use Rattle.rules.specs.Check.{lent, accepting, refusing, Checked}
 use Rattle.claims.specs.Cases.{modelOf}
-use Rattle.claims.specs.Promise.{Promise}
+use Rattle.rules.specs.Promise.{Promise}
 
 -- what is answered for a text and a lent buffer, and what the buffer then holds
 abbrev pub Way : Type 0
 Way = List ℕ → List ℕ → Checked
 
 abbrev pub Keeps : Way → Type 0
-Keeps f = (t b : List ℕ) → Promise t (length b) (f t b .answer) (f t b .buffer)
+Keeps f = (t b : List ℕ) → Promise t (lent (length b)) (f t b .answer) (f t b .buffer)
 
 abbrev pub ShutOut : (Way → Type 0) → Type 0
 ShutOut P = (f : Way) → P f → ¬ Keeps f
 
 -- ---- ways that are none
 abbrev pub RefusesAll : Way → Type 0
-RefusesAll f = (t b : List ℕ) → (n p : ℕ) × (f t b .answer ≡ refusal n p)
+RefusesAll f = (t b : List ℕ) → (n p : ℕ) × (f t b .answer ≡ refusing n p)
 
 abbrev pub FixedBook : Way → Type 0
-FixedBook f = (x : List ℕ) × ((t b : List ℕ) (n k : ℕ) → f t b .answer ≡ accepted n k → take n (f t b .buffer) ≡ x)
+FixedBook f = (x : List ℕ) × ((t b : List ℕ) (n k : ℕ) → f t b .answer ≡ accepting n k → take n (f t b .buffer) ≡ x)
 
 -- of some text the count is not that of the definitions among the records in the buffer
 abbrev pub InventedCount : Way → Type 0
-InventedCount f = (t b : List ℕ) × (n k : ℕ) × (f t b .answer ≡ accepted n k) × (¬ (k ≡ definitions (recordsFrom 0 (f t b .buffer))))
+InventedCount f = (t b : List ℕ) × (n k : ℕ) × (f t b .answer ≡ accepting n k) × (¬ (k ≡ definitions (recordsFrom 0 (f t b .buffer))))
 
 -- the buffer is left as it was lent
 abbrev pub IdleRefusing : Way → Type 0
-IdleRefusing f = (t b : List ℕ) (n p : ℕ) → f t b .answer ≡ refusal n p → f t b .buffer ≡ b
+IdleRefusing f = (t b : List ℕ) (n p : ℕ) → f t b .answer ≡ refusing n p → f t b .buffer ≡ b
 
 abbrev pub IdleAccepting : Way → Type 0
-IdleAccepting f = (t b : List ℕ) (n k : ℕ) → f t b .answer ≡ accepted n k → f t b .buffer ≡ b
+IdleAccepting f = (t b : List ℕ) (n k : ℕ) → f t b .answer ≡ accepting n k → f t b .buffer ≡ b
 
 -- ---- what is done with one text, where 256 bytes are lent
 abbrev pub Accepts : List ℕ → Way → Type 0
-Accepts t f = (n k : ℕ) × (f t (replicate 256 0) .answer ≡ accepted n k)
+Accepts t f = (n k : ℕ) × (f t (replicate 256 0) .answer ≡ accepting n k)
 
 abbrev pub Refuses : List ℕ → Way → Type 0
-Refuses t f = (n p : ℕ) × (f t (replicate 256 0) .answer ≡ refusal n p)
+Refuses t f = (n p : ℕ) × (f t (replicate 256 0) .answer ≡ refusing n p)
 
 -- the first extension is right and a later one is not: of domains, and of an attribute
 abbrev pub laterDomain : List ℕ

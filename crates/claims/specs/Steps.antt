@@ -8,15 +8,11 @@ use mathlib.Core.List.{List, [], _∷_, _++_}
 use Prim.Native.Nat.{ℕ}
 use lib.ListN.{length}
 use lib.Dec.{eqb}
+use Rattle.rules.specs.All.{In}
 use Rattle.rules.specs.Types.{Value, legal, reading}
-use Rattle.rules.specs.Declarations.{Link, Use, inline, named, struct, tyOf, Attribute, Def, def, State, known, lookup, attributeAt}
+use Rattle.rules.specs.Declarations.{Link, Use, inline, ofDomain, ofStructure, tyOf, Attribute, Def, def, State, known, lookup, attributeAt}
 use Rattle.rules.specs.Book.{Record, baseNumber, records, declRecords, attributeRecords}
 use Rattle.rules.specs.Judge.{isDomain}
-
--- a member of a list
-pub data In {A : Type 0} (a : A) : List A → Type 0 where
-  first : {l : List A} → In a (a ∷ l)
-  later : {b : A} {l : List A} → In a l → In a (b ∷ l)
 
 abbrev pub Declared : State → Def → Type 0
 Declared s d = In d (known (s .decls))
@@ -29,7 +25,7 @@ abbrev pub firstOf : State → List Link → Option Def
 firstOf s [] = none
 firstOf s (l ∷ bs) = numbered s (l .number)
 
--- what a domain, class or structure extends
+-- what a domain, class or structure extends: the definition with the record number that EXTENDS resolved to where it was judged
 abbrev pub baseOf : State → Def → Option Def
 baseOf s d = firstOf s (d .bases)
 
@@ -59,8 +55,8 @@ pub record Nearest (s : State) (a b : Attribute) : Type 0 where
 -- the domain that types an attribute, if one is named
 abbrev pub domainIn : State → Use → Option Def
 domainIn s (inline t) = none
-domainIn s (named l bs) = numbered s (l .number)
-domainIn s (struct l bs) = none
+domainIn s (ofDomain l bs) = numbered s (l .number)
+domainIn s (ofStructure l bs) = none
 
 -- the value v at a reads as w at its base b: if a names a domain, then so does b, and the steps run from the one domain through every one
 -- between to the other; else it is the reading at b's type

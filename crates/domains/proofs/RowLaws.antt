@@ -16,7 +16,6 @@ use Rattle.rules.specs.Book.{Record, bytes, typeRecords, declRecords, records, 
 use Rattle.rules.specs.Judge.{ok, orNoDef, resolved, basesOf, isAbstract, isFinal, domainType, newDomain, declare}
 use Rattle.rules.specs.Check as Check
 use Rattle.ground.specs.Parts.{splice}
-use Rattle.ground.specs.declared.Name as ground
 use Rattle.book.specs.Forms.{headForm}
 use Rattle.names.specs.Index.{entry, row}
 use Rattle.names.specs.Chains.{Chains}
@@ -139,7 +138,7 @@ module _ {t : List ℕ} {s : State} {st : code.State} {n : Name} {p : List (List
       }
 
   pub refused-room : leb (st .used + 11 + size .bytes) (length o₁) ≡ false → (r : code-judged.Judged) → r ≡ Refused 19 (d .name .offset) → (o₂ x₂ z₂ : List ℕ)
-      → JudgedAs t (Check.room (length o) (n .offset) (ok (declare s (def (newDomain s n p w (resolved s b)))))) st r o₂ x₂ z₂ y ns ps
+      → JudgedAs t (Check.room (Check.lent (length o)) (n .offset) (ok (declare s (def (newDomain s n p w (resolved s b)))))) st r o₂ x₂ z₂ y ns ps
   refused-room e r g o₂ x₂ z₂ =
       let f = leb-false (st .used + 11 + size .bytes) (length o₁) e in
       let v = long in
@@ -213,7 +212,7 @@ module _ {t : List ℕ} {s : State} {st : code.State} {n : Name} {p : List (List
     chains-are = ez (known (s .decls)) new· (h .keeps .chained) (h .keeps .held .all-defs) (rw unit (h .comes .fair .0 .there))
 
     pub kept-domain : FairState t (declare s (def new·)) → (st' : code.State) → st' ≡ declaredBy st (11 + size .bytes) (1 + size .records) 1 → (r : code-judged.Judged) → r ≡ Fine st'
-        → JudgedAs t (Check.room (length o) (n .offset) (ok (declare s (def new·)))) st r o₂ x₂ z₂ y ns ps
+        → JudgedAs t (Check.room (Check.lent (length o)) (n .offset) (ok (declare s (def new·)))) st r o₂ x₂ z₂ y ns ps
     kept-domain fair st' es r er =
         let e = leb-true (st .used + 11 + size .bytes) (length o₁) room in
         let v = size-bytes in

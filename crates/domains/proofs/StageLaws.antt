@@ -8,18 +8,18 @@ use native.Mathlib.Omega.{arith}
 use lib.ListN.{length, getD, take}
 use lib.Dec.{ltb}
 use borrow.Author.Tests.{lt-ltb}
+use Rattle.rules.proofs.RuleLaws.{element-nine}
+use Rattle.scope.proofs.TypeLaws.{sort-domain}
+use Rattle.state.proofs.SharedLaws.{extends-positive}
 use Rattle.rules.specs.Names.{Name}
-use Rattle.rules.specs.Grammar as G
 use Rattle.rules.specs.Grammar.{Reference, WrittenType, Written}
-use Rattle.rules.specs.Enumerations.{twice}
 use Rattle.rules.specs.Units as U
 use Rattle.rules.specs.Types.{Ty, text, range, numeric, structure, enum}
-use Rattle.rules.specs.Declarations as D
 use Rattle.rules.specs.Declarations.{Sort, domain, Def, Attribute, State, attributesOf, isFound, isSort, atHand, known, def}
 use Rattle.rules.specs.Book.{Record, bytes, records, flags, typeRecords}
 use Rattle.rules.specs.Judge as J
-use Rattle.rules.specs.Judge.{Rule, rule, ok, unless, orNoDef, resolved, hasTwice, isAbstract, isFinal, isNumeric, referenceIn, domainType, doubled, elementRule, extendsRules, newDomain, domainEarly, domainRules, judgeDomain, judge, declare}
-use Rattle.rules.specs.Check.{room}
+use Rattle.rules.specs.Judge.{Rule, rule, ok, firstBrokenOr, orNoDef, resolved, hasTwice, isAbstract, isFinal, isNumeric, referenceIn, domainType, elementRule, extendsRules, newDomain, domainTo16, domainRules, judge, declare}
+use Rattle.rules.specs.Check.{Given, lent, room}
 use Rattle.rules.proofs.Tests.{never, not-fails}
 use Rattle.ground.specs.Parts.{splice}
 use Rattle.ground.specs.declared.Name as ground
@@ -36,8 +36,9 @@ use Rattle.parts.specs.Forms.{anyOf, flagsOf, extendsOf, writtenOf}
 use Rattle.parts.specs.declared.Properties.{Properties}
 use Rattle.units.specs.declared.DomainUnit.{DomainUnit}
 use Rattle.units.specs.declared.Unit.the-variants.{Domain}
-use Rattle.scope.specs.Scope.{AnyIs, Begins, Fair, FairDef, FairState}
-use Rattle.scope.proofs.UseLaws.{any-resolved}
+use Rattle.rules.specs.All.{AnyIs}
+use Rattle.scope.specs.Scope.{Begins, Fair, FairDef, FairState}
+use Rattle.rules.proofs.AllLaws.{any-resolved}
 use Rattle.scope.proofs.TypeLaws.{domain-fair}
 use Rattle.scope.proofs.KeepLaws.{judge-fair}
 use Rattle.types.specs.declared.Ruling.{Ruling}
@@ -45,14 +46,14 @@ use Rattle.types.specs.declared.Typing.{Typing}
 use Rattle.types.specs.declared.Typing.the-variants.{Structure}
 use Rattle.types.specs.Rulings.{rulingOf, judgedBy}
 use Rattle.types.specs.Values.{Valued, Typed, Sized, FairOrNone, Scratched, Once}
-use Rattle.types.proofs.RulingLaws.{Positive, unless-by}
+use Rattle.types.proofs.RulingLaws.{Positive, first-broken-by}
 use Rattle.types.proofs.TypeLaws.{typed-valued, sized-base, sized-meant, scratched, once-of}
 use Rattle.state.specs.declared.State as code
 use Rattle.state.specs.declared.Judged as code-judged
 use Rattle.state.specs.declared.Judged.the-variants.{Refused}
 use Rattle.state.specs.Keeping.{Keeps, JudgedAs, Comes, verdict}
 use Rattle.domains.specs.Written.{writtenRules, LaidWhen}
-use Rattle.domains.specs.Stages.{nameRules, lateRules, Extending}
+use Rattle.domains.specs.Stages.{nameRules, rulesFrom13, Extending}
 use Rattle.domains.specs.declared.written.Laying as code-laying
 use Rattle.domains.specs.declared.written.Laying.the-variants.{Whole, Broken}
 use Rattle.domains.proofs.WrittenLaws.{written-positive}
@@ -116,20 +117,8 @@ module _ (t : List ℕ) (s : State) (n : Name) (w : Option WrittenType) (a : gro
   pub name-free : k ≡ false → (q : Ruling) → q ≡ rulingOf (elementRule w ∷ []) → q ≡ rulingOf (nameRules s n w)
   name-free j q g = g ∙ rw (← at-name, j)
 
-doubled-number : (o : Option ℕ) → doubled o .number ≡ 9
-doubled-number none = refl
-doubled-number (some p) = refl
-
-element-number : (w : Option WrittenType) → elementRule w .number ≡ 9
-element-number none = refl
-element-number (some (G.text m n)) = refl
-element-number (some (G.range x y)) = refl
-element-number (some G.numeric) = refl
-element-number (some (G.enum e)) = doubled-number (twice e [])
-element-number (some (G.named r)) = refl
-
 name-positive : (s : State) (n : Name) (w : Option WrittenType) → Positive (nameRules s n w)
-name-positive s n w = let e = element-number w in (omega arith, (omega arith, tt))
+name-positive s n w = let e = element-nine w in (omega arith, (omega arith, tt))
 
 -- where 9 is not broken, no element is there twice
 once-named : (s : State) (n : Name) (w : Option WrittenType) → rulingOf (nameRules s n w) .number ≡ 0 → Once w
@@ -140,10 +129,6 @@ once-named s n w h = once-of w (go (isFound (atHand s (n .bytes))) h)
     go false e = e
 
 -- ---- 10 to 12
-extends-positive : (c : Sort) (b : Option Reference) (o : Option Def) → Positive (extendsRules c b o)
-unfolding extendsRules
-extends-positive c b o = (omega arith, (omega arith, (omega arith, tt)))
-
 middle : (q : ℕ) (x y z : Bool) → rulingOf (rule 10 q x ∷ rule 11 q y ∷ rule 12 q z ∷ []) .number ≡ 0 → y ≡ false
 middle q true y z e = absurd (omega arith)
 middle q false true z e = absurd (omega arith)
@@ -152,12 +137,6 @@ middle q false false z e = refl
 extends-sort : (b : Option Reference) (o : Option Def) → rulingOf (extendsRules domain b o) .number ≡ 0 → (isFound o && not (isSort domain (orNoDef o .sort))) ≡ false
 unfolding extendsRules
 extends-sort b o h = middle (J.placeOf b) (isFound b && not (isFound o)) (isFound o && not (isSort domain (orNoDef o .sort))) (orNoDef o .final) h
-
-is-domain : (x : Sort) → isSort domain x ≡ true → x ≡ domain
-is-domain D.topic e = never e
-is-domain D.class e = never e
-is-domain D.struct e = never e
-is-domain D.domain e = refl
 
 -- ---- the base
 fair-or-none : (t : List ℕ) (x : Ty) → Fair t x → FairOrNone t x
@@ -177,7 +156,7 @@ base-is : (t : List ℕ) (n : ℕ) (o : Option Def) → AnyIs (FairDef t n) o �
 base-is t n none k e = record { typed = λ d q. let z : _≡_ {A = ℕ} 0 1 = cc in absurd (omega arith); fair = tt; bare = refl }
 base-is t n (some d) k e =
     let s : isSort domain (d .sort) ≡ true = not-fails e in
-    let g = is-domain (d .sort) s in
+    let g = sort-domain (d .sort) s in
     let f = domain-fair t n d k s in
     record { typed = λ c q. let i : d ≡ c = cc in subst (λ (x : Def). (x .sort ≡ domain) × Fair t (x .type)) i (g, f); fair = fair-or-none t (d .type) f; bare = k .bare g }
 
@@ -212,25 +191,25 @@ unit-inside {t = t} h = subst (λ (u : DomainUnit). Inside t (u .name)) (sym (do
 pub unit-scratch : {t : List ℕ} {s : State} {n : Name} {p : List (List ℕ)} {b : Option Reference} {w : Written} {d : DomainUnit} {rs : List ℕ} → Comes t s (U.domain n p b w) (Domain d) rs → Scratched t rs (w .type)
 unit-scratch {t = t} {w = w} {rs = rs} h = scratched t (h .scratch) rs (w .type) (h .fair .2 .type) (h .is .1)
 
-in-stages : (s : State) (n : Name) (p : List (List ℕ)) (b : Option Reference) (w : Written) (o : Option Def) → domainRules s n p b w o ≡ nameRules s n (w .type) ++ (extendsRules domain b o ++ lateRules n p w o)
-unfolding domainRules domainEarly newDomain
+in-stages : (s : State) (n : Name) (p : List (List ℕ)) (b : Option Reference) (w : Written) (o : Option Def) → domainRules s n p b w o ≡ nameRules s n (w .type) ++ (extendsRules domain b o ++ rulesFrom13 n p w o)
+unfolding domainRules domainTo16 newDomain
 in-stages s n p b w o = simp append-assoc
 
-unless-all : (l : List Rule) (s : State) → Positive l → unless l s ≡ judgedBy (rulingOf l) (ok s)
-unless-all l s h = ap (λ (m : List Rule). unless m s) (sym (append-nil l)) ∙ unless-by l [] s h
+first-broken-all : (l : List Rule) (s : State) → Positive l → firstBrokenOr l s ≡ judgedBy (rulingOf l) (ok s)
+first-broken-all l s h = ap (λ (m : List Rule). firstBrokenOr m s) (sym (append-nil l)) ∙ first-broken-by l [] s h
 
 module _ (s : State) (n : Name) (p : List (List ℕ)) (b : Option Reference) (w : Written) where
   abbrev next : State
   next = declare s (def (newDomain s n p w (resolved s b)))
 
-  judge-is : judge s (U.domain n p b w) ≡ judgedBy (rulingOf (nameRules s n (w .type))) (judgedBy (rulingOf (extendsRules domain b (resolved s b))) (unless (lateRules n p w (resolved s b)) next))
-  unfolding judge judgeDomain
+  judge-is : judge s (U.domain n p b w) ≡ judgedBy (rulingOf (nameRules s n (w .type))) (judgedBy (rulingOf (extendsRules domain b (resolved s b))) (firstBrokenOr (rulesFrom13 n p w (resolved s b)) next))
+  unfolding judge
   judge-is =
-      ap (λ (l : List Rule). unless l next) (in-stages s n p b w (resolved s b))
-      ∙ (unless-by (nameRules s n (w .type)) (extendsRules domain b (resolved s b) ++ lateRules n p w (resolved s b)) next (name-positive s n (w .type))
-      ∙ ap (judgedBy (rulingOf (nameRules s n (w .type)))) (unless-by (extendsRules domain b (resolved s b)) (lateRules n p w (resolved s b)) next (extends-positive domain b (resolved s b))))
+      ap (λ (l : List Rule). firstBrokenOr l next) (in-stages s n p b w (resolved s b))
+      ∙ (first-broken-by (nameRules s n (w .type)) (extendsRules domain b (resolved s b) ++ rulesFrom13 n p w (resolved s b)) next (name-positive s n (w .type))
+      ∙ ap (judgedBy (rulingOf (nameRules s n (w .type)))) (first-broken-by (extendsRules domain b (resolved s b)) (rulesFrom13 n p w (resolved s b)) next (extends-positive domain b (resolved s b))))
 
-  passed-both : rulingOf (nameRules s n (w .type)) .number ≡ 0 → rulingOf (extendsRules domain b (resolved s b)) .number ≡ 0 → judge s (U.domain n p b w) ≡ unless (lateRules n p w (resolved s b)) next
+  passed-both : rulingOf (nameRules s n (w .type)) .number ≡ 0 → rulingOf (extendsRules domain b (resolved s b)) .number ≡ 0 → judge s (U.domain n p b w) ≡ firstBrokenOr (rulesFrom13 n p w (resolved s b)) next
   passed-both e f = judge-is ∙ rw (e, f)
 
   module _ (t : List ℕ) (st : code.State) (r : code-judged.Judged) (o o₁ x₁ z₁ y ns ps : List ℕ) (q : Ruling) where
@@ -242,7 +221,7 @@ module _ (s : State) (n : Name) (p : List (List ℕ)) (b : Option Reference) (w 
     refused-extends f e h g = rw (judge-is, f, ← e, lt-ltb 0 (q .number) h) g
 
   pub judged-late : (t : List ℕ) (st : code.State) (r : code-judged.Judged) (o o₁ x₁ z₁ y ns ps : List ℕ) → rulingOf (nameRules s n (w .type)) .number ≡ 0 → rulingOf (extendsRules domain b (resolved s b)) .number ≡ 0
-      → JudgedAs t (room (length o) (n .offset) (unless (lateRules n p w (resolved s b)) next)) st r o₁ x₁ z₁ y ns ps → JudgedAs t (verdict s (U.domain n p b w) o) st r o₁ x₁ z₁ y ns ps
+      → JudgedAs t (room (lent (length o)) (n .offset) (firstBrokenOr (rulesFrom13 n p w (resolved s b)) next)) st r o₁ x₁ z₁ y ns ps → JudgedAs t (verdict s (U.domain n p b w) o) st r o₁ x₁ z₁ y ns ps
   judged-late t st r o o₁ x₁ z₁ y ns ps e f g = rw (passed-both e f) g
 
 -- ---- 13 to 17
@@ -251,24 +230,24 @@ pub whole-laid : (u : Bool) (v : Ruling) (l : List Record) (at : ℕ) (o o₂ : 
 whole-laid true v l at o o₂ a z h e = let y : _≡_ {A = ℕ} 0 1 = cc in absurd (omega arith)
 whole-laid false v l at o o₂ a z h e = let i = h .0 in (cc, refl, h .1)
 
-module _ (t : List ℕ) (n : Name) (p : List (List ℕ)) (w : Written) (c : Option Def) (s' : State) (m : ℕ) (st : code.State) (r : code-judged.Judged) (o₁ x₁ z₁ y ns ps : List ℕ)
+module _ (t : List ℕ) (n : Name) (p : List (List ℕ)) (w : Written) (c : Option Def) (s' : State) (m : Given) (st : code.State) (r : code-judged.Judged) (o₁ x₁ z₁ y ns ps : List ℕ)
     (k : Bool) (i : k ≡ (hasTwice p || ((isAbstract p && isFinal p) || (isNumeric (domainType (w .type) (orNoDef c .type)) && not (isAbstract p))))) where
-  pub refused-head : k ≡ true → r ≡ Refused 13 (n .offset) → JudgedAs t (room m (n .offset) (unless (lateRules n p w c) s')) st r o₁ x₁ z₁ y ns ps
+  pub refused-head : k ≡ true → r ≡ Refused 13 (n .offset) → JudgedAs t (room m (n .offset) (firstBrokenOr (rulesFrom13 n p w c) s')) st r o₁ x₁ z₁ y ns ps
   refused-head j g = rw (← i, j) g
 
   module _ (j : k ≡ false) (l : List Record) (at : ℕ) (o o₂ : List ℕ) (a : code-laying.Laying)
       (h : LaidWhen (ltb 0 (rulingOf (writtenRules (isFound c) (w .place) (w .type) (orNoDef c .type)) .number)) (rulingOf (writtenRules (isFound c) (w .place) (w .type) (orNoDef c .type))) l at o o₂ a) where
-    behind-head : unless (lateRules n p w c) s' ≡ judgedBy (rulingOf (writtenRules (isFound c) (w .place) (w .type) (orNoDef c .type))) (ok s')
-    behind-head = rw (← i, j) (unless-all (writtenRules (isFound c) (w .place) (w .type) (orNoDef c .type)) s' (written-positive (isFound c) (w .place) (w .type) (orNoDef c .type)))
+    behind-head : firstBrokenOr (rulesFrom13 n p w c) s' ≡ judgedBy (rulingOf (writtenRules (isFound c) (w .place) (w .type) (orNoDef c .type))) (ok s')
+    behind-head = rw (← i, j) (first-broken-all (writtenRules (isFound c) (w .place) (w .type) (orNoDef c .type)) s' (written-positive (isFound c) (w .place) (w .type) (orNoDef c .type)))
 
-    pub refused-type : (q : Ruling) → a ≡ Broken q → r ≡ Refused (q .number) (q .place) → JudgedAs t (room m (n .offset) (unless (lateRules n p w c) s')) st r o₁ x₁ z₁ y ns ps
+    pub refused-type : (q : Ruling) → a ≡ Broken q → r ≡ Refused (q .number) (q .place) → JudgedAs t (room m (n .offset) (firstBrokenOr (rulesFrom13 n p w c) s')) st r o₁ x₁ z₁ y ns ps
     refused-type q e g = rw behind-head (go (rulingOf (writtenRules (isFound c) (w .place) (w .type) (orNoDef c .type))) (ltb 0 (rulingOf (writtenRules (isFound c) (w .place) (w .type) (orNoDef c .type)) .number)) refl h)
       where
         go : (v : Ruling) (u : Bool) → ltb 0 (v .number) ≡ u → LaidWhen u v l at o o₂ a → JudgedAs t (room m (n .offset) (judgedBy v (ok s'))) st r o₁ x₁ z₁ y ns ps
         go v true f h = let i : q ≡ v = cc in rw f (g ∙ ap (λ (x : Ruling). Refused (x .number) (x .place)) i)
         go v false f h = let d = h .0 in let z : _≡_ {A = ℕ} 0 1 = cc in absurd (omega arith)
 
-    pub fine-type : (z : Size) → a ≡ Whole z → unless (lateRules n p w c) s' ≡ ok s'
+    pub fine-type : (z : Size) → a ≡ Whole z → firstBrokenOr (rulesFrom13 n p w c) s' ≡ ok s'
     fine-type z e =
         let u : ltb 0 (rulingOf (writtenRules (isFound c) (w .place) (w .type) (orNoDef c .type)) .number) ≡ false = whole-laid _ _ l at o o₂ a z h e .1 in
         behind-head ∙ rw u
@@ -304,7 +283,7 @@ module _ {t : List ℕ} {s : State} {st : code.State} {n : Name} {p : List (List
       go none f = refl
       go (some c) f = never (sym f)
 
-  pub next-fair : unless (lateRules n p w (resolved s b)) (declare s (def (newDomain s n p w (resolved s b)))) ≡ ok (declare s (def (newDomain s n p w (resolved s b))))
+  pub next-fair : firstBrokenOr (rulesFrom13 n p w (resolved s b)) (declare s (def (newDomain s n p w (resolved s b)))) ≡ ok (declare s (def (newDomain s n p w (resolved s b))))
       → FairState t (declare s (def (newDomain s n p w (resolved s b))))
   next-fair e =
       judge-fair t s (declare s (def (newDomain s n p w (resolved s b)))) (U.domain n p b w) (h .comes .fair) (h .comes .stands) (h .keeps .fair) (passed-both s n p b w (h .named) (h .extends) ∙ e)

@@ -27,8 +27,8 @@ abbrev pub headRule : Name → List (List ℕ) → Ty → Rule
 headRule n p x = rule 13 (n .offset) (hasTwice p || ((isAbstract p && isFinal p) || (isNumeric x && not (isAbstract p))))
 
 -- 13 to 17, over the base o
-abbrev pub lateRules : Name → List (List ℕ) → Written → Option Def → List Rule
-lateRules n p w o = headRule n p (domainType (w .type) (orNoDef o .type)) ∷ writtenRules (isFound o) (w .place) (w .type) (orNoDef o .type)
+abbrev pub rulesFrom13 : Name → List (List ℕ) → Written → Option Def → List Rule
+rulesFrom13 n p w o = headRule n p (domainType (w .type) (orNoDef o .type)) ∷ writtenRules (isFound o) (w .place) (w .type) (orNoDef o .type)
 
 -- a domain breaks none of 9 to 12, and its base is the definition at a position
 pub record Extending (t : List ℕ) (s : State) (st : code.State) (n : Name) (p : List (List ℕ)) (b : Option Reference) (w : Written) (o x z y ns ps rs : List ℕ) (d : DomainUnit) (base : ℕ) : Type 0 where

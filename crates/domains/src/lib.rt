@@ -26,8 +26,8 @@ ghost use Rattle.rules.specs.Types.{Ty};
 ghost use Rattle.rules.specs.Declarations as D;
 ghost use Rattle.rules.specs.Declarations.{Def, Attribute, domain, def};
 ghost use Rattle.rules.specs.Book.{bytes, typeRecords};
-ghost use Rattle.rules.specs.Judge.{ok, unless, orNoDef, resolved, hasTwice, isAbstract, isFinal, isNumeric, domainType, newDomain, declare};
-ghost use Rattle.rules.specs.Check.{room};
+ghost use Rattle.rules.specs.Judge.{ok, firstBrokenOr, orNoDef, resolved, hasTwice, isAbstract, isFinal, isNumeric, domainType, newDomain, declare};
+ghost use Rattle.rules.specs.Check.{lent, room};
 ghost use Rattle.ground.specs.Parts.{splice};
 ghost use Rattle.enumerations.specs.Merging.{sizeOf};
 ghost use Rattle.names.specs.Index.{entry, Known};
@@ -43,7 +43,7 @@ ghost use Rattle.enumerations.specs.Standing.{InText};
 ghost use Rattle.types.specs.Rulings.{rulingOf};
 ghost use Rattle.types.specs.Values.{Valued, Typed, Scratched};
 ghost use Rattle.state.specs.Keeping.{Keeps, JudgedAs, Comes, verdict};
-ghost use Rattle.domains.specs.Stages.{nameRules, lateRules, Extending};
+ghost use Rattle.domains.specs.Stages.{nameRules, rulesFrom13, Extending};
 
 // The number of its sort, and the kind of its record.
 const DOMAIN: usize = 3;
@@ -164,7 +164,7 @@ fn add_domain(
         → size ≡ sizeOf (typeRecords (domainType (w .type) (orNoDef (resolved s b) .type)))
         → (st .used + 11 + length (bytes (typeRecords (domainType (w .type) (orNoDef (resolved s b) .type)))) ≤ length o → now (book .entry) ≡ splice o (st .used + 11) (bytes (typeRecords (domainType (w .type) (orNoDef (resolved s b) .type)))))
         → FairState (now (text .entry)) (declare s (def (newDomain s n p w (resolved s b))))
-        → JudgedAs (now (text .entry)) (room (length o) (n .offset) (ok (declare s (def (newDomain s n p w (resolved s b)))))) st r (now (book .exit)) (now (index .exit)) (now (chains .exit)) y ns ps) ⌝ }
+        → JudgedAs (now (text .entry)) (room (lent (length o)) (n .offset) (ok (declare s (def (newDomain s n p w (resolved s b)))))) st r (now (book .exit)) (now (index .exit)) (now (chains .exit)) y ns ps) ⌝ }
 {
     let name = d.name;
     if written::has_room(book.len(), st.used, size.bytes) {
@@ -205,7 +205,7 @@ fn typed_domain(
     requires { ⌜ ((s : D.State) × (n : R.Name) × (p : List (List ℕ)) × (b : Option G.Reference) × (w : G.Written) × (y : List ℕ) × (ns : List ℕ) × (ps : List ℕ) × Extending (now text) s st n p b w (now book) (now index) (now chains) y ns ps (now records) d base) ⌝ }
     ensures { λ r. ⌜ ((s : D.State) (n : R.Name) (p : List (List ℕ)) (b : Option G.Reference) (w : G.Written) (y ns ps : List ℕ)
         → Extending (now (text .entry)) s st n p b w (now (book .entry)) (now (index .entry)) (now (chains .entry)) y ns ps (now (records .entry)) d base
-        → JudgedAs (now (text .entry)) (room (length (now (book .entry))) (n .offset) (unless (lateRules n p w (resolved s b)) (declare s (def (newDomain s n p w (resolved s b)))))) st r (now (book .exit)) (now (index .exit)) (now (chains .exit)) y ns ps) ⌝ }
+        → JudgedAs (now (text .entry)) (room (lent (length (now (book .entry)))) (n .offset) (firstBrokenOr (rulesFrom13 n p w (resolved s b)) (declare s (def (newDomain s n p w (resolved s b)))))) st r (now (book .exit)) (now (index .exit)) (now (chains .exit)) y ns ps) ⌝ }
 {
     let name = d.name;
     let w = d.written;

@@ -2,7 +2,7 @@
 use mathlib.Core.Path.{_≡_, refl, sym, ap, _∙_, subst}
 use mathlib.Core.Bool.{true, false}
 use mathlib.Core.List.{List, [], _∷_, _++_, append-assoc}
-use Prim.Native.Nat.{ℕ, zero, suc, _+_, _-_, _≤_, _<_}
+use Prim.Native.Nat.{ℕ, zero, suc, _≤_, _<_}
 use native.Mathlib.Omega.{arith}
 use lib.ListN.{length}
 use borrow.Author.Tests.{lt-ltb, le-ltb, eq-eqb}
@@ -12,8 +12,9 @@ use Rattle.rules.specs.Symbols as rules
 use Rattle.rules.specs.Symbols.{Fault, too-large, symbolAt, endOf, isMark, isWord}
 use Rattle.rules.specs.Readers.{Result, done, refused, Reader, andThen, _>>=_, _>>_, ret, aName, theMark, theWord, ifNext}
 use Rattle.rules.specs.Enumerations.{Enum, end, elem, final}
-use Rattle.rules.specs.Grammar.{enough, closeFinal, opening, enumeration, elements, Element, element}
-use Rattle.rules.specs.Book.{Record, bit, nameRecord, innerRecords, openRecord, elementRecords, bytes}
+use Rattle.rules.specs.Grammar.{enough, closeFinal, openingBracket, enumeration, elements, Element, element}
+use Rattle.rules.specs.Book.{Record, bit, nameRecord, innerRecords, openRecord, elementRecords}
+use Rattle.rules.proofs.GrowLaws.{bytes-append}
 use Rattle.rules.proofs.SymbolLaws.{either, Lies, next-lies}
 use Rattle.rules.proofs.ForwardLaws.{Ends, element-forward}
 use Rattle.rules.proofs.FuelLaws.{enumeration-fuel, elements-fuel, element-fuel}
@@ -23,23 +24,20 @@ use Rattle.symbols.specs.Cut.{made}
 use Rattle.ground.specs.declared.Name as code
 use Rattle.readers.specs.Reads.{faultAt, Stands, Cuts, Held, passed, named, nameCut, On, Gives, Reads}
 use Rattle.readers.proofs.CodeLaws.{Test, is-mark, is-word}
-use Rattle.readers.proofs.StandLaws.{fault-stands}
+use Rattle.readers.proofs.StandLaws.{fault-stands, stands-lies}
 use Rattle.readers.proofs.ReadLaws.{gives-map, gives-weaker, bind, stay, mapped, if-true, if-false, expected, is-yes, is-no, a-name}
 use Rattle.elements.specs.Noted.{listBytes, restBytes, elementBytes, Put, Closed}
 use Rattle.elements.specs.Ends.{listEnd}
 use Rattle.elements.proofs.PutLaws.{put-put, put-closed}
 
-lies : {t : List ℕ} {z : rules.Symbol} → Stands t z → Lies 0 (length t) z
-lies s = record { starts = omega arith; ends = s .ends; solid = s .solid }
-
 -- ---- at a symbol of the text, one more of the fuel changes nothing
 module _ (t : List ℕ) (d : ℕ) where
   pub enumeration-reads : {P : Enum → Type 0} {y n : Symbol} →
-      Reads t (opening d >> ifNext (isWord (ascii "FINAL")) closeFinal (elements (enough t) d)) P y n → Reads t (enumeration (enough t) d) P y n
+      Reads t (openingBracket d >> ifNext (isWord (ascii "FINAL")) closeFinal (elements (enough t) d)) P y n → Reads t (enumeration (enough t) d) P y n
   unfolding enumeration
   enumeration-reads r =
       record {
-        reads = λ z c. rw (enumeration-fuel t z (lies (c .stands)) d (enough t) (suc (enough t)) (omega arith) (omega arith)) (r .reads z c);
+        reads = λ z c. rw (enumeration-fuel t z (stands-lies (c .stands)) d (enough t) (suc (enough t)) (omega arith) (omega arith)) (r .reads z c);
         passes = r .passes;
       }
 
@@ -49,28 +47,28 @@ module _ (t : List ℕ) (d : ℕ) where
   unfolding enumeration
   element-reads r =
       record {
-        reads = λ z c. rw (element-fuel t z (lies (c .stands)) d (enough t) (suc (enough t)) (omega arith) (omega arith)) (r .reads z c);
+        reads = λ z c. rw (element-fuel t z (stands-lies (c .stands)) d (enough t) (suc (enough t)) (omega arith) (omega arith)) (r .reads z c);
         passes = r .passes;
       }
 
   elements-step : (z : rules.Symbol) → Stands t z → elements (enough t) d t z ≡
       andThen t (element (enough t) d t z) (λ e. ifNext (isMark ",") (theMark "," >> elements (enough t) d) listEnd >>= λ r. ret (elem (e .name) (e .inner) r))
   unfolding enumeration
-  elements-step z s = elements-fuel t z (lies s) d (enough t) (suc (enough t)) (omega arith) (omega arith)
+  elements-step z s = elements-fuel t z (stands-lies s) d (enough t) (suc (enough t)) (omega arith) (omega arith)
 
   pub fault-elements : (f : Fault) (p : ℕ) → Stands t (faultAt f p) → elements (enough t) d t (faultAt f p) ≡ refused f p
   unfolding enumeration
   fault-elements f p s =
-      elements-step (faultAt f p) s ∙ rw (element-fuel t (faultAt f p) (lies s) d (enough t) (suc (enough t)) (omega arith) (omega arith))
+      elements-step (faultAt f p) s ∙ rw (element-fuel t (faultAt f p) (stands-lies s) d (enough t) (suc (enough t)) (omega arith) (omega arith))
 
 -- ---- the bracket
 module _ {t : List ℕ} {d : ℕ} {y n : Symbol} where
-  pub opened : d < 8 → n ≡ passed t y 40 → Reads t (opening d) (λ _. Unit {0}) y n
+  pub opened : d < 8 → n ≡ passed t y 40 → Reads t (openingBracket d) (λ _. Unit {0}) y n
   opened h e =
       bind (expected (is-mark "(" (omega arith) (omega arith)) e)
       (λ a q. record { reads = λ z c. rw (lt-ltb d 8 h) (record { next = c; value = tt }); passes = λ f p c. c }) (λ f p c. c)
 
-  pub too-deep : {A : Type 0} {P : A → Type 0} (k : Reader A) → 8 ≤ d → y .code ≡ 40 → n ≡ made 5 4 (y .place) 0 → Reads t (opening d >> k) P y n
+  pub too-deep : {A : Type 0} {P : A → Type 0} (k : Reader A) → 8 ≤ d → y .code ≡ 40 → n ≡ made 5 4 (y .place) 0 → Reads t (openingBracket d >> k) P y n
   too-deep k h o e =
       record {
         reads = λ z c. rw (is-yes (is-mark "(" (omega arith) (omega arith)) o z c, le-ltb d 8 h)
@@ -96,10 +94,6 @@ module _ {t : List ℕ} {P : Enum → Type 0} {y : Symbol} where
       (bind (expected (is-mark ")" (omega arith) (omega arith)) e) (λ a q. stay (end false) h) (λ f p c. c))
 
 -- ---- one element after another
-bytes-append : (k l : List Record) → bytes (k ++ l) ≡ bytes k ++ bytes l
-bytes-append [] l = refl
-bytes-append (r ∷ k) l = rw (bytes-append k l) (sym (append-assoc r (bytes k) (bytes l)))
-
 -- an element's records stand before those of the rest of its list
 pub rest-after : (e : Element) (x : Enum) → restBytes (elem (e .name) (e .inner) x) ≡ elementBytes e ++ restBytes x
 rest-after e x =
@@ -218,7 +212,7 @@ listed : (f d : ℕ) (t : List ℕ) (z : rules.Symbol) → On Listed (enumeratio
 unfolding enumeration
 listed zero d t z = tt
 listed (suc f) d t z =
-    on-then Listed t (opening d t z) (λ a. ifNext (isWord (ascii "FINAL")) closeFinal (elements f d))
+    on-then Listed t (openingBracket d t z) (λ a. ifNext (isWord (ascii "FINAL")) closeFinal (elements f d))
     (λ a v. either (On Listed) (isWord (ascii "FINAL") v) (λ _. final-listed t v) (λ _. elements-listed f d t v))
 
 pub also : {A : Type 0} {t : List ℕ} {R : Reader A} {P Q : A → Type 0} {y n : Symbol} → Reads t R P y n → ((z : rules.Symbol) → On Q (R t z)) →

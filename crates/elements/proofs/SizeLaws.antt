@@ -10,7 +10,7 @@ use Rattle.rules.specs.Bytes.{ascii}
 use Rattle.rules.specs.Symbols.{Symbol, isMark, isWord}
 use Rattle.rules.specs.Readers.{Result, done, refused, Reader, andThen, _>>=_, _>>_, ret, aName, theMark, theWord, ifNext}
 use Rattle.rules.specs.Enumerations.{Enum, end, elem}
-use Rattle.rules.specs.Grammar.{enough, closeFinal, opening, enumeration, elements, element}
+use Rattle.rules.specs.Grammar.{enough, closeFinal, openingBracket, enumeration, elements, element}
 use Rattle.rules.specs.Book.{innerRecords, openRecord, elementRecords, bytes}
 use Rattle.rules.proofs.SymbolLaws.{either, Lies, lies-from}
 use Rattle.rules.proofs.ForwardLaws.{Ends, Forward, the-mark, the-word, a-name, opening-forward}
@@ -69,7 +69,7 @@ module _ (t : List ℕ) where
     enumeration-spent : (f d i : ℕ) (z : Symbol) → Lies 0 (length t) z → i ≤ z .place → Spent (λ e. length (listBytes e)) 0 t i (enumeration f d t z)
     enumeration-spent zero d i z l s = tt
     enumeration-spent (suc f) d i z l s =
-        then-spent (λ _. 3) 0 i (λ e. length (listBytes e)) 0 i t (opening d t z) (λ _. ifNext (isWord (ascii "FINAL")) closeFinal (elements f d)) (paid t i z (opening-forward d) l s)
+        then-spent (λ _. 3) 0 i (λ e. length (listBytes e)) 0 i t (openingBracket d t z) (λ _. ifNext (isWord (ascii "FINAL")) closeFinal (elements f d)) (paid t i z (opening-forward d) l s)
         (λ a w h k. less-spent sizeOf 1 (suc i) (λ e. length (listBytes e)) 0 i t (ifNext (isWord (ascii "FINAL")) closeFinal (elements f d) t w)
         (either (Spent sizeOf 1 t (suc i)) (isWord (ascii "FINAL") w) (λ _. final-spent i w k (omega arith)) (λ _. elements-spent f d (suc i) w k (omega arith))) (λ e n g. omega arith))
 

@@ -8,7 +8,8 @@ use Rattle.rules.specs.Names.{Name}
 use Rattle.rules.specs.Enumerations.{Enum, end, elem, final, at, inner, has, merge, orElse, enumFits, twice}
 use Rattle.rules.proofs.Tests.{both, split, alike}
 use Rattle.rules.proofs.ByteLaws.{same-eq}
-use Rattle.rules.proofs.MergeLaws.{distinct, addsNothing, at-cases, has-some, has-none, inner-some, adds-parts, distinct-parts, Part, head-part, tail-part, inner-adds, merged-fits, once-distinct}
+use Rattle.rules.specs.Merged.{distinct, addsNothing}
+use Rattle.rules.proofs.MergeLaws.{at-cases, has-some, has-none, inner-some, adds-parts, distinct-parts, Part, head-part, tail-part, inner-adds, merged-fits, once-distinct}
 use Rattle.enumerations.proofs.FrameLaws.{addOk, copyOk}
 
 copy-parts : (n : Name) (i r w x : Enum) → copyOk (elem n i r) w x ≡ true → (copyOk i i (inner (n .bytes) x) ≡ true) × (copyOk r w x ≡ true)

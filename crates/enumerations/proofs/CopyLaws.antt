@@ -7,7 +7,8 @@ use native.Mathlib.Omega.{arith}
 use lib.ListN.{length, getD, set, take, drop, length-append, List·getD-append}
 use lib.Seq.{paste, paste-suc, length-paste, length-take-le, getD-take}
 use Rattle.ground.specs.Parts.{part}
-use Rattle.ground.proofs.PartLaws.{length-part, getD-part}
+use Rattle.rules.proofs.PartLaws.{length-part}
+use Rattle.ground.proofs.PartLaws.{getD-part}
 
 module _ (o : List ℕ) (from n at i : ℕ) (h : i ≤ n) (hf : from + n ≤ at) (ha : at + n ≤ length o) where
   size : length (part o from n) ≡ n

@@ -1,11 +1,11 @@
 -- Nested at most 8 deep: inside an element one less, and merging goes no deeper.
 use mathlib.Core.Path.{_≡_, refl, _∙_}
 use mathlib.Core.Bool.{Bool, true, false, cond, _&&_, true≢false}
-use mathlib.Core.Option.{none, some}
+use mathlib.Core.Option.{some}
 use mathlib.Core.List.{List}
 use Prim.Native.Nat.{ℕ, _-_, _<_}
 use Rattle.rules.specs.Bytes.{same}
-use Rattle.rules.specs.Enumerations.{Enum, end, elem, at, inner, has, news, mergeFrom, merge}
+use Rattle.rules.specs.Enumerations.{Enum, end, elem, at, inner, has, news, mergeFrom, merge, orEmpty}
 use Rattle.enumerations.specs.Standing.{plain, DeepIn, Deep}
 use Rattle.enumerations.proofs.FrameLaws.{merge-plain}
 
@@ -19,7 +19,7 @@ deep-inner k n (end f) h = tt
 deep-inner k n (elem m i r) h = go (same n (m .bytes)) (deep-inner k n r (h .1))
   where
     go : (c : Bool) → DeepIn (plain (inner n r)) k (Deep (k - 1) (inner n r)) →
-        DeepIn (plain (elim (cond c (some i) (at n r)) [ none ↦ end false | some i ↦ i ])) k (Deep (k - 1) (elim (cond c (some i) (at n r)) [ none ↦ end false | some i ↦ i ]))
+        DeepIn (plain (orEmpty (cond c (some i) (at n r)))) k (Deep (k - 1) (orEmpty (cond c (some i) (at n r))))
     go true q = h .0
     go false q = q
 

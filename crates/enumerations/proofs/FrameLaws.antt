@@ -1,14 +1,14 @@
 -- The walk through a merged enumeration, on trees: a frame for each open list, and what is still to be written.
 use mathlib.Core.Path.{_≡_, refl, sym, ap, _∙_}
 use mathlib.Core.Bool.{Bool, true, false, cond, not, _&&_, _||_}
-use mathlib.Core.Option.{none, some}
+use mathlib.Core.Option.{some}
 use mathlib.Core.List.{List, [], _∷_, _++_, append-assoc, append-nil}
 use Prim.Native.Nat.{ℕ, zero, suc, _+_, _*_, _≤_, _<_}
 use native.Mathlib.Nat.{le-trans, add-mul, suc-mul}
 use native.Mathlib.Omega.{arith}
 use Rattle.rules.specs.Bytes.{same}
 use Rattle.rules.specs.Names.{Name}
-use Rattle.rules.specs.Enumerations.{Enum, end, elem, final, at, inner, has, news, mergeFrom, merge}
+use Rattle.rules.specs.Enumerations.{Enum, end, elem, final, at, inner, has, news, mergeFrom, merge, orEmpty}
 use Rattle.rules.specs.Book.{Record, nameRecord, openRecord, innerRecords, elementRecords}
 use Rattle.rules.proofs.Tests.{never}
 use Rattle.rules.proofs.MergeLaws.{final-merge}
@@ -166,7 +166,7 @@ inner-nodes : (n : List ℕ) (x : Enum) → nodes (inner n x) ≤ nodes x
 inner-nodes n (end f) = omega arith
 inner-nodes n (elem m i r) = go (same n (m .bytes)) (inner-nodes n r)
   where
-    go : (t : Bool) → nodes (inner n r) ≤ nodes r → nodes (elim (cond t (some i) (at n r)) [ none ↦ end false | some i ↦ i ]) ≤ suc (nodes i + nodes r)
+    go : (t : Bool) → nodes (inner n r) ≤ nodes r → nodes (orEmpty (cond t (some i) (at n r))) ≤ suc (nodes i + nodes r)
     go true h = omega arith
     go false h = omega arith
 

@@ -133,7 +133,7 @@ module _ (t s : List ℕ) where
         go m em hm I J (some j) e =
             rw (← em, hm ∙ has-some (n .bytes) b j e)
             (record {
-              says = rw e (rw (inner-some (n .bytes) b j e) (inside-held i j (innerAt s (p + 6)) (innerAt s m) I (rw (inner-some (n .bytes) b j e) at J)));
+              says = rw e (inside-held i j (innerAt s (p + 6)) (innerAt s m) I (rw (inner-some (n .bytes) b j e) at J));
               inside = λ z. (I, J, deeper-first _ _ z);
             })
 

@@ -1,17 +1,17 @@
 -- What a merged enumeration keeps of its two, so that it can be a base again; and that it stands where it is written.
 use mathlib.Core.Path.{_≡_, ap, _∙_}
 use mathlib.Core.Bool.{Bool, true, false, cond}
-use mathlib.Core.Option.{none, some}
-use mathlib.Core.List.{List, [], _++_, append-assoc}
+use mathlib.Core.Option.{some}
+use mathlib.Core.List.{List, _++_, append-assoc}
 use Prim.Native.Nat.{ℕ, _+_, _≤_}
 use lib.ListN.{length, take, drop}
 use lib.Seq.{length-take-le, drop-at, drop-append-seam, take-append-seam}
 use Rattle.rules.specs.Bytes.{same}
-use Rattle.rules.specs.Enumerations.{Enum, end, elem, at, inner, has, news, mergeFrom, merge, twice}
+use Rattle.rules.specs.Enumerations.{Enum, end, elem, at, orEmpty, inner, has, news, mergeFrom, merge}
 use Rattle.rules.specs.Book.{bytes}
 use Rattle.rules.proofs.MergeLaws.{distinct-merge, once-distinct, distinct-once}
 use Rattle.ground.specs.Parts.{part, splice}
-use Rattle.enumerations.specs.Standing.{Named, Deep, Stands}
+use Rattle.enumerations.specs.Standing.{Named, Kept, Stands}
 use Rattle.enumerations.specs.Merging.{records}
 use Rattle.enumerations.proofs.DeepLaws.{deep-merge}
 
@@ -19,7 +19,7 @@ named-inner : (t : List ℕ) (n : List ℕ) (x : Enum) → Named t x → Named t
 named-inner t n (end f) h = tt
 named-inner t n (elem m i r) h = go (same n (m .bytes)) (named-inner t n r (h .2))
   where
-    go : (c : Bool) → Named t (inner n r) → Named t (elim (cond c (some i) (at n r)) [ none ↦ end false | some i ↦ i ])
+    go : (c : Bool) → Named t (inner n r) → Named t (orEmpty (cond c (some i) (at n r)))
     go true q = h .1
     go false q = q
 
@@ -36,12 +36,6 @@ named-merge t (end f) w x h g = named-news t f w x g
 named-merge t (elem n i r) w x h g =
     (h .0, named-merge t i i (inner (n .bytes) x) (h .1) (named-inner t (n .bytes) x g), named-merge t r w x (h .2) g)
 
-pub record Kept (t : List ℕ) (e : Enum) : Type 0 where
-  pub named : Named t e
-  pub deep : Deep 7 e
-  pub once : twice e [] ≡ none
-
--- names in the text, nested at most 8 deep, no element twice
 pub merged-kept : (t : List ℕ) (b x : Enum) → Kept t b → Kept t x → Kept t (merge b x)
 merged-kept t b x h k =
     record {

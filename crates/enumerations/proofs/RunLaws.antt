@@ -1,12 +1,13 @@
 -- The run of the walk, with what it writes.
 use mathlib.Core.Path.{_≡_, refl, sym, ap, _∙_}
 use mathlib.Core.Bool.{true, false}
-use mathlib.Core.List.{List, [], _∷_, _++_, append-assoc, append-nil}
+use mathlib.Core.List.{List, [], _++_, append-assoc, append-nil}
 use Prim.Native.Nat.{ℕ, zero, suc, _+_, _-_, _*_, _≤_, _<_}
 use native.Mathlib.Numerals.{sub-one}
 use native.Mathlib.Omega.{arith}
 use lib.ListN.{length, take, length-append}
 use borrow.Author.Tests.{eq-eqb, ne-eqb}
+use Rattle.rules.proofs.GrowLaws.{bytes-append}
 use Rattle.rules.specs.Book.{Record, bytes}
 use Rattle.ground.specs.Parts.{splice}
 use Rattle.ground.proofs.BufferLaws.{splice-splice, splice-none}
@@ -19,10 +20,6 @@ use Rattle.enumerations.specs.declared.walk.Move.{Move}
 use Rattle.enumerations.specs.declared.lists.Size.{Size}
 use Rattle.enumerations.specs.declared.walk.Walk.{Walk}
 use Rattle.enumerations.specs.declared.walk.Laid.the-variants.{Whole, Misfit}
-
-pub bytes-append : (l m : List Record) → bytes (l ++ m) ≡ bytes l ++ bytes m
-bytes-append [] m = refl
-bytes-append (r ∷ l) m = rw (bytes-append l m) (sym (append-assoc r (bytes l) (bytes m)))
 
 emit-short : (e : Emit) → (length (bytes (emitted e)) ≤ 8) × (length (emitted e) ≤ length (bytes (emitted e)))
 emit-short Quiet = (omega arith, omega arith)

@@ -1,7 +1,7 @@
 -- What the code reads where a list of elements stands: its end, its elements by name, what is inside them.
 use mathlib.Core.Path.{_≡_, refl, ap, _∙_}
 use mathlib.Core.Bool.{Bool, true, false, cond, not}
-use mathlib.Core.Option.{none, some}
+use mathlib.Core.Option.{some}
 use mathlib.Core.List.{List}
 use Prim.Native.Nat.{ℕ, zero, suc, _+_, _-_, _≤_, _<_}
 use native.Mathlib.Numerals.{add-one, sub-one}
@@ -11,7 +11,7 @@ use lib.Dec.{ltb, leb}
 use borrow.Author.Tests.{lt-ltb, le-leb}
 use Rattle.rules.specs.Bytes.{same}
 use Rattle.rules.specs.Names.{Name}
-use Rattle.rules.specs.Enumerations.{Enum, end, elem, final, at, inner, has}
+use Rattle.rules.specs.Enumerations.{Enum, end, elem, final, at, inner, has, orEmpty, isThere}
 use Rattle.rules.proofs.Tests.{fail-r}
 use Rattle.enumerations.specs.Lists.{nowhere, isElement, isOpening, endFrom, pastInner, innerAt, written, sameNames, findFrom}
 use Rattle.enumerations.specs.Standing.{InText, plain, partOf, endOf, InsideBy, ListAt, InsideAt, ElementsAt}
@@ -137,7 +137,7 @@ module _ (t s : List ℕ) where
     found-inside n (elem m i r) p h = go (same n (m .bytes)) (found-inside n r _ (h .2))
       where
         go : (c : Bool) → InsideAt t s (inner n r) (found n r (nextOf i p)) →
-            InsideAt t s (elim (cond c (some i) (at n r)) [ none ↦ end false | some i ↦ i ]) (cond c (p + 6) (found n r (nextOf i p)))
+            InsideAt t s (orEmpty (cond c (some i) (at n r))) (cond c (p + 6) (found n r (nextOf i p)))
         go true k = h .1
         go false k = k
 
@@ -146,7 +146,7 @@ module _ (t s : List ℕ) where
     found-has n (elem m i r) p h = go (same n (m .bytes)) (found-has n r _ (h .2))
       where
         go : (c : Bool) → ltb (found n r (nextOf i p)) nowhere ≡ has n r →
-            ltb (cond c (p + 6) (found n r (nextOf i p))) nowhere ≡ elim (cond c (some i) (at n r)) [ none ↦ false | some i ↦ true ]
+            ltb (cond c (p + 6) (found n r (nextOf i p))) nowhere ≡ isThere (cond c (some i) (at n r))
         go true k = lt-ltb (p + 6) nowhere (let u = element-in s p (h .0 .there) in omega arith)
         go false k = k
 

@@ -1,7 +1,7 @@
 -- Chains in lent numbers: an element looked up along the chain of its key, and an element put before the others.
 use mathlib.Core.Path.{_≡_, refl, sym, ap, _∙_}
 use mathlib.Core.Logic.{_⊎_, inl, inr, ⊎-elim}
-use mathlib.Core.Bool.{Bool, true, false, cond, not, _&&_, _||_}
+use mathlib.Core.Bool.{Bool, true, false, cond, _&&_, _||_}
 use mathlib.Core.List.{List, [], _∷_}
 use Prim.Native.Nat.{ℕ, _+_, _-_, _*_, _%_, _≤_, _<_}
 use native.Mathlib.Omega.{arith}
@@ -13,7 +13,7 @@ use Rattle.rules.specs.Bytes.{same}
 use Rattle.rules.proofs.Tests.{split, not-both, is-false, alike, or-l, or-r}
 use Rattle.rules.proofs.ByteLaws.{same-eq}
 use Rattle.ground.specs.Parts.{part}
-use Rattle.ground.proofs.PartLaws.{part-cons}
+use Rattle.rules.proofs.PartLaws.{part-cons}
 use Rattle.book.specs.declared.Part.{Part}
 use Rattle.enumerations.specs.Lists.{nowhere, isElement, written, sameNames}
 use Rattle.enumerations.specs.Tables.{Entry, seekIn, isEntered, hashFrom, keyOf, slot, cellOf, Sized, nextOf, listOf, hits, Link, Chain, Next, Before, Filled, Gathered}

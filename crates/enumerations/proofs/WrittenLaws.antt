@@ -16,7 +16,7 @@ use Rattle.rules.proofs.Tests.{fail-r}
 use Rattle.enumerations.specs.Lists.{isElement, isOpening}
 use Rattle.enumerations.specs.Standing.{InText, Named, plain, Stands, ElementAt, endOf, InsideBy, ListAt}
 use Rattle.enumerations.proofs.ListLaws.{part-is}
-use Rattle.enumerations.proofs.RunLaws.{bytes-append}
+use Rattle.rules.proofs.GrowLaws.{bytes-append}
 use Rattle.enumerations.proofs.FrameLaws.{inner-records}
 use Rattle.enumerations.proofs.StandLaws.{count}
 

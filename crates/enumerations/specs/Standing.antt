@@ -1,23 +1,26 @@
 -- Where an enumeration stands as records in the bytes s, with its names in the text t.
 use mathlib.Core.Path.{_≡_}
 use mathlib.Core.Bool.{Bool, true, false, cond, not}
-use mathlib.Core.List.{List, _∷_, _++_}
+use mathlib.Core.Option.{none}
+use mathlib.Core.List.{List, [], _∷_, _++_}
 use Prim.Native.Nat.{ℕ, _+_, _-_, _≤_, _<_}
 use lib.ListN.{length, getD, drop}
 use Rattle.rules.specs.Names.{Name}
-use Rattle.rules.specs.Enumerations.{Enum, end, elem, final}
+use Rattle.rules.specs.Symbols.{isNameText}
+use Rattle.rules.specs.Enumerations.{Enum, end, elem, final, twice}
 use Rattle.rules.specs.Book.{bit, openRecord, elementRecords, bytes}
 use Rattle.ground.specs.Parts.{part}
 use Rattle.book.specs.declared.Part.{Part}
 use Rattle.enumerations.specs.Lists.{isElement, isOpening, written}
 
 -- ---- what is said of an enumeration
--- a name is a part of the text, as a record holds it
+-- a name is a part of the text, as a record holds it, and a word that is no reserved word
 pub record InText (t : List ℕ) (n : Name) : Type 0 where
   pub fits : n .offset + length (n .bytes) ≤ length t
   pub there : part t (n .offset) (length (n .bytes)) ≡ n .bytes
   pub low : n .offset < 4294967296
   pub short : length (n .bytes) < 256
+  pub text : isNameText (n .bytes) ≡ true
 
 abbrev pub Named : List ℕ → Enum → Type 0
 Named t (end f) = Unit {0}
@@ -43,6 +46,12 @@ pub record Stands (t s : List ℕ) (e : Enum) (p : ℕ) : Type 0 where
   pub here : drop p s ≡ bytes (openRecord e ∷ elementRecords e) ++ more
   pub named : Named t e
   pub deep : Deep 7 e
+
+-- it can be a base: names in the text, nested at most 8 deep, no element twice
+pub record Kept (t : List ℕ) (e : Enum) : Type 0 where
+  pub named : Named t e
+  pub deep : Deep 7 e
+  pub once : twice e [] ≡ none
 
 -- ---- of its lists
 abbrev pub partOf : Name → Part

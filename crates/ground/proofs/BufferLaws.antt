@@ -1,12 +1,12 @@
 -- Bytes written into a lent buffer, and a book with zeros behind it.
 use mathlib.Core.Path.{_≡_, sym, ap, _∙_}
 use mathlib.Core.List.{List, [], _∷_, _++_, append-assoc, append-nil}
-use Prim.Native.Nat.{ℕ, zero, suc, _+_, _-_, _≤_, _<_}
-use native.Mathlib.Nat.{add-assoc, add-zero, sub-zero, zero-sub, suc-sub-suc}
+use Prim.Native.Nat.{ℕ, _+_, _≤_, _<_}
+use native.Mathlib.Nat.{add-assoc, add-zero, sub-zero}
 use native.Mathlib.Numerals.{add-one}
 use native.Mathlib.Omega.{arith}
-use lib.ListN.{length, take, drop, set, replicate, length-append, length-replicate, take-append-drop}
-use lib.Seq.{length-take-le, take-at, take-append-seam, drop-append-add, drop-drop, append-snoc, paste, take-length, set-split, sets-eq, length-sets}
+use lib.ListN.{length, take, drop, set, replicate, length-append, take-append-drop}
+use lib.Seq.{length-take-le, take-at, drop-append-add, drop-drop, append-snoc, paste, take-length, set-split, sets-eq, length-sets}
 use Rattle.rules.specs.Book.{padded}
 use Rattle.ground.specs.Parts.{splice}
 
@@ -36,29 +36,5 @@ pub paste-done : (l : List ℕ) (i : ℕ) (s : List ℕ) (n : ℕ) → n ≡ len
 paste-done l i s n e = rw (e, take-length s)
 
 -- ---- padded
-pub length-padded : (b : List ℕ) (m : ℕ) → length b ≤ m → length (padded b m) ≡ m
-length-padded b m h = rw (length-append, length-replicate) (omega arith)
-
 pub padded-none : (m : ℕ) → padded [] m ≡ replicate m 0
 padded-none m = rw sub-zero
-
--- the book, out of its buffer
-pub take-padded : (b : List ℕ) (m : ℕ) → take (length b) (padded b m) ≡ b
-take-padded b m = take-append-seam b (replicate (m - length b) 0)
-
-drop-zeros : (n m : ℕ) → drop {A = ℕ} n (replicate m 0) ≡ replicate (m - n) 0
-drop-zeros zero m = rw sub-zero
-drop-zeros (suc n) zero = rw zero-sub
-drop-zeros (suc n) (suc m) = rw suc-sub-suc (drop-zeros n m)
-
--- what is written at the book's end makes the book longer
-pub splice-padded : (b vs : List ℕ) (m : ℕ) → splice (padded b m) (length b) vs ≡ padded (b ++ vs) m
-splice-padded b vs m =
-    let z : List ℕ = replicate (m - length b) 0 in
-    let k : m - length b - length vs ≡ m - length (b ++ vs) = rw (length-append b vs) (omega arith) in
-    ap (λ (x : List ℕ). x ++ vs ++ drop (length b + length vs) (b ++ z)) (take-append-seam b z)
-    ∙ ap (λ (x : List ℕ). b ++ vs ++ x) (drop-append-add b z (length vs) ∙ drop-zeros (length vs) (m - length b) ∙ ap (λ (j : ℕ). replicate j 0) k)
-
--- the same of a buffer at hand
-pub padded-more : (l b vs : List ℕ) (i m : ℕ) → l ≡ padded b m → i ≡ length b → splice l i vs ≡ padded (b ++ vs) m
-padded-more l b vs i m el ei = rw (el, ei) (splice-padded b vs m)

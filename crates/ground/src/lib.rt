@@ -4,7 +4,7 @@ ghost use mathlib.Core.List.{[]};
 ghost use Prim.Native.Nat.{_+_, _≤_, _<_};
 ghost use lib.ListN.{length};
 ghost use Rattle.rules.specs.Bytes.{same};
-ghost use Rattle.rules.specs.Book.{low, twos, padded};
+ghost use Rattle.rules.specs.Book.{lowFirst, twos, padded};
 ghost use Rattle.rules.specs.Show.{read4};
 ghost use Rattle.ground.specs.Parts.{part, splice};
 
@@ -79,7 +79,7 @@ pub fn put(out: &mut [u8], at: usize, src: &[u8])
 
 // ---- numbers, their low byte first
 pub fn low4(n: usize) -> [u8; 4]
-    ensures { λ r. ⌜ r ≡ low 4 n ⌝ }
+    ensures { λ r. ⌜ r ≡ lowFirst 4 n ⌝ }
 {
     let b = n / 256;
     let c = b / 256;
@@ -104,7 +104,7 @@ fn bits(v: i64) -> u64
 
 // In two's complement.
 pub fn low8(v: i64) -> [u8; 8]
-    ensures { λ r. ⌜ r ≡ low 8 (twos v) ⌝ }
+    ensures { λ r. ⌜ r ≡ lowFirst 8 (twos v) ⌝ }
 {
     let a = bits(v);
     let b = a / 256;

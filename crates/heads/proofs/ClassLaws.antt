@@ -7,13 +7,15 @@ use Prim.Native.Nat.{ℕ, _+_, _*_, _≤_, _<_}
 use native.Mathlib.Omega.{arith}
 use lib.ListN.{length}
 use borrow.Author.Tests.{lt-ltb}
+use Rattle.state.proofs.SharedLaws.{extends-positive}
 use Rattle.rules.specs.Names as R
 use Rattle.rules.specs.Grammar as G
 use Rattle.rules.specs.Units as U
 use Rattle.rules.specs.Declarations.{Attribute, Def, Sort, State, sortNumber, isFound, atHand, known, attributesOf, nameCount}
 use Rattle.rules.specs.Book.{bytes, flags, baseNumber, headRecords, book}
 use Rattle.rules.specs.Judge as J
-use Rattle.rules.specs.Judge.{Rule, ok, refused, rule, unless, judge, hasTwice, isAbstract, isFinal, orNoDef, basesOf, resolved, classSort, extendsRules, classRules, judgeClass, newClass, opened}
+use Rattle.rules.specs.Units.{classSort}
+use Rattle.rules.specs.Judge.{Rule, ok, refused, rule, firstBrokenOr, judge, hasTwice, isAbstract, isFinal, orNoDef, basesOf, resolved, extendsRules, classRules, newClass, opened}
 use Rattle.ground.specs.Parts.{splice}
 use Rattle.ground.specs.declared.Name.{Name}
 use Rattle.book.specs.Forms.{headForm}
@@ -31,7 +33,7 @@ use Rattle.scope.specs.Scope.{FairState}
 use Rattle.scope.proofs.KeepLaws.{judge-fair}
 use Rattle.types.specs.declared.Ruling.{Ruling}
 use Rattle.types.specs.Rulings.{rulingOf, judgedBy}
-use Rattle.types.proofs.RulingLaws.{Positive, unless-by}
+use Rattle.types.proofs.RulingLaws.{first-broken-by}
 use Rattle.state.specs.declared.State as code
 use Rattle.state.specs.declared.Extension.{Extension}
 use Rattle.state.specs.declared.Judged as code-judged
@@ -57,10 +59,6 @@ broken-on r i j h = rw (lt-ltb 0 (r .number) h)
 whole-on : (r : Ruling) (i : J.Judged) → r .number ≡ 0 → judgedBy r i ≡ i
 whole-on r i h = rw (h)
 
-extends-positive : (c : Sort) (b : Option G.Reference) (o : Option Def) → Positive (extendsRules c b o)
-unfolding extendsRules
-extends-positive c b o = (omega arith, (omega arith, (omega arith, tt)))
-
 module _ (s : State) (k : Bool) (n : R.Name) (p : List (List ℕ)) (b : Option G.Reference) where
   abbrev mixed : Bool
   mixed = hasTwice p || (isAbstract p && isFinal p)
@@ -73,9 +71,9 @@ module _ (s : State) (k : Bool) (n : R.Name) (p : List (List ℕ)) (b : Option G
   ruled-taken r er ep e = record { ruling = λ x. rw (e, er, ep); base = λ z. absurd (omega arith) }
 
   module _ (free : isFound (atHand s (n .bytes)) ≡ false) where
-    rest : (x : State) (u : Ruling) → u ≡ rulingOf among → unless (classRules s (classSort k) n p b (resolved s b)) x ≡ judgedBy u (cond mixed (refused 13 (n .offset)) (ok x))
+    rest : (x : State) (u : Ruling) → u ≡ rulingOf among → firstBrokenOr (classRules s (classSort k) n p b (resolved s b)) x ≡ judgedBy u (cond mixed (refused 13 (n .offset)) (ok x))
     unfolding classRules
-    rest x u e = rw (free, e) (unless-by among (rule 13 (n .offset) mixed ∷ []) x (extends-positive (classSort k) b (resolved s b)))
+    rest x u e = rw (free, e) (first-broken-by among (rule 13 (n .offset) mixed ∷ []) x (extends-positive (classSort k) b (resolved s b)))
 
     pub ruled-extends : (r : Extension) → r .ruling ≡ rulingOf among → 0 < r .ruling .number → ClassRuled s k n p b r
     ruled-extends r e h = record { ruling = λ x. rest x (r .ruling) e ∙ broken-on (r .ruling) (cond mixed (refused 13 (n .offset)) (ok x)) (ok x) h; base = λ z. absurd (omega arith) }
@@ -166,10 +164,17 @@ module _ (t : List ℕ) (s : State) (st : code.State) (o x z y ns ps : List ℕ)
 pub opened-self : (st st' : code.State) (i : ℕ) → st' ≡ openedBy st i → st' ≡ openedBy st (st' .«in_hand»)
 opened-self st st' i e = e ∙ ap (openedBy st) (sym (ap (λ (u : code.State). u .«in_hand») e))
 
+-- a class or a structure is told by its sort
+same-sort : (k j : Bool) → classSort k ≡ classSort j → k ≡ j
+same-sort true true e = refl
+same-sort true false e = let z : _≡_ {A = ℕ} 0 1 = cc in absurd (omega arith)
+same-sort false true e = let z : _≡_ {A = ℕ} 0 1 = cc in absurd (omega arith)
+same-sort false false e = refl
+
 -- ---- the answer
-module _ (t : List ℕ) (s : State) (k : Bool) (n : R.Name) (p : List (List ℕ)) (b : Option G.Reference) (st : code.State) (o x z y ns ps rs : List ℕ) (head : ClassHead) (K : Keeps t s st o x z y ns ps) (c : Comes t s (U.class k n p b) (Class head) rs) where
+module _ (t : List ℕ) (s : State) (k : Bool) (n : R.Name) (p : List (List ℕ)) (b : Option G.Reference) (st : code.State) (o x z y ns ps rs : List ℕ) (head : ClassHead) (K : Keeps t s st o x z y ns ps) (c : Comes t s (U.class (classSort k) n p b) (Class head) rs) where
   pub class-is : head ≡ headOf k n p b
-  class-is = let e = c .is in cc
+  class-is = let (j, e, f) = c .is in let g : head ≡ headOf j n p b = cc in g ∙ ap (λ (i : Bool). headOf i n p b) (sym (same-sort k j e))
 
   pub class-open : s .open-class ≡ none
   class-open = none-open s (c .stands)
@@ -178,29 +183,29 @@ module _ (t : List ℕ) (s : State) (k : Bool) (n : R.Name) (p : List (List ℕ)
   class-inside = let e : head .name ≡ nameCut n = ap (λ (u : ClassHead). u .name) class-is in rw e (c .fair .0 .fits)
 
   module _ (r : Extension) (u : ClassRuled s k n p b r) where
-    pub class-broken : (a : code-judged.Judged) (o' x' ns' ps' : List ℕ) → 0 < r .ruling .number → a ≡ Refused (r .ruling .number) (r .ruling .place) → JudgedAs t (verdict s (U.class k n p b) o) st a o' x' z y ns' ps'
-    unfolding judge judgeClass
+    pub class-broken : (a : code-judged.Judged) (o' x' ns' ps' : List ℕ) → 0 < r .ruling .number → a ≡ Refused (r .ruling .number) (r .ruling .place) → JudgedAs t (verdict s (U.class (classSort k) n p b) o) st a o' x' z y ns' ps'
+    unfolding judge
     class-broken a o' x' ns' ps' h ea =
-        let j : judge s (U.class k n p b) ≡ refused (r .ruling .number) (r .ruling .place) = u .ruling (opened s (newClass s (classSort k) n p (resolved s b))) ∙ rw (lt-ltb 0 (r .ruling .number) h) in
-        judged-refused t s (U.class k n p b) o st a o' x' z y ns' ps' (r .ruling .number) (r .ruling .place) j ea
+        let j : judge s (U.class (classSort k) n p b) ≡ refused (r .ruling .number) (r .ruling .place) = u .ruling (opened s (newClass s (classSort k) n p (resolved s b))) ∙ rw (lt-ltb 0 (r .ruling .number) h) in
+        judged-refused t s (U.class (classSort k) n p b) o st a o' x' z y ns' ps' (r .ruling .number) (r .ruling .place) j ea
 
     module _ (h : r .ruling .number ≡ 0) (m : length o ≤ 65535) where
-      class-judged : judge s (U.class k n p b) ≡ ok (opened s (newClass s (classSort k) n p (resolved s b)))
-      unfolding judge judgeClass
+      class-judged : judge s (U.class (classSort k) n p b) ≡ ok (opened s (newClass s (classSort k) n p (resolved s b)))
+      unfolding judge
       class-judged = u .ruling (opened s (newClass s (classSort k) n p (resolved s b))) ∙ whole-on (r .ruling) (ok (opened s (newClass s (classSort k) n p (resolved s b)))) h
 
       pub class-fair : FairState t (opened s (newClass s (classSort k) n p (resolved s b)))
-      class-fair = judge-fair t s (opened s (newClass s (classSort k) n p (resolved s b))) (U.class k n p b) (c .fair) (c .stands) (K .fair) class-judged
+      class-fair = judge-fair t s (opened s (newClass s (classSort k) n p (resolved s b))) (U.class (classSort k) n p b) (c .fair) (c .stands) (K .fair) class-judged
 
-      pub class-over : (a : code-judged.Judged) (o' x' ns' ps' : List ℕ) → length o < st .used + 11 → a ≡ Refused 19 (head .name .offset) → JudgedAs t (verdict s (U.class k n p b) o) st a o' x' z y ns' ps'
+      pub class-over : (a : code-judged.Judged) (o' x' ns' ps' : List ℕ) → length o < st .used + 11 → a ≡ Refused 19 (head .name .offset) → JudgedAs t (verdict s (U.class (classSort k) n p b) o) st a o' x' z y ns' ps'
       unfolding newClass
       class-over a o' x' ns' ps' w ea =
           let d : Def = newClass s (classSort k) n p (resolved s b) in
           let l : length (book (opened s d)) ≡ length (book s) + length (bytes (headRecords (classSort k) d)) = book-grown s (opened s d) (headRecords (classSort k) d) (records-opened s d class-open) in
           let l' : length (bytes (headRecords (classSort k) d)) ≡ 11 = ap length (head-bytes (classSort k) k d refl refl) in
           let us = K .used in
-          judged-over t s (U.class k n p b) o st a o' x' z y ns' ps' (opened s d) class-judged m (omega arith) (ea ∙ ap (λ (q : ClassHead). Refused 19 (q .name .offset)) class-is)
+          judged-over t s (U.class (classSort k) n p b) o st a o' x' z y ns' ps' (opened s d) class-judged m (omega arith) (ea ∙ ap (λ (q : ClassHead). Refused 19 (q .name .offset)) class-is)
 
       pub class-fine : (a : code-judged.Judged) (o' x' ns' ps' : List ℕ) (st' : code.State) (i : ℕ) → st .used + 11 ≤ length o → a ≡ Fine st' → st' ≡ openedBy st i → Keeps t (opened s (newClass s (classSort k) n p (resolved s b))) st' o' x' z y ns' ps'
-          → JudgedAs t (verdict s (U.class k n p b) o) st a o' x' z y ns' ps'
-      class-fine a o' x' ns' ps' st' i w ea es g = judged-fine t s (U.class k n p b) o st a o' x' z y ns' ps' (opened s (newClass s (classSort k) n p (resolved s b))) st' class-judged m (rw es w) ea g (rw es (omega arith))
+          → JudgedAs t (verdict s (U.class (classSort k) n p b) o) st a o' x' z y ns' ps'
+      class-fine a o' x' ns' ps' st' i w ea es g = judged-fine t s (U.class (classSort k) n p b) o st a o' x' z y ns' ps' (opened s (newClass s (classSort k) n p (resolved s b))) st' class-judged m (rw es w) ea g (rw es (omega arith))

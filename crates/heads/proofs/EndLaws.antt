@@ -12,7 +12,8 @@ use Rattle.rules.specs.Units as U
 use Rattle.rules.specs.Declarations as D
 use Rattle.rules.specs.Declarations.{Def, State, known, endTopic}
 use Rattle.rules.specs.Book.{book}
-use Rattle.rules.specs.Judge.{ok, refused, judge, declare, inTopic, judgeClose}
+use Rattle.rules.specs.Judge as J
+use Rattle.rules.specs.Judge.{ok, refused, firstBrokenOr, judge, declare, inTopic, openName, endRules, afterClose}
 use Rattle.rules.proofs.Tests.{not-both}
 use Rattle.ground.specs.Parts.{splice}
 use Rattle.ground.specs.declared.Name.{Name}
@@ -77,12 +78,12 @@ module _ (t : List ℕ) (s : State) (st : code.State) (o x z y ns ps : List ℕ)
       let wr : Written (book s) (16 ∷ []) o' = rw (eo, ev) (written-splice (book s) (16 ∷ []) o (st .used) (k .used) (k .written) w) in
       rw (es, ex) (keeps-closed t s st o x z y ns ps k c e o' z' (omega arith) wr ch f)
 
-  pub topic-ended : s .open-class ≡ none → (m : Name) (st' : code.State) → st' ≡ inTopicBy (grownBy st 1 1 0) m 0 → (v o' : List ℕ) → v ≡ 3 ∷ [] → o' ≡ splice o (st .used) v → st .used + 1 ≤ length o
-      → FairState t (inTopic (declare s endTopic) none) → Keeps t (inTopic (declare s endTopic) none) st' o' x z y ns ps
-  topic-ended e m st' es v o' ev eo w f =
+  pub topic-ended : s .open-class ≡ none → (d : R.Name) (m : Name) (st' : code.State) → st' ≡ inTopicBy (grownBy st 1 1 0) m 0 → (v o' : List ℕ) → v ≡ 3 ∷ [] → o' ≡ splice o (st .used) v → st .used + 1 ≤ length o
+      → FairState t (inTopic (declare s (endTopic d)) none) → Keeps t (inTopic (declare s (endTopic d)) none) st' o' x z y ns ps
+  topic-ended e d m st' es v o' ev eo w f =
       let wr : Written (book s) (3 ∷ []) o' = rw (eo, ev) (written-splice (book s) (3 ∷ []) o (st .used) (k .used) (k .written) w) in
-      let g = keeps-ended t s st o x z y ns ps k o' e wr f in
-      rw es (keeps-in t (declare s endTopic) (grownBy st 1 1 0) o' x z y ns ps g none m 0 refl refl)
+      let g = keeps-ended t s st o x z y ns ps k d o' e wr f in
+      rw es (keeps-in t (declare s (endTopic d)) (grownBy st 1 1 0) o' x z y ns ps g none m 0 refl refl f)
 
 -- ---- the answer
 module _ (t : List ℕ) (s : State) (n : R.Name) (st : code.State) (o x z y ns ps rs : List ℕ) (name : Name) (k : Keeps t s st o x z y ns ps) (c : Comes t s (U.close n) (Close name) rs) (m : length o ≤ 65535) where
@@ -106,20 +107,22 @@ module _ (t : List ℕ) (s : State) (n : R.Name) (st : code.State) (o x z y ns p
     alike : (v : Bool) → v ≡ same (bytesOf t name) (bytesOf t own) → same (n .bytes) (d .bytes) ≡ v
     alike v e = sym (e ∙ rw (close-bytes, eo))
 
-  unfold-close : judge s (U.close n) ≡ judgeClose s n (s .open-class) (s .topic)
+  -- judging it, by what is open
+  abbrev judgedWith : Option Def → Option Def → J.Judged
+  judgedWith c t = firstBrokenOr (endRules n (openName s c t)) (afterClose s c t)
+
+  unfold-close : judge s (U.close n) ≡ judgedWith (s .open-class) (s .topic)
   unfolding judge
   unfold-close = refl
 
   module _ (own : Name) (d : Def) (eo : bytesOf t own ≡ d .name .bytes) (ec : s .open-class ≡ some d) (v : Bool) (ev : v ≡ same (bytesOf t name) (bytesOf t own)) where
-    class-at : judge s (U.close n) ≡ judgeClose s n (some d) (s .topic)
-    class-at = unfold-close ∙ ap (λ (u : Option Def). judgeClose s n u (s .topic)) ec
+    class-at : judge s (U.close n) ≡ judgedWith (some d) (s .topic)
+    class-at = unfold-close ∙ ap (λ (u : Option Def). judgedWith u (s .topic)) ec
 
     class-closed : v ≡ true → judge s (U.close n) ≡ ok (declare s (D.def d))
-    unfolding judgeClose
     class-closed e = class-at ∙ rw (alike own (d .name) eo v ev, e)
 
     pub close-class-other : (r : code-judged.Judged) (o' x' z' : List ℕ) → v ≡ false → r ≡ Refused 8 (name .offset) → JudgedAs t (verdict s (U.close n) o) st r o' x' z' y ns ps
-    unfolding judgeClose
     close-class-other r o' x' z' e er =
         let j : judge s (U.close n) ≡ refused 8 (n .offset) = class-at ∙ rw (alike own (d .name) eo v ev, e) in
         judged-refused t s (U.close n) o st r o' x' z' y ns ps 8 (n .offset) j (close-place r 8 er)
@@ -136,50 +139,46 @@ module _ (t : List ℕ) (s : State) (n : R.Name) (st : code.State) (o x z y ns p
     close-class-fine r o' x' z' st' e w er es g = judged-fine t s (U.close n) o st r o' x' z' y ns ps (declare s (D.def d)) st' (class-closed e) m (rw es w) er (g (close-fair (declare s (D.def d)) (class-closed e))) (rw es (omega arith))
 
   module _ (ec : s .open-class ≡ none) where
-    body-at : judge s (U.close n) ≡ judgeClose s n none (s .topic)
-    body-at = unfold-close ∙ ap (λ (u : Option Def). judgeClose s n u (s .topic)) ec
+    body-at : judge s (U.close n) ≡ judgedWith none (s .topic)
+    body-at = unfold-close ∙ ap (λ (u : Option Def). judgedWith u (s .topic)) ec
 
     module _ (own : Name) (d : Def) (eo : bytesOf t own ≡ d .name .bytes) (et : s .topic ≡ some d) (v : Bool) (ev : v ≡ same (bytesOf t name) (bytesOf t own)) where
-      topic-at : judge s (U.close n) ≡ judgeClose s n none (some d)
-      topic-at = body-at ∙ ap (judgeClose s n none) et
+      topic-at : judge s (U.close n) ≡ judgedWith none (some d)
+      topic-at = body-at ∙ ap (judgedWith none) et
 
-      topic-closed : v ≡ true → judge s (U.close n) ≡ ok (inTopic (declare s endTopic) none)
-      unfolding judgeClose
+      topic-closed : v ≡ true → judge s (U.close n) ≡ ok (inTopic (declare s (endTopic (d .name))) none)
       topic-closed e = topic-at ∙ rw (alike own (d .name) eo v ev, e)
 
       pub close-topic-other : (r : code-judged.Judged) (o' : List ℕ) → v ≡ false → r ≡ Refused 8 (name .offset) → JudgedAs t (verdict s (U.close n) o) st r o' x z y ns ps
-      unfolding judgeClose
       close-topic-other r o' e er =
           let j : judge s (U.close n) ≡ refused 8 (n .offset) = topic-at ∙ rw (alike own (d .name) eo v ev, e) in
           judged-refused t s (U.close n) o st r o' x z y ns ps 8 (n .offset) j (close-place r 8 er)
 
       pub close-topic-over : (r : code-judged.Judged) (o' : List ℕ) → v ≡ true → length o < st .used + 1 → r ≡ Refused 19 (name .offset) → JudgedAs t (verdict s (U.close n) o) st r o' x z y ns ps
       close-topic-over r o' e w er =
-          let l : length (book (declare s endTopic)) ≡ length (book s) + 1 = book-grown s (declare s endTopic) ((3 ∷ []) ∷ []) (records-declared s endTopic ec) in
+          let l : length (book (declare s (endTopic (d .name)))) ≡ length (book s) + 1 = book-grown s (declare s (endTopic (d .name))) ((3 ∷ []) ∷ []) (records-declared s (endTopic (d .name)) ec) in
           let u = k .used in
-          judged-over t s (U.close n) o st r o' x z y ns ps (inTopic (declare s endTopic) none) (topic-closed e) m (omega arith) (close-place r 19 er)
+          judged-over t s (U.close n) o st r o' x z y ns ps (inTopic (declare s (endTopic (d .name))) none) (topic-closed e) m (omega arith) (close-place r 19 er)
 
       pub close-topic-fine : (r : code-judged.Judged) (o' : List ℕ) (st' : code.State) → v ≡ true → st .used + 1 ≤ length o → r ≡ Fine st' → st' ≡ inTopicBy (grownBy st 1 1 0) own 0 → (w : List ℕ) → w ≡ 3 ∷ [] → o' ≡ splice o (st .used) w
           → JudgedAs t (verdict s (U.close n) o) st r o' x z y ns ps
       close-topic-fine r o' st' e w er es a ea eo' =
-          let f = close-fair (inTopic (declare s endTopic) none) (topic-closed e) in
-          judged-fine t s (U.close n) o st r o' x z y ns ps (inTopic (declare s endTopic) none) st' (topic-closed e) m (rw es w) er (topic-ended t s st o x z y ns ps k ec own st' es a o' ea eo' w f) (rw es (omega arith))
+          let f = close-fair (inTopic (declare s (endTopic (d .name))) none) (topic-closed e) in
+          judged-fine t s (U.close n) o st r o' x z y ns ps (inTopic (declare s (endTopic (d .name))) none) st' (topic-closed e) m (rw es w) er (topic-ended t s st o x z y ns ps k ec (d .name) own st' es a o' ea eo' w f) (rw es (omega arith))
 
     module _ (et : s .topic ≡ none) (v : Bool) (ev : v ≡ same (bytesOf t name) (bytesOf t (st .model))) where
       model-bytes : bytesOf t (st .model) ≡ s .model .bytes
       model-bytes = ap (λ (q : R.Name). q .bytes) (k .model .named)
 
-      model-at : judge s (U.close n) ≡ judgeClose s n none none
-      model-at = body-at ∙ ap (judgeClose s n none) et
+      model-at : judge s (U.close n) ≡ judgedWith none none
+      model-at = body-at ∙ ap (judgedWith none) et
 
       pub close-model-other : (r : code-judged.Judged) (o' x' z' : List ℕ) → v ≡ false → r ≡ Refused 8 (name .offset) → JudgedAs t (verdict s (U.close n) o) st r o' x' z' y ns ps
-      unfolding judgeClose
       close-model-other r o' x' z' e er =
           let j : judge s (U.close n) ≡ refused 8 (n .offset) = model-at ∙ rw (alike (st .model) (s .model) model-bytes v ev, e) in
           judged-refused t s (U.close n) o st r o' x' z' y ns ps 8 (n .offset) j (close-place r 8 er)
 
       pub close-model-fine : (r : code-judged.Judged) → v ≡ true → r ≡ Fine st → JudgedAs t (verdict s (U.close n) o) st r o x z y ns ps
-      unfolding judgeClose
       close-model-fine r e er =
           let j : judge s (U.close n) ≡ ok s = model-at ∙ rw (alike (st .model) (s .model) model-bytes v ev, e) in
           judged-fine t s (U.close n) o st r o x z y ns ps s st j m (k .within) er k (omega arith)

@@ -12,17 +12,18 @@ use Rattle.rules.specs.Bytes.{ascii, same}
 use Rattle.rules.specs.Names as R
 use Rattle.rules.specs.Symbols as S
 use Rattle.rules.specs.Units as U
+use Rattle.rules.specs.Units.{Strings}
 use Rattle.rules.specs.Declarations as D
 use Rattle.rules.specs.Declarations.{Def, State, isFound, atHand, known}
 use Rattle.rules.specs.Book.{bytes, nameRecord, declRecords, book}
 use Rattle.rules.specs.Judge as J
-use Rattle.rules.specs.Judge.{ok, refused, judge, declare, inTopic, begun, newTopic, judgeTopic}
-use Rattle.rules.specs.Check.{nothing, capacity}
+use Rattle.rules.specs.Judge.{ok, refused, judge, declare, inTopic, begun, newTopic}
+use Rattle.rules.specs.Check.{lent, capacity}
 use Rattle.rules.proofs.Tests.{is-false}
 use Rattle.rules.proofs.ByteLaws.{same-eq}
 use Rattle.ground.specs.Parts.{part, splice}
 use Rattle.ground.specs.declared.Name.{Name}
-use Rattle.ground.proofs.PartLaws.{part-cons, length-part}
+use Rattle.rules.proofs.PartLaws.{part-cons, length-part}
 use Rattle.book.specs.Forms.{nameForm}
 use Rattle.enumerations.specs.Standing.{InText}
 use Rattle.names.specs.declared.NewDefinition.{NewDefinition}
@@ -89,8 +90,8 @@ module _ (t : List ℕ) (s : State) (v : S.Symbol) (st : code.State) (o x z y ns
   unfolding judge
   header-fine r er e =
       let q : same (v .bytes) (ascii "2.4") ≡ true = rw (← header-bytes) (sym e) in
-      let f : verdict nothing (U.header v) o ≡ ok nothing = rw (q, le-ltb (capacity (length o)) 0 (omega arith)) in
-      let g : verdict s (U.header v) o ≡ ok s = rw (c .stands) f in
+      let b : length (book s) ≡ 0 = rw (c .stands .decls, c .stands .open-class) in
+      let g : verdict s (U.header v) o ≡ ok s = rw (q, le-ltb (capacity (lent (length o))) (length (book s)) (omega arith)) in
       subst (λ (j : J.Judged). JudgedAs t j st r o x z y ns ps) (sym g) (st, er, k, omega arith)
 
   pub header-other : (r : code-judged.Judged) → r ≡ Refused 7 (name .offset) → false ≡ same (bytesOf t name) (ascii "2.4") → JudgedAs t (verdict s (U.header v) o) st r o x z y ns ps
@@ -101,32 +102,32 @@ module _ (t : List ℕ) (s : State) (v : S.Symbol) (st : code.State) (o x z y ns
       judged-refused t s (U.header v) o st r o x z y ns ps 7 (v .place) j (er ∙ ap (λ (n : Name). Refused 7 (n .offset)) header-is)
 
 -- ---- the model
-module _ (t : List ℕ) (s : State) (n : R.Name) (st : code.State) (o x z y ns ps rs : List ℕ) (head : ModelHead) (k : Keeps t s st o x z y ns ps) (c : Comes t s (U.model n) (Model head) rs) (m : length o ≤ 65535) where
+module _ (t : List ℕ) (s : State) (n : R.Name) (q : Strings) (st : code.State) (o x z y ns ps rs : List ℕ) (head : ModelHead) (k : Keeps t s st o x z y ns ps) (c : Comes t s (U.model n q) (Model head) rs) (m : length o ≤ 65535) where
   model-is : head .name ≡ nameCut n
-  model-is = let (h, e, f) = c .is in let g : head ≡ h = cc in ap (λ (x : ModelHead). x .name) g ∙ f
+  model-is = let (h, e, f, a, v) = c .is in let g : head ≡ h = cc in ap (λ (x : ModelHead). x .name) g ∙ f
 
-  model-judged : judge s (U.model n) ≡ ok (begun n)
+  model-judged : judge s (U.model n q) ≡ ok (begun n q)
   unfolding judge
   model-judged = refl
 
-  model-fair : FairState t (begun n)
-  model-fair = judge-fair t s (begun n) (U.model n) (c .fair) (c .stands) (k .fair) model-judged
+  model-fair : FairState t (begun n q)
+  model-fair = judge-fair t s (begun n q) (U.model n q) (c .fair) (c .stands) (k .fair) model-judged
 
-  start : Keeps t nothing st o x z y ns ps
-  start = subst (λ (u : State). Keeps t u st o x z y ns ps) (c .stands) k
+  empty : book s ≡ []
+  empty = rw (c .stands .decls, c .stands .open-class)
 
   pub model-fine : (v o' : List ℕ) (st' : code.State) (r : code-judged.Judged) → st .used + 6 ≤ length o → v ≡ nameForm 1 (head .name .offset) (head .name .len) → o' ≡ splice o (st .used) v → st' ≡ begunBy st (head .name) → r ≡ Fine st'
-      → JudgedAs t (verdict s (U.model n) o) st r o' x z y ns ps
+      → JudgedAs t (verdict s (U.model n q) o) st r o' x z y ns ps
   model-fine v o' st' r w ev eo es er =
       let a : v ≡ nameRecord 1 n = ev ∙ ap (λ (q : Name). nameForm 1 (q .offset) (q .len)) model-is in
-      let b : Written [] (nameRecord 1 n) o' = rw (eo, a) (written-splice [] (nameRecord 1 n) o (st .used) (start .used) (start .written) w) in
-      let g : Keeps t (begun n) (begunBy st (head .name)) o' x z y ns ps = keeps-begun t st o x z y ns ps start n (head .name) o' (rw model-is (calls-cut t n (c .fair))) b model-fair in
-      judged-fine t s (U.model n) o st r o' x z y ns ps (begun n) st' model-judged m (rw es w) er (rw es g) (rw es (omega arith))
+      let b : Written [] (nameRecord 1 n) o' = rw (eo, a) (written-splice [] (nameRecord 1 n) o (st .used) (k .used ∙ ap length empty) (k .written ∙ empty) w) in
+      let g : Keeps t (begun n q) (begunBy st (head .name)) o' x z y ns ps = keeps-begun t s st o x z y ns ps k (c .stands) n q (head .name) o' (rw model-is (calls-cut t n (c .fair .0))) b model-fair in
+      judged-fine t s (U.model n q) o st r o' x z y ns ps (begun n q) st' model-judged m (rw es w) er (rw es g) (rw es (omega arith))
 
-  pub model-over : (r : code-judged.Judged) (o' : List ℕ) → length o < st .used + 6 → r ≡ Refused 19 (head .name .offset) → JudgedAs t (verdict s (U.model n) o) st r o' x z y ns ps
+  pub model-over : (r : code-judged.Judged) (o' : List ℕ) → length o < st .used + 6 → r ≡ Refused 19 (head .name .offset) → JudgedAs t (verdict s (U.model n q) o) st r o' x z y ns ps
   model-over r o' w er =
-      let u = start .used in
-      judged-over t s (U.model n) o st r o' x z y ns ps (begun n) model-judged m (omega arith) (er ∙ ap (λ (q : Name). Refused 19 (q .offset)) model-is)
+      let u = k .used ∙ ap length empty in
+      judged-over t s (U.model n q) o st r o' x z y ns ps (begun n q) model-judged m (omega arith) (er ∙ ap (λ (q : Name). Refused 19 (q .offset)) model-is)
 
 -- ---- heads of topics
 pub none-open : (s : State) → isFound (s .open-class) ≡ false → s .open-class ≡ none
@@ -169,9 +170,9 @@ topic-declared t s st o x z y ns ps k n m em h c st' es v o' ev eo w x' ex wx z'
     def-row t (book s') (known (s .decls)) (attributesIn s) (st .count + 1) d (topicDefinition st m) tl (rw (bk, k .used) (stands-new (book s) (nameRecord 2 n ∷ []) [])) in
     let rw' : row 10 x' (st .count + 1) ≡ definitionRow (topicDefinition st m) = rw ex (row-written 10 x (definitionRow (topicDefinition st m)) (st .count + 1) refl (omega arith)) in
     let g : Keeps t s' (declaredBy st 6 1 0) o' x' z' y ns ps =
-    keeps-declared t s st o x z y ns ps k d o' x' z' 6 1 0 c refl refl refl refl b (rw ex (agree-def x (definitionRow (topicDefinition st m)) (st .count) (omega arith))) (rw rw' dr) ch (record { defs = f .defs; open-class = tt }) in
+    keeps-declared t s st o x z y ns ps k d o' x' z' 6 1 0 c refl refl refl refl b (rw ex (agree-def x (definitionRow (topicDefinition st m)) (st .count) (omega arith))) (rw rw' dr) ch (record { defs = f .defs; open-class = tt; names = f .names; open-names = tt; decls = f .decls; topic = k .fair .topic }) in
     let nu = k .numbered in
-    let i = keeps-in t s' (declaredBy st 6 1 0) o' x' z' y ns ps g (some d) m (st .records + 1) refl (omega arith, rw em (calls-cut t n h), omega arith) in
+    let i = keeps-in t s' (declaredBy st 6 1 0) o' x' z' y ns ps g (some d) m (st .records + 1) refl (omega arith, rw em (calls-cut t n h), omega arith) f in
     rw es i
 
 module _ (t : List ℕ) (s : State) (n : R.Name) (st : code.State) (o x z y ns ps rs : List ℕ) (name : Name) (k : Keeps t s st o x z y ns ps) (c : Comes t s (U.topic n) (Topic name) rs) where
@@ -191,7 +192,7 @@ module _ (t : List ℕ) (s : State) (n : R.Name) (st : code.State) (o x z y ns p
   topic-place r f e = e ∙ ap (λ (q : Name). f (q .offset)) topic-is
 
   pub topic-taken : (r : code-judged.Judged) (o' x' z' : List ℕ) → r ≡ Refused 9 (name .offset) → true ≡ isFound (atHand s (bytesOf t name)) → JudgedAs t (verdict s (U.topic n) o) st r o' x' z' y ns ps
-  unfolding judge judgeTopic
+  unfolding judge
   topic-taken r o' x' z' er e =
       let q : isFound (atHand s (n .bytes)) ≡ true = rw (← topic-bytes) (sym e) in
       let j : judge s (U.topic n) ≡ refused 9 (n .offset) = rw q in
@@ -199,7 +200,7 @@ module _ (t : List ℕ) (s : State) (n : R.Name) (st : code.State) (o x z y ns p
 
   module _ (m : length o ≤ 65535) (e : false ≡ isFound (atHand s (bytesOf t name))) where
     topic-judged : judge s (U.topic n) ≡ ok (inTopic (declare s (D.def (newTopic s n))) (some (newTopic s n)))
-    unfolding judge judgeTopic
+    unfolding judge
     topic-judged = let q : isFound (atHand s (n .bytes)) ≡ false = rw (← topic-bytes) (sym e) in rw q
 
     pub topic-over : (r : code-judged.Judged) (o' x' z' : List ℕ) → length o < st .used + 6 → r ≡ Refused 19 (name .offset) → JudgedAs t (verdict s (U.topic n) o) st r o' x' z' y ns ps

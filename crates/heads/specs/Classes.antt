@@ -9,7 +9,8 @@ use Rattle.rules.specs.Grammar.{Reference}
 use Rattle.rules.specs.Declarations as D
 use Rattle.rules.specs.Declarations.{Sort, sortNumber, Def, State, known}
 use Rattle.rules.specs.Book.{flags, baseNumber}
-use Rattle.rules.specs.Judge.{ok, unless, basesOf, resolved, classSort, classRules}
+use Rattle.rules.specs.Units.{classSort}
+use Rattle.rules.specs.Judge.{ok, firstBrokenOr, basesOf, resolved, classRules}
 use Rattle.book.specs.Forms.{headForm}
 use Rattle.names.specs.declared.NewDefinition.{NewDefinition}
 use Rattle.names.specs.Index.{entry}
@@ -48,5 +49,5 @@ classBytes h o = headForm (kindOf (classSort (h .structure))) (h .name .offset) 
 
 -- the rule that a head breaks, if one; where none, the base
 pub record ClassRuled (s : State) (k : Bool) (n : Name) (p : List (List ℕ)) (b : Option Reference) (r : Extension) : Type 0 where
-  pub ruling : (x : State) → unless (classRules s (classSort k) n p b (resolved s b)) x ≡ judgedBy (r .ruling) (ok x)
+  pub ruling : (x : State) → firstBrokenOr (classRules s (classSort k) n p b (resolved s b)) x ≡ judgedBy (r .ruling) (ok x)
   pub base : r .ruling .number ≡ 0 → entry (known (s .decls)) (r .base) ≡ resolved s b

@@ -21,7 +21,8 @@ ghost use Rattle.rules.specs.Grammar as G;
 ghost use Rattle.rules.specs.Units as U;
 ghost use Rattle.rules.specs.Declarations as D;
 ghost use Rattle.rules.specs.Declarations.{Def, known, sortNumber};
-ghost use Rattle.rules.specs.Judge.{declare, opened, inTopic, newTopic, newClass, classSort, resolved};
+ghost use Rattle.rules.specs.Units.{classSort};
+ghost use Rattle.rules.specs.Judge.{declare, opened, inTopic, newTopic, newClass, resolved};
 ghost use Rattle.ground.specs.Parts.{splice};
 ghost use Rattle.enumerations.specs.Standing.{InText};
 ghost use Rattle.names.specs.Index.{entry, row, Says, Known};
@@ -30,7 +31,8 @@ ghost use Rattle.names.specs.Rows.{definitionRow};
 ghost use Rattle.readers.specs.Reads.{nameCut};
 ghost use Rattle.parts.specs.Forms.{extendsOf};
 ghost use Rattle.units.specs.declared.Unit.the-variants.{Header as V·Header, Model as V·Model, Topic as V·Topic, Class as V·Class, Close as V·Close};
-ghost use Rattle.scope.specs.Scope.{AnyIs, FairReference, FairState};
+ghost use Rattle.rules.specs.All.{AnyIs};
+ghost use Rattle.scope.specs.Scope.{FairReference, FairState};
 ghost use Rattle.state.specs.Keeping.{Keeps, JudgedAs, Comes, verdict, Small};
 ghost use Rattle.state.specs.Next.{declaredBy, inTopicBy, openedBy, closedBy};
 ghost use Rattle.heads.specs.Classes.{kindOf, headOf, classDefinition, classBytes, ClassRuled};
@@ -67,9 +69,9 @@ pub fn judge_header(text: &[u8], st: State, name: Name) -> Judged
 // The model: 19.
 pub fn judge_model(text: &[u8], book: &mut [u8], st: State, head: ModelHead) -> Judged
     requires { ⌜ (length (now text) ≤ 65535) × (length (now book) ≤ 65535) ⌝ }
-    requires { ⌜ ((s : D.State) × (n : R.Name) × (x : List ℕ) × (z : List ℕ) × (y : List ℕ) × (ns : List ℕ) × (ps : List ℕ) × (rs : List ℕ) × Keeps (now text) s st (now book) x z y ns ps × Comes (now text) s (U.model n) (V·Model head) rs) ⌝ }
-    ensures { λ r. ⌜ ((s : D.State) (n : R.Name) (x z y ns ps rs : List ℕ) → Keeps (now (text .entry)) s st (now (book .entry)) x z y ns ps → Comes (now (text .entry)) s (U.model n) (V·Model head) rs
-        → JudgedAs (now (text .entry)) (verdict s (U.model n) (now (book .entry))) st r (now (book .exit)) x z y ns ps) ⌝ }
+    requires { ⌜ ((s : D.State) × (n : R.Name) × (q : U.Strings) × (x : List ℕ) × (z : List ℕ) × (y : List ℕ) × (ns : List ℕ) × (ps : List ℕ) × (rs : List ℕ) × Keeps (now text) s st (now book) x z y ns ps × Comes (now text) s (U.model n q) (V·Model head) rs) ⌝ }
+    ensures { λ r. ⌜ ((s : D.State) (n : R.Name) (q : U.Strings) (x z y ns ps rs : List ℕ) → Keeps (now (text .entry)) s st (now (book .entry)) x z y ns ps → Comes (now (text .entry)) s (U.model n q) (V·Model head) rs
+        → JudgedAs (now (text .entry)) (verdict s (U.model n q) (now (book .entry))) st r (now (book .exit)) x z y ns ps) ⌝ }
 {
     let name = head.name;
     let used = st.used;
@@ -266,9 +268,9 @@ pub fn judge_class(
     requires { ⌜ (length (now text) ≤ 65535) × (length (now book) ≤ 65535) ⌝ }
     requires { ⌜ ((st .count + 3) * 10 ≤ length (now index)) × (2051 + st .count ≤ length (now chains)) × ((st .total + 2) * 6 ≤ length (now members)) ⌝ }
     requires { ⌜ (length (now numbers) ≡ 256) × (length (now positions) ≡ 256) ⌝ }
-    requires { ⌜ ((s : D.State) × (k : Bool) × (n : R.Name) × (p : List (List ℕ)) × (b : Option G.Reference) × (rs : List ℕ) × Keeps (now text) s st (now book) (now index) (now chains) (now members) (now numbers) (now positions) × Comes (now text) s (U.class k n p b) (V·Class head) rs) ⌝ }
-    ensures { λ r. ⌜ ((s : D.State) (k : Bool) (n : R.Name) (p : List (List ℕ)) (b : Option G.Reference) (rs : List ℕ) → Keeps (now (text .entry)) s st (now (book .entry)) (now (index .entry)) (now (chains .entry)) (now (members .entry)) (now (numbers .entry)) (now (positions .entry)) → Comes (now (text .entry)) s (U.class k n p b) (V·Class head) rs
-        → JudgedAs (now (text .entry)) (verdict s (U.class k n p b) (now (book .entry))) st r (now (book .exit)) (now (index .exit)) (now (chains .entry)) (now (members .entry)) (now (numbers .exit)) (now (positions .exit))) ⌝ }
+    requires { ⌜ ((s : D.State) × (k : Bool) × (n : R.Name) × (p : List (List ℕ)) × (b : Option G.Reference) × (rs : List ℕ) × Keeps (now text) s st (now book) (now index) (now chains) (now members) (now numbers) (now positions) × Comes (now text) s (U.class (classSort k) n p b) (V·Class head) rs) ⌝ }
+    ensures { λ r. ⌜ ((s : D.State) (k : Bool) (n : R.Name) (p : List (List ℕ)) (b : Option G.Reference) (rs : List ℕ) → Keeps (now (text .entry)) s st (now (book .entry)) (now (index .entry)) (now (chains .entry)) (now (members .entry)) (now (numbers .entry)) (now (positions .entry)) → Comes (now (text .entry)) s (U.class (classSort k) n p b) (V·Class head) rs
+        → JudgedAs (now (text .entry)) (verdict s (U.class (classSort k) n p b) (now (book .entry))) st r (now (book .exit)) (now (index .exit)) (now (chains .entry)) (now (members .entry)) (now (numbers .exit)) (now (positions .exit))) ⌝ }
 {
     let name = head.name;
     let place = name.offset;

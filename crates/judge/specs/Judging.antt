@@ -5,7 +5,7 @@ use mathlib.Core.List.{List}
 use Prim.Native.Nat.{ℕ}
 use Rattle.rules.specs.Units as U
 use Rattle.rules.specs.Declarations.{State}
-use Rattle.rules.specs.Check.{judged}
+use Rattle.rules.specs.Check.{lent, judged}
 use Rattle.units.specs.declared.Unit.{Unit}
 use Rattle.units.specs.declared.Unit.the-variants.{Mark}
 use Rattle.state.specs.declared.State as code
@@ -19,4 +19,4 @@ ComesAny t s (some v) u rs = Comes t s v u rs
 
 -- with a buffer of m bytes, r is the answer to the unit v in the state s, which the code had as st; what it then holds
 pub record Answers (t : List ℕ) (m : ℕ) (s : State) (st : code.State) (r : Judged) (o x z y ns ps : List ℕ) (v : Option U.Unit) : Type 0 where
-  pub as-judged : JudgedAs t (judged m s v) st r o x z y ns ps
+  pub as-judged : JudgedAs t (judged (lent m) s v) st r o x z y ns ps

@@ -3,26 +3,20 @@ use mathlib.Core.Path.{_≡_, refl, sym, ap, _∙_}
 use mathlib.Core.Bool.{Bool, true, false, cond, _||_}
 use mathlib.Core.Option.{some}
 use mathlib.Core.List.{List, [], _∷_, _++_, append-assoc, append-nil}
-use Prim.Native.Nat.{ℕ, suc, _+_}
+use Prim.Native.Nat.{ℕ, suc}
 use native.Mathlib.Omega.{arith}
 use lib.ListN.{length, length-append}
 use Rattle.rules.specs.Bytes.{same}
 use Rattle.rules.specs.Declarations.{Attribute, attributeAt, isFound, nameCount}
-use Rattle.rules.proofs.Tests.{alike, or-fails}
-use Rattle.rules.proofs.ByteLaws.{same-eq, same-refl}
-use Rattle.members.specs.Members.{nearestTo, nearest, Unlike}
+use Rattle.rules.proofs.Tests.{or-fails}
+use Rattle.rules.proofs.ByteLaws.{same-eq, same-sym}
+use Rattle.members.specs.Members.{nearestTo, Unlike}
 
 abbrev bytes : Attribute → List ℕ
 bytes a = a .name .bytes
 
 abbrev has : List ℕ → List Attribute → Bool
 has n l = isFound (attributeAt n l)
-
-pub same-sym : (m n : List ℕ) → same m n ≡ same n m
-same-sym m n = alike (λ e. go m n (same-eq m n e)) (λ e. go n m (same-eq n m e))
-  where
-    go : (m n : List ℕ) → m ≡ n → same n m ≡ true
-    go m n e = rw e (same-refl n)
 
 -- ---- one list behind another
 pub found-before : (n : List ℕ) (l r : List Attribute) → attributeAt n (l ++ r) ≡ cond (has n l) (attributeAt n l) (attributeAt n r)

@@ -10,14 +10,16 @@ use lib.ListN.{length, length-append, getD, set}
 use lib.Dec.{ltb}
 use lib.Seq.{getD-set-same, getD-set-other}
 use borrow.Author.Tests.{lt-ltb, le-ltb}
+use Rattle.rules.specs.All.{All}
 use Rattle.rules.specs.Bytes.{same}
 use Rattle.rules.specs.Declarations.{Attribute, Def, attributeAt, isFound, attributesOf, nameCount}
 use Rattle.rules.specs.Judge.{orNoDef, withAttribute}
+use Rattle.rules.proofs.AllLaws.{all-attribute, all-append}
 use Rattle.rules.proofs.Tests.{never, not-both}
 use Rattle.rules.proofs.ByteLaws.{same-eq}
 use Rattle.names.specs.Index.{nth, entry}
 use Rattle.members.specs.Members.{slotFrom, slotOf, nearest, replaced, withNearest, Filled}
-use Rattle.members.specs.Held.{Opened, InHand, Each, Apart}
+use Rattle.members.specs.Held.{Opened, InHand, Apart}
 use Rattle.names.proofs.IndexLaws.{entry-keep, entry-within}
 use Rattle.names.proofs.BaseLaws.{entry-there}
 use Rattle.members.proofs.NearLaws.{found-before, passed, count-more, near-found, near-count}
@@ -182,14 +184,6 @@ pub opened-finds : (ms : List Attribute) (ns xs : List ℕ) (k : ℕ) (c : Def) 
 opened-finds ms ns xs k c o n = slot-finds n (o .hand) ∙ o .finds n
 
 -- ---- own or inherited
-each-found : (P : Attribute → Type 0) (n : List ℕ) (l : List Attribute) (a : Attribute) → Each P l → attributeAt n l ≡ some a → P a
-each-found P n [] a h e = let z : _≡_ {A = ℕ} 0 1 = cc in absurd (omega arith)
-each-found P n (b ∷ l) a h e = go (same n (bytes b)) e (each-found P n l a (h .1))
-  where
-    go : (t : Bool) → cond t (some b) (attributeAt n l) ≡ some a → (attributeAt n l ≡ some a → P a) → P a
-    go true p q = let r : b ≡ a = cc in subst P r (h .0)
-    go false p q = q p
-
 pub own-is : (c : Def) (n : List ℕ) (a : Attribute) → Apart c → attributeAt n (attributesOf c) ≡ some a → ltb (c .number) (a .number) ≡ has n (c .own)
 own-is c n a p e = go (has n (c .own)) refl
   where
@@ -199,10 +193,10 @@ own-is c n a p e = go (has n (c .own)) refl
     go : (t : Bool) → has n (c .own) ≡ t → ltb (c .number) (a .number) ≡ has n (c .own)
     go true q =
         let f : attributeAt n (c .own) ≡ some a = sym (rw q at found) ∙ e in
-        lt-ltb (c .number) (a .number) (each-found (λ (x : Attribute). c .number < x .number) n (c .own) a (p .own-behind) f) ∙ sym q
+        lt-ltb (c .number) (a .number) (all-attribute (λ (x : Attribute). c .number < x .number) n (c .own) a (p .own-behind) f) ∙ sym q
     go false q =
         let f : attributeAt n (c .inherited) ≡ some a = sym (rw q at found) ∙ e in
-        let w = each-found (λ (x : Attribute). x .number < c .number) n (c .inherited) a (p .inherited-before) f in
+        let w = all-attribute (λ (x : Attribute). x .number < c .number) n (c .inherited) a (p .inherited-before) f in
         le-ltb (c .number) (a .number) (omega arith) ∙ sym q
 
 pub own-slot : (ms : List Attribute) (ns xs : List ℕ) (k : ℕ) (c : Def) (m : List ℕ) (o : Opened ms ns xs k c) → Apart c → (r : ℕ) → 0 < r → r ≡ slotOf m (o .hand) → ltb (c .number) (getD ns (r - 1) 0) ≡ has m (c .own)
@@ -219,13 +213,9 @@ own-slot ms ns xs k c m o p r z e = go (attributeAt m (attributesOf c)) refl
     go (some a) q = rw (o .filled .at-number (r - 1) a (at-slot ∙ q)) (own-is c m a p q)
 
 -- ---- the records of attributes stand apart
-pub apart-start : (c : Def) → c .own ≡ [] → Each (λ (a : Attribute). a .number < c .number) (c .inherited) → Apart c
-apart-start c e h = record { own-behind = subst (Each (λ (a : Attribute). c .number < a .number)) (sym e) tt; inherited-before = h }
-
-each-more : (P : Attribute → Type 0) (l : List Attribute) (a : Attribute) → Each P l → P a → Each P (l ++ (a ∷ []))
-each-more P [] a h p = (p, tt)
-each-more P (b ∷ l) a h p = (h .0, each-more P l a (h .1) p)
+pub apart-start : (c : Def) → c .own ≡ [] → All (λ (a : Attribute). a .number < c .number) (c .inherited) → Apart c
+apart-start c e h = record { own-behind = subst (All (λ (a : Attribute). c .number < a .number)) (sym e) tt; inherited-before = h }
 
 pub apart-more : (c : Def) (a : Attribute) → Apart c → c .number < a .number → Apart (withAttribute c a)
 unfolding withAttribute
-apart-more c a h w = record { own-behind = each-more (λ (x : Attribute). c .number < x .number) (c .own) a (h .own-behind) w; inherited-before = h .inherited-before }
+apart-more c a h w = record { own-behind = all-append (λ (x : Attribute). c .number < x .number) (c .own) (a ∷ []) (h .own-behind) (w, tt); inherited-before = h .inherited-before }

@@ -9,57 +9,42 @@ use lib.ListN.{length, length-append, length-drop, getD, set}
 use lib.Seq.{drop-append-le, getD-set-same, getD-set-other}
 use lib.Dec.{leb}
 use borrow.Author.Tests.{leb-false}
+use Rattle.rules.proofs.ByteLaws.{same-sym}
 use Rattle.rules.specs.Bytes.{same}
 use Rattle.rules.specs.Names.{Name}
+use Rattle.rules.specs.Units.{Strings, classSort}
 use Rattle.rules.specs.Declarations as D
 use Rattle.rules.specs.Declarations.{Attribute, Sort, Def, attributeAt, isFound, Decl, def, endTopic, State, known, attributesOf, nameCount}
-use Rattle.rules.specs.Book.{Record, bytes, defRecord, headRecords, endRecords, declRecords, declsRecords, attributeRecords, attributesRecords, book}
-use Rattle.rules.specs.Judge.{declare, opened, inTopic, begun, classSort, withAttribute}
+use Rattle.rules.specs.Book.{Record, bytes, defRecord, headRecords, endRecords, declRecords, declsRecords, attributeRecords, book}
+use Rattle.rules.specs.Judge.{declare, opened, inTopic, begun, withAttribute}
 use Rattle.rules.proofs.Tests.{not-both}
-use Rattle.ground.proofs.PartLaws.{length-part}
+use Rattle.rules.proofs.GrowLaws.{known-append, bytes-append, decls-append, attributes-append}
+use Rattle.rules.proofs.PartLaws.{length-part}
 use Rattle.names.specs.Index.{entry, row}
 use Rattle.members.specs.Members.{Unlike}
 use Rattle.members.specs.Held.{heading, DefRow, AttributeRow, OpenRow, ownsOf, attributesIn, HeldIn}
-use Rattle.members.proofs.NearLaws.{same-sym, passed, count-more}
+use Rattle.members.proofs.NearLaws.{passed, count-more}
 use Rattle.members.proofs.HeldLaws.{Agree, agree-last, agree-all, row-last, stands-more, held-on, held-def, held-attribute}
 
 -- ---- lists of declarations that grow
-pub known-append : (l : List Decl) (e : Decl) → known (l ++ (e ∷ [])) ≡ known l ++ known (e ∷ [])
-known-append [] e = refl
-known-append (D.model n ∷ l) e = known-append l e
-known-append (def d ∷ l) e = ap (λ (x : List Def). d ∷ x) (known-append l e)
-known-append (endTopic ∷ l) e = known-append l e
-
-owns-append : (ks : List Def) (d : Def) → ownsOf (ks ++ (d ∷ [])) ≡ ownsOf ks ++ d .own
+pub owns-append : (ks : List Def) (d : Def) → ownsOf (ks ++ (d ∷ [])) ≡ ownsOf ks ++ d .own
 owns-append [] d = append-nil (d .own)
 owns-append (k ∷ ks) d = ap (λ (x : List Attribute). k .own ++ x) (owns-append ks d) ∙ sym (append-assoc (k .own) (ownsOf ks) (d .own))
 
-bytes-append : (l m : List Record) → bytes (l ++ m) ≡ bytes l ++ bytes m
-bytes-append [] m = refl
-bytes-append (r ∷ l) m = ap (λ (x : List ℕ). r ++ x) (bytes-append l m) ∙ sym (append-assoc r (bytes l) (bytes m))
-
-records-append : (l : List Decl) (e : Decl) → declsRecords (l ++ (e ∷ [])) ≡ declsRecords l ++ declRecords e
-records-append [] e = append-nil (declRecords e)
-records-append (d ∷ l) e = ap (λ (x : List Record). declRecords d ++ x) (records-append l e) ∙ sym (append-assoc (declRecords d) (declsRecords l) (declRecords e))
-
-attributes-append : (l : List Attribute) (a : Attribute) → attributesRecords (l ++ (a ∷ [])) ≡ attributesRecords l ++ attributeRecords a
-attributes-append [] a = append-nil (attributeRecords a)
-attributes-append (b ∷ l) a = ap (λ (x : List Record). attributeRecords b ++ x) (attributes-append l a) ∙ sym (append-assoc (attributeRecords b) (attributesRecords l) (attributeRecords a))
-
 -- ---- the book that grows
 pub book-declared : (s s' : State) (e : Decl) → s .open-class ≡ none → s' .open-class ≡ none → s' .decls ≡ s .decls ++ (e ∷ []) → book s' ≡ book s ++ bytes (declRecords e)
-book-declared s s' e o o' q = rw (o, o', q, append-nil (declsRecords (s .decls)), append-nil (declsRecords (s .decls ++ (e ∷ []))), records-append (s .decls) e) (bytes-append (declsRecords (s .decls)) (declRecords e))
+book-declared s s' e o o' q = rw (o, o', q, append-nil (declsRecords (s .decls)), append-nil (declsRecords (s .decls ++ (e ∷ []))), decls-append (s .decls) e) (bytes-append (declsRecords (s .decls)) (declRecords e))
 
 pub book-opened : (s : State) (c : Def) → s .open-class ≡ none → book (opened s c) ≡ book s ++ bytes (headRecords (c .sort) c)
 book-opened s c o = rw (o, append-nil (declsRecords (s .decls))) (bytes-append (declsRecords (s .decls)) (headRecords (c .sort) c))
 
 -- of a class or structure
-head-more : (x : Sort) (st : Bool) (c : Def) (a : Attribute) → x ≡ classSort st → headRecords x (withAttribute c a) ≡ headRecords x c ++ attributeRecords a
+pub head-more : (x : Sort) (st : Bool) (c : Def) (a : Attribute) → x ≡ classSort st → headRecords x (withAttribute c a) ≡ headRecords x c ++ attributeRecords a
 unfolding withAttribute
 head-more x true c a e = rw e (ap (λ (l : List Record). defRecord 5 c ∷ l) (attributes-append (c .own) a))
 head-more x false c a e = rw e (ap (λ (l : List Record). defRecord 4 c ∷ l) (attributes-append (c .own) a))
 
-end-is : (x : Sort) (st : Bool) → x ≡ classSort st → endRecords x ≡ (16 ∷ []) ∷ []
+pub end-is : (x : Sort) (st : Bool) → x ≡ classSort st → endRecords x ≡ (16 ∷ []) ∷ []
 end-is x true e = rw e
 end-is x false e = rw e
 
@@ -73,17 +58,17 @@ module _ (s : State) (c : Def) (st : Bool) (o : s .open-class ≡ some c) (e : c
   pub book-closed : book (declare s (def c)) ≡ book s ++ (16 ∷ [])
   book-closed =
       let r : declsRecords (s .decls ++ (def c ∷ [])) ++ [] ≡ (declsRecords (s .decls) ++ headRecords (c .sort) c) ++ ((16 ∷ []) ∷ []) =
-      append-nil _ ∙ records-append (s .decls) (def c) ∙ ap (λ (x : List Record). declsRecords (s .decls) ++ (headRecords (c .sort) c ++ x)) (end-is (c .sort) st e)
+      append-nil _ ∙ decls-append (s .decls) (def c) ∙ ap (λ (x : List Record). declsRecords (s .decls) ++ (headRecords (c .sort) c ++ x)) (end-is (c .sort) st e)
       ∙ sym (append-assoc (declsRecords (s .decls)) (headRecords (c .sort) c) ((16 ∷ []) ∷ [])) in
       rw (o, r) (bytes-append (declsRecords (s .decls) ++ headRecords (c .sort) c) ((16 ∷ []) ∷ []))
 
 -- ---- what is held after a unit
-nowhere : {A : Type 0} {a : A} (p : ℕ) → ¬ (entry [] p ≡ some a)
+pub nowhere : {A : Type 0} {a : A} (p : ℕ) → ¬ (entry [] p ≡ some a)
 nowhere zero e = let z : _≡_ {A = ℕ} 0 1 = cc in omega arith
 nowhere (suc i) e = let z : _≡_ {A = ℕ} 0 1 = cc in omega arith
 
-pub held-begun : (t : List ℕ) (n : Name) (x y : List ℕ) → HeldIn t (begun n) x 0 y 0
-held-begun t n x y = record {
+pub held-begun : (t : List ℕ) (n : Name) (q : Strings) (x y : List ℕ) → HeldIn t (begun n q) x 0 y 0
+held-begun t n q x y = record {
   all-defs = refl;
   all-attributes = refl;
   def-rows = λ p d e. absurd (nowhere p e);
@@ -120,11 +105,11 @@ held-member t s c st a x count y total h o e y' ay r =
     rw (b, m) (held-attribute t (book s) (bytes (attributeRecords a)) (known (s .decls)) (attributesIn s) x count y total h y' ay a (rw b at r))
 
 -- the END of a topic
-pub held-ended : (t : List ℕ) (s : State) (x : List ℕ) (count : ℕ) (y : List ℕ) (total : ℕ) → HeldIn t s x count y total → s .open-class ≡ none → HeldIn t (inTopic (declare s endTopic) none) x count y total
-held-ended t s x count y total h o =
-    let b = book-declared s (inTopic (declare s endTopic) none) endTopic o refl refl in
-    let k : known (s .decls ++ (endTopic ∷ [])) ≡ known (s .decls) = known-append (s .decls) endTopic ∙ append-nil (known (s .decls)) in
-    let m : attributesIn (inTopic (declare s endTopic) none) ≡ attributesIn s = rw (k, o) in
+pub held-ended : (t : List ℕ) (s : State) (x : List ℕ) (count : ℕ) (y : List ℕ) (total : ℕ) → (n : Name) → HeldIn t s x count y total → s .open-class ≡ none → HeldIn t (inTopic (declare s (endTopic n)) none) x count y total
+held-ended t s x count y total n h o =
+    let b = book-declared s (inTopic (declare s (endTopic n)) none) (endTopic n) o refl refl in
+    let k : known (s .decls ++ (endTopic n ∷ [])) ≡ known (s .decls) = known-append (s .decls) (endTopic n) ∙ append-nil (known (s .decls)) in
+    let m : attributesIn (inTopic (declare s (endTopic n)) none) ≡ attributesIn s = rw (k, o) in
     rw (b, m, k) (held-on t (book s) (3 ∷ []) (known (s .decls)) (attributesIn s) x count y total h x (agree-all 10 x count))
 
 -- ---- the END of a class: its row tells where its own attributes end

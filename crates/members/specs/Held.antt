@@ -2,8 +2,9 @@
 use mathlib.Core.Path.{_≡_}
 use mathlib.Core.Option.{Option, none, some}
 use mathlib.Core.List.{List, [], _∷_, _++_}
-use Prim.Native.Nat.{ℕ, _+_, _≤_, _<_}
+use Prim.Native.Nat.{ℕ, _≤_, _<_}
 use lib.ListN.{length, getD, drop}
+use Rattle.rules.specs.All.{All}
 use Rattle.rules.specs.Types.{Ty}
 use Rattle.rules.specs.Declarations as D
 use Rattle.rules.specs.Declarations.{Use, inline, tyOf, Attribute, Sort, Def, attributesOf, attributeAt, nameCount, State, known}
@@ -71,14 +72,10 @@ abbrev pub InHand : List Attribute → List ℕ → List ℕ → ℕ → Option 
 InHand ms numbers positions n none = Unit
 InHand ms numbers positions n (some d) = Opened ms numbers positions n d
 
-abbrev pub Each : (Attribute → Type 0) → List Attribute → Type 0
-Each P [] = Unit
-Each P (a ∷ l) = P a × Each P l
-
 -- a fact of every state that is reached: the records of a class's own attributes stand behind its own, those of inherited ones before
 pub record Apart (c : Def) : Type 0 where
-  pub own-behind : Each (λ (a : Attribute). c .number < a .number) (c .own)
-  pub inherited-before : Each (λ (a : Attribute). a .number < c .number) (c .inherited)
+  pub own-behind : All (λ (a : Attribute). c .number < a .number) (c .own)
+  pub inherited-before : All (λ (a : Attribute). a .number < c .number) (c .inherited)
 
 -- ---- of a state
 abbrev pub ownsOf : List Def → List Attribute

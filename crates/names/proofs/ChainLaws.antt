@@ -14,7 +14,7 @@ use Rattle.rules.specs.Declarations.{Def, lookup}
 use Rattle.rules.proofs.Tests.{split, not-both, is-false}
 use Rattle.rules.proofs.ByteLaws.{same-eq}
 use Rattle.ground.specs.Parts.{part}
-use Rattle.ground.proofs.PartLaws.{part-cons}
+use Rattle.rules.proofs.PartLaws.{part-cons}
 use Rattle.names.specs.Index.{nth, entry, row, Says, Known, definedAt}
 use Rattle.names.specs.Chains.{keyFrom, keyOf, nextFrom, Chains}
 use Rattle.names.proofs.IndexLaws.{nth-within, nth-dropped, look-here, look-on}

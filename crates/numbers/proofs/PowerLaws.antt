@@ -1,12 +1,10 @@
 -- Powers of ten up to 10 ^ 18, each below 2 ^ 60.
 use mathlib.Core.Path.{_≡_}
 use Prim.Native.Nat.{ℕ, _+_, _*_, _^_, _≤_, _<_}
-use native.Mathlib.Nat.{one-le-pow, pow-le-pow-right, pow-suc}
+use native.Mathlib.Nat.{pow-le-pow-right, pow-suc}
 use native.Mathlib.Numerals.{add-one}
 use native.Mathlib.Omega.{arith}
-
-pub ten-pos : (n : ℕ) → 0 < 10 ^ n
-ten-pos n = one-le-pow n 10 (omega arith)
+use Rattle.rules.proofs.NumberLaws.{ten-pos}
 
 pub ten-most : (n k : ℕ) → n ≤ k → 10 ^ n ≤ 10 ^ k
 ten-most n k h = pow-le-pow-right (omega arith) h

@@ -8,7 +8,7 @@ use borrow.Author.Tests.{lt-ltb, le-ltb, le-leb, lt-leb}
 use lib.IntN.{ℤ, pos, negsuc, natAbs, _*ℤ_}
 use lib.Signed.{shrZ}
 use lib.Dec.{ltb}
-use Rattle.rules.specs.Numbers.{reads, unread, rounded, reading, tooGreat, readNumber}
+use Rattle.rules.specs.Numbers.{reads, notRead, rounded, reading, tooGreat, readNumber}
 use Rattle.rules.proofs.Tests.{or-l, or-r}
 use Rattle.numbers.specs.declared.Reading.{Reading}
 use Rattle.numbers.specs.declared.Reading.the-variants.{Value, OutOfScope, TooGreat}
@@ -60,7 +60,7 @@ module _ (v : ℤ) (d db : ℕ) where
   over-value h = out (or-r (ltb 17 d) (or-r (ltb 17 db) (le-leb (10 ^ 18) (natAbs v) h)))
 
   module _ (h : (d ≤ 17) × (db ≤ 17) × (natAbs v < 10 ^ 18)) where
-    in-scope : readNumber v d db ≡ cond (tooGreat (reading d db v)) (unread 21) (reads (reading d db v))
+    in-scope : readNumber v d db ≡ cond (tooGreat (reading d db v)) (notRead 21) (reads (reading d db v))
     unfolding readNumber
     in-scope = rw (le-ltb 17 d (h .0), le-ltb 17 db (h .1), lt-leb (10 ^ 18) (natAbs v) (h .2))
 

@@ -8,9 +8,10 @@ ghost use lib.Signed.{ltZ, shrZ};
 ghost use lib.Dec.{eqb};
 ghost use Rattle.rules.specs.Bytes.{is, isDigit};
 ghost use Rattle.rules.specs.Symbols.{digitCount};
-ghost use Rattle.rules.specs.Numbers.{digits, valueOf, decimalsOf, lowFits, highFits};
+ghost use Rattle.rules.specs.Numbers.{digits, valueOf, decimalsOf};
 ghost use Rattle.rules.specs.Numbers.{rounded as Numbers·rounded};
 ghost use Rattle.numbers.specs.Answer.{numberOf, readingOf, Promised};
+ghost use Rattle.numbers.specs.Bounds.{lowFits, highFits};
 
 // The greatest magnitude within scope: 18 digits.
 const MOST: u64 = 999999999999999999;

@@ -15,8 +15,8 @@ use Rattle.rules.specs.Symbols.{Fault, word, symbolAt, endOf, isKind, isMark, i
 use Rattle.rules.specs.Readers.{Reader, refused, andThen, ret, theMark, ifNext, _>>_, _>>=_, expect}
 use Rattle.rules.specs.Grammar.{enough, propertiesFrom, properties}
 use Rattle.rules.specs.Judge.{hasTwice}
-use Rattle.rules.proofs.Tests.{split, alike, or-split}
-use Rattle.rules.proofs.ByteLaws.{same-eq, same-refl}
+use Rattle.rules.proofs.Tests.{split, or-split}
+use Rattle.rules.proofs.ByteLaws.{same-eq, same-sym}
 use Rattle.rules.proofs.SymbolLaws.{Lies, next-lies}
 use Rattle.rules.proofs.ForwardLaws.{one-word}
 use Rattle.rules.proofs.FuelLaws.{properties-fuel}
@@ -24,15 +24,12 @@ use Rattle.symbols.specs.declared.Symbol.{Symbol}
 use Rattle.symbols.specs.Cut.{position, made}
 use Rattle.readers.specs.Reads.{faultAt, Stands, Cuts, Held, passed, Gives, Reads}
 use Rattle.readers.proofs.CodeLaws.{Test, is-mark, is-word, is-one-word}
-use Rattle.readers.proofs.StandLaws.{fault-stands}
+use Rattle.readers.proofs.StandLaws.{fault-stands, stands-lies}
 use Rattle.readers.proofs.ReadLaws.{gives-map, gives-weaker, bind, stay, held, if-true, if-false, expected, taken, is-yes, is-no}
 use Rattle.parts.specs.declared.Properties.{Properties}
 use Rattle.parts.specs.Forms.{wordsOf, otherOf, flagsOf, withWord}
 
 -- ---- a list with one word more
-same-sym : (a b : List ℕ) → same a b ≡ same b a
-same-sym a b = alike (λ e. rw (same-eq a b e) (same-refl b)) (λ e. rw (same-eq b a e) (same-refl a))
-
 swap : (a b c : Bool) → (a || (b || c)) ≡ (b || (a || c))
 swap true true c = refl
 swap true false c = refl
@@ -104,9 +101,6 @@ not-fault y b e f =
     go false g = omega arith
 
 -- ---- word by word
-lies : {t : List ℕ} {z : rules.Symbol} → Stands t z → Lies 0 (length t) z
-lies s = record { starts = omega arith; ends = s .ends; solid = s .solid }
-
 comma : Test (isMark ",") 44
 comma = is-mark "," (omega arith) (omega arith)
 
@@ -116,7 +110,7 @@ module _ (t : List ℕ) (l : List (List ℕ)) where
 
   list-step : (z : rules.Symbol) → Stands t z → propertiesFrom (enough t) l t z ≡ andThen t (expect (isOneWord l) t z) after
   unfolding propertiesFrom after
-  list-step z s = properties-fuel t z (lies s) l (enough t) (suc (enough t)) (omega arith) (omega arith)
+  list-step z s = properties-fuel t z (stands-lies s) l (enough t) (suc (enough t)) (omega arith) (omega arith)
 
   fault-list : (f : Fault) (p : ℕ) → Stands t (faultAt f p) → propertiesFrom (enough t) l t (faultAt f p) ≡ refused f p
   unfolding after

@@ -15,21 +15,19 @@ use Rattle.rules.specs.Symbols as rules
 use Rattle.rules.specs.Symbols.{too-large, symbolAt, endOf, digitCount, Kind, word, name, number, quoted, dots, stop, mark, fault, tag, isKind, isMark, isWord, isOneWord}
 use Rattle.rules.specs.Readers.{Reader, ret, _>>=_, expect}
 use Rattle.rules.specs.Numbers.{digits, valueOf, decimalsOf}
-use Rattle.rules.specs.Grammar as G
-use Rattle.rules.specs.Grammar.{enough, enumeration, WrittenType, text, range, numeric, enum, named, isLength, textLength, textType, rangeType, reference, typeOf, typeOrReference, here, written}
+use Rattle.rules.specs.Grammar.{enough, enumeration, WrittenType, text, range, numeric, enum, named, isLength, textLength, textType, rangeType, reference, typeOf, typeOrReference, placeOfNext, written}
 use Rattle.rules.proofs.Tests.{never, both, fail-r}
 use Rattle.ground.specs.Parts.{part}
 use Rattle.numbers.specs.declared.Number.{Number}
 use Rattle.symbols.specs.declared.Symbol.{Symbol}
 use Rattle.symbols.specs.Cut.{made, cut}
 use Rattle.readers.specs.Reads.{Cuts, Held, passed, Reads}
-use Rattle.symbols.proofs.CutLaws.{Sound}
+use Rattle.symbols.specs.Cut.{Sound}
 use Rattle.readers.proofs.CodeLaws.{Test, is-name, is-number, is-dots, is-mark, is-word, is-one-word}
 use Rattle.readers.proofs.StandLaws.{at-stands, fault-stands}
 use Rattle.readers.proofs.ReadLaws.{onward, bind, stay, mapped, weaker, if-true, if-false, expected, taken, passes-by, refuses, is-yes, is-no}
 use Rattle.elements.specs.Noted.{Whole}
 use Rattle.ground.specs.declared.Reference.{Reference}
-use Rattle.parts.specs.declared.types.Whole as W
 use Rattle.parts.specs.declared.types.Whole.the-variants.{Count, Other}
 use Rattle.parts.specs.declared.types.Meant.{Meant}
 use Rattle.parts.specs.declared.types.Meant.the-variants.{Alone, Text, Limited, Range, Numeric, Enumeration, Named}
@@ -232,7 +230,7 @@ module _ {t o p : List ℕ} {y n : Symbol} (based or : Bool) {v : Meant} where
       Reads t (mandatoryBy based (typeBy or)) (MeansAny o p v) y n
   not-alone h r = if-false (λ z. based && isMark ";" z) _ _ h (mapped some r (λ x q. q))
 
-pub here-reads : {t : List ℕ} {y : Symbol} → Reads t here (λ p. y .place ≡ p) y y
+pub here-reads : {t : List ℕ} {y : Symbol} → Reads t placeOfNext (λ p. y .place ≡ p) y y
 here-reads = record { reads = λ z c. record { next = c; value = ap (λ (x : Symbol). x .place) (c .cuts) }; passes = λ f p c. c }
 
 mandatory-word : Test (isWord (ascii "MANDATORY")) 78

@@ -11,7 +11,8 @@ use Rattle.rules.specs.Reserved.{forms}
 use Rattle.rules.specs.Symbols as rules
 use Rattle.rules.specs.Symbols.{word, name, number, quoted, dots, stop, isKind, isMark, isWord, isOneWord}
 use Rattle.symbols.specs.Cut.{position, codeOf}
-use Rattle.symbols.proofs.CutLaws.{Sound, mark-of, kind-of, stop-of, word-of}
+use Rattle.symbols.specs.Cut.{Sound}
+use Rattle.symbols.proofs.CutLaws.{mark-of, kind-of, stop-of, word-of}
 
 -- the test p is the test for the code k, which is no fault's
 pub record Test (p : rules.Symbol → Bool) (k : ℕ) : Type 0 where

@@ -4,8 +4,9 @@ use mathlib.Core.List.{List}
 use Prim.Native.Nat.{ℕ, _≤_}
 use native.Mathlib.Omega.{arith}
 use lib.ListN.{length}
+use Rattle.rules.specs.Symbols as rules
 use Rattle.rules.specs.Symbols.{Fault, symbolAt}
-use Rattle.rules.proofs.SymbolLaws.{next-lies}
+use Rattle.rules.proofs.SymbolLaws.{Lies, next-lies}
 use Rattle.symbols.proofs.CutLaws.{cut-at}
 use Rattle.readers.specs.Reads.{faultAt, Stands}
 
@@ -17,3 +18,6 @@ at-stands t i h =
 
 pub fault-stands : (t : List ℕ) (f : Fault) (p : ℕ) → p ≤ length t → Stands t (faultAt f p)
 fault-stands t f p h = record { coded = tt; ends = omega arith; solid = λ r. absurd (r .1 refl); written = refl }
+
+pub stands-lies : {t : List ℕ} {z : rules.Symbol} → Stands t z → Lies 0 (length t) z
+stands-lies s = record { starts = omega arith; ends = s .ends; solid = s .solid }

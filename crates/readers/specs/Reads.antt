@@ -7,13 +7,11 @@ use lib.ListN.{length}
 use lib.Dec.{eqb}
 use Rattle.rules.specs.Names as rules-names
 use Rattle.rules.specs.Symbols as rules
-use Rattle.rules.specs.Symbols.{Fault, fault, symbol, endOf, symbolAt}
+use Rattle.rules.specs.Symbols.{Fault, fault, symbol, endOf, symbolAt, Real}
 use Rattle.rules.specs.Readers.{Result, done, refused, Reader}
-use Rattle.rules.proofs.SymbolLaws.{Real}
 use Rattle.ground.specs.Parts.{part}
 use Rattle.symbols.specs.declared.Symbol.{Symbol}
-use Rattle.symbols.specs.Cut.{made, cut}
-use Rattle.symbols.proofs.CutLaws.{Sound}
+use Rattle.symbols.specs.Cut.{made, cut, Sound}
 use Rattle.ground.specs.declared.Name.{Name}
 
 -- ---- symbols

@@ -10,22 +10,22 @@ use Rattle.rules.specs.Names.{Name}
 use Rattle.rules.specs.Enumerations.{Enum, end, elem, final}
 use Rattle.rules.specs.Types.{Ty, text, range, numeric, structure, enum}
 use Rattle.rules.specs.Declarations as D
-use Rattle.rules.specs.Declarations.{Link, Use, inline, named, struct, Attribute, Sort, Def, Decl, State}
+use Rattle.rules.specs.Declarations.{Link, Use, inline, ofDomain, ofStructure, Attribute, Sort, Def, Decl, State}
 
 abbrev pub Record : Type 0
 Record = List ℕ
 
 -- a number in so many bytes, its low byte first; two's complement in 64 bits
-abbrev pub low : ℕ → ℕ → List ℕ
-low zero n = []
-low (suc k) n = n % 256 ∷ low k (n / 256)
+abbrev pub lowFirst : ℕ → ℕ → List ℕ
+lowFirst zero n = []
+lowFirst (suc k) n = n % 256 ∷ lowFirst k (n / 256)
 
 abbrev pub twos : ℤ → ℕ
 twos (pos n) = n
 twos (negsuc n) = 2 ^ 64 - suc n
 
 abbrev pub nameBytes : Name → List ℕ
-nameBytes n = low 4 (n .offset) ++ low 1 (length (n .bytes))
+nameBytes n = lowFirst 4 (n .offset) ++ lowFirst 1 (length (n .bytes))
 
 abbrev pub noBase : ℕ
 noBase = 4294967295
@@ -45,7 +45,7 @@ abbrev pub nameRecord : ℕ → Name → Record
 nameRecord k n = k ∷ nameBytes n
 
 abbrev pub headRecord : ℕ → Name → ℕ → ℕ → Record
-headRecord k n f b = k ∷ (nameBytes n ++ (f ∷ low 4 b))
+headRecord k n f b = k ∷ (nameBytes n ++ (f ∷ lowFirst 4 b))
 
 -- ---- types
 abbrev pub openRecord : Enum → Record
@@ -67,16 +67,16 @@ lengthOr none = 0
 lengthOr (some n) = n
 
 abbrev pub typeRecords : Ty → List Record
-typeRecords (text m n) = (cond m 9 8 ∷ low 4 (lengthOr n)) ∷ []
-typeRecords (range r) = (10 ∷ r .decimals ∷ (low 8 (twos (r .low)) ++ low 8 (twos (r .high)))) ∷ []
+typeRecords (text m n) = (cond m 9 8 ∷ lowFirst 4 (lengthOr n)) ∷ []
+typeRecords (range r) = (10 ∷ r .decimals ∷ (lowFirst 8 (twos (r .low)) ++ lowFirst 8 (twos (r .high)))) ∷ []
 typeRecords numeric = (11 ∷ []) ∷ []
 typeRecords (enum e) = openRecord e ∷ elementRecords e
 typeRecords structure = []
 
 abbrev pub useRecords : Use → List Record
 useRecords (inline t) = typeRecords t
-useRecords (named l bs) = (17 ∷ low 4 (l .number)) ∷ []
-useRecords (struct l bs) = (12 ∷ low 4 (l .number)) ∷ []
+useRecords (ofDomain l bs) = (17 ∷ lowFirst 4 (l .number)) ∷ []
+useRecords (ofStructure l bs) = (12 ∷ lowFirst 4 (l .number)) ∷ []
 
 -- ---- definitions
 abbrev pub attributeRecords : Attribute → List Record
@@ -112,7 +112,7 @@ endRecords D.domain = []
 abbrev pub declRecords : Decl → List Record
 declRecords (D.model n) = nameRecord 1 n ∷ []
 declRecords (D.def d) = headRecords (d .sort) d ++ endRecords (d .sort)
-declRecords D.endTopic = (3 ∷ []) ∷ []
+declRecords (D.endTopic n) = (3 ∷ []) ∷ []
 
 abbrev pub declsRecords : List Decl → List Record
 declsRecords [] = []

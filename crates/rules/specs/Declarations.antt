@@ -9,23 +9,29 @@ use Rattle.rules.specs.Names.{Name}
 use Rattle.rules.specs.Grammar as G
 use Rattle.rules.specs.Grammar.{Reference}
 use Rattle.rules.specs.Types.{Ty, structure}
+use Rattle.rules.specs.Units.{Strings}
+pub use Rattle.rules.specs.Names.{Sort, topic, class, struct, domain, sortNumber, isSort}
+-- whether a lookup finds something
 pub use Rattle.rules.specs.Units.{isGiven as isFound}
 
 -- ---- bases
--- a domain or structure as its descendants know it: its record number and type
+-- a domain, class or structure as its descendants know it: its record number, its full name behind the model's (the topic around it, if there
+-- is one, and its own name), and its type
 pub record Link : Type 0 where
   pub number : ℕ
+  pub around : Option (List ℕ)
+  pub name : List ℕ
   pub type : Ty
 
 -- what types an attribute: a type written in place; a domain; a structure; each with its bases from the nearest on
 pub data Use : Type 0 where
   inline : Ty → Use
-  named struct : Link → List Link → Use
+  ofDomain ofStructure : Link → List Link → Use
 
 abbrev pub tyOf : Use → Ty
 tyOf (inline t) = t
-tyOf (named l bs) = l .type
-tyOf (struct l bs) = structure
+tyOf (ofDomain l bs) = l .type
+tyOf (ofStructure l bs) = structure
 
 -- base: the record number of the nearest inherited one, if it is EXTENDED
 pub record Attribute : Type 0 where
@@ -37,25 +43,14 @@ pub record Attribute : Type 0 where
   pub base : Option ℕ
   pub use-of : Use
 
--- ---- definitions: topics, classes, structures and domains share one name space
-pub data Sort : Type 0 where
-  topic class struct domain : Sort
-
-abbrev pub sortNumber : Sort → ℕ
-sortNumber topic = 0
-sortNumber class = 1
-sortNumber struct = 2
-sortNumber domain = 3
-
-abbrev pub isSort : Sort → Sort → Bool
-isSort a b = eqb (sortNumber a) (sortNumber b)
-
--- home: the record number of the topic around it, if there is one; type and mandatory are a domain's; own and inherited, in text order and
--- the nearer first, are the attributes of a class or structure; bases: from the nearest on
+-- ---- definitions
+-- home and around: the record number and the name of the topic around it, if there is one; type and mandatory are a domain's; own and
+-- inherited, in text order and the nearer first, are the attributes of a class or structure; bases: from the nearest on
 pub record Def : Type 0 where
   pub sort : Sort
   pub name : Name
   pub home : Option ℕ
+  pub around : Option (List ℕ)
   pub number : ℕ
   pub abstract : Bool
   pub final : Bool
@@ -66,7 +61,7 @@ pub record Def : Type 0 where
   pub inherited : List Attribute
 
 abbrev pub linkOf : Def → Link
-linkOf d = record { number = d .number; type = d .type }
+linkOf d = record { number = d .number; around = d .around; name = d .name .bytes; type = d .type }
 
 -- all attributes of a class; of two with one name the nearer stands first
 abbrev pub attributesOf : Def → List Attribute
@@ -81,15 +76,16 @@ abbrev pub nameCount : List Attribute → ℕ
 nameCount [] = 0
 nameCount (a ∷ l) = let r = nameCount l in cond (isFound (attributeAt (a .name .bytes) l)) r (suc r)
 
--- ---- declarations, in text order
+-- ---- declarations, in text order; the end of a topic has the topic's name
 pub data Decl : Type 0 where
   model : Name → Decl
   def : Def → Decl
-  endTopic : Decl
+  endTopic : Name → Decl
 
 -- the state between units: a topic is declared at its head, a class or structure at its END; until then it is the open one
 pub record State : Type 0 where
   pub model : Name
+  pub strings : Strings
   pub decls : List Decl
   pub topic : Option Def
   pub open-class : Option Def
@@ -98,7 +94,7 @@ abbrev pub known : List Decl → List Def
 known [] = []
 known (model n ∷ l) = known l
 known (def d ∷ l) = d ∷ known l
-known (endTopic ∷ l) = known l
+known (endTopic n ∷ l) = known l
 
 -- ---- looking up
 abbrev pub lookup : (Def → Bool) → List Def → Option Def
@@ -114,6 +110,10 @@ sameHome (some k) (some j) = eqb k j
 abbrev pub numberIn : Option Def → Option ℕ
 numberIn none = none
 numberIn (some d) = some (d .number)
+
+abbrev pub topicName : Option Def → Option (List ℕ)
+topicName none = none
+topicName (some d) = some (d .name .bytes)
 
 -- the definition with a name at a home
 abbrev pub definedAs : List ℕ → Option ℕ → Def → Bool

@@ -15,8 +15,9 @@ use Rattle.rules.specs.Enumerations.{Enum, isLeaf, merge, twice}
 use Rattle.rules.specs.Grammar as G
 use Rattle.rules.specs.Grammar.{Reference, WrittenType, Written}
 use Rattle.rules.specs.Units as U
+use Rattle.rules.specs.Units.{Strings, isGiven}
 use Rattle.rules.specs.Types.{Ty, text, range, numeric, structure, enum, kindOf, fits}
-use Rattle.rules.specs.Declarations.{Link, Use, inline, named, struct, tyOf, Attribute, Sort, topic, class, domain, isSort, Def, linkOf, attributesOf, attributeAt, isFound, nameCount, Decl, model, def, endTopic, State, numberIn, atHand, resolve}
+use Rattle.rules.specs.Declarations.{Link, Use, inline, ofDomain, ofStructure, tyOf, Attribute, Sort, topic, class, domain, isSort, Def, linkOf, attributesOf, attributeAt, isFound, nameCount, Decl, model, def, endTopic, State, numberIn, topicName, atHand, resolve}
 use Rattle.rules.specs.Declarations as D
 use Rattle.rules.specs.Book.{records}
 
@@ -33,9 +34,10 @@ pub data Judged : Type 0 where
   ok : State → Judged
   refused : ℕ → ℕ → Judged
 
-abbrev pub unless : List Rule → State → Judged
-unless [] s = ok s
-unless (r ∷ l) s = let x = unless l s in cond (r .broken) (refused (r .number) (r .place)) x
+-- the refusal by the first of some rules that is broken, or else a state
+abbrev pub firstBrokenOr : List Rule → State → Judged
+firstBrokenOr [] s = ok s
+firstBrokenOr (r ∷ l) s = let x = firstBrokenOr l s in cond (r .broken) (refused (r .number) (r .place)) x
 
 -- ---- what stands for a base that is not there: not FINAL, not mandatory, without attributes, of a type into which nothing merges
 abbrev pub noName : Name
@@ -46,6 +48,7 @@ noDef = record {
   sort = topic;
   name = noName;
   home = none;
+  around = none;
   number = 0;
   abstract = false;
   final = false;
@@ -126,15 +129,16 @@ domainType none b = b
 domainType (some x) b = meant x b
 
 abbrev pub naming : Def → Use
-naming d = cond (isSort domain (d .sort)) (named (linkOf d) (d .bases)) (struct (linkOf d) (d .bases))
+naming d = cond (isSort domain (d .sort)) (ofDomain (linkOf d) (d .bases)) (ofStructure (linkOf d) (d .bases))
 
-abbrev pub attributeUse : State → Option WrittenType → Use → Use
-attributeUse s none b = b
-attributeUse s (some (G.text m n)) b = inline (meant (G.text m n) (tyOf b))
-attributeUse s (some (G.range x y)) b = inline (meant (G.range x y) (tyOf b))
-attributeUse s (some G.numeric) b = inline (meant G.numeric (tyOf b))
-attributeUse s (some (G.enum e)) b = inline (meant (G.enum e) (tyOf b))
-attributeUse s (some (G.named r)) b = naming (orNoDef (resolve s r))
+-- what types an attribute over its base's use, b; a reference leads to target
+abbrev pub attributeUse : Option WrittenType → Option Def → Use → Use
+attributeUse none target b = b
+attributeUse (some (G.text m n)) target b = inline (meant (G.text m n) (tyOf b))
+attributeUse (some (G.range x y)) target b = inline (meant (G.range x y) (tyOf b))
+attributeUse (some G.numeric) target b = inline (meant G.numeric (tyOf b))
+attributeUse (some (G.enum e)) target b = inline (meant (G.enum e) (tyOf b))
+attributeUse (some (G.named r)) target b = naming (orNoDef target)
 
 abbrev pub referenceIn : Option WrittenType → Option Reference
 referenceIn none = none
@@ -180,26 +184,27 @@ kindRule p based t b = rule 16 p (based && not (eqb (kindOf t) (kindOf b)))
 
 -- ---- the state after a unit
 abbrev pub declare : State → Decl → State
-declare s d = record { model = s .model; decls = s .decls ++ (d ∷ []); topic = s .topic; open-class = none }
+declare s d = record { model = s .model; strings = s .strings; decls = s .decls ++ (d ∷ []); topic = s .topic; open-class = none }
 
 abbrev pub opened : State → Def → State
-opened s c = record { model = s .model; decls = s .decls; topic = s .topic; open-class = some c }
+opened s c = record { model = s .model; strings = s .strings; decls = s .decls; topic = s .topic; open-class = some c }
 
 abbrev pub inTopic : State → Option Def → State
-inTopic s t = record { model = s .model; decls = s .decls; topic = t; open-class = none }
+inTopic s t = record { model = s .model; strings = s .strings; decls = s .decls; topic = t; open-class = none }
 
 -- ---- header, model, topic
 abbrev pub headerRules : Symbol → List Rule
 headerRules v = rule 7 (v .place) (not (same (v .bytes) (ascii "2.4"))) ∷ []
 
-abbrev pub begun : Name → State
-begun n = record { model = n; decls = model n ∷ []; topic = none; open-class = none }
+abbrev pub begun : Name → Strings → State
+begun n q = record { model = n; strings = q; decls = model n ∷ []; topic = none; open-class = none }
 
 unfoldable pub newTopic : State → Name → Def
 newTopic s n = record {
   sort = topic;
   name = n;
   home = none;
+  around = none;
   number = length (records s);
   abstract = false;
   final = false;
@@ -213,92 +218,84 @@ newTopic s n = record {
 abbrev pub topicRules : State → Name → List Rule
 topicRules s n = rule 9 (n .offset) (isFound (atHand s (n .bytes))) ∷ []
 
-unfoldable pub judgeTopic : State → Name → Judged
-judgeTopic s n = unless (topicRules s n) (inTopic (declare s (def (newTopic s n))) (some (newTopic s n)))
+abbrev pub afterTopic : State → Name → State
+afterTopic s n = inTopic (declare s (def (newTopic s n))) (some (newTopic s n))
 
--- ---- classes and structures: c is the sort, b the reference after EXTENDS, o what it names
-abbrev pub classSort : Bool → Sort
-classSort true = D.struct
-classSort false = class
-
+-- ---- classes and structures: c is the sort, r the reference after EXTENDS, base what it leads to
 -- a class extends a class, a structure a structure
 abbrev pub mayExtend : Sort → Sort → Bool
 mayExtend c b = isSort c b
 
 unfoldable pub newClass : State → Sort → Name → List (List ℕ) → Option Def → Def
-newClass s c n p o = record {
+newClass s c n p base = record {
   sort = c;
   name = n;
   home = numberIn (s .topic);
+  around = topicName (s .topic);
   number = length (records s);
   abstract = isAbstract p;
   final = isFinal p;
   mandatory = false;
   type = structure;
-  bases = basesOf o;
+  bases = basesOf base;
   own = [];
-  inherited = attributesOf (orNoDef o);
+  inherited = attributesOf (orNoDef base);
 }
 
 -- 10 to 12 of what EXTENDS a reference
 unfoldable pub extendsRules : Sort → Option Reference → Option Def → List Rule
-extendsRules c b o =
-    rule 10 (placeOf b) (isFound b && not (isFound o))
-    ∷ rule 11 (placeOf b) (isFound o && not (mayExtend c (orNoDef o .sort)))
-    ∷ rule 12 (placeOf b) (orNoDef o .final)
+extendsRules c r base =
+    rule 10 (placeOf r) (isGiven r && not (isFound base))
+    ∷ rule 11 (placeOf r) (isFound base && not (mayExtend c (orNoDef base .sort)))
+    ∷ rule 12 (placeOf r) (orNoDef base .final)
     ∷ []
 
 unfoldable pub classRules : State → Sort → Name → List (List ℕ) → Option Reference → Option Def → List Rule
-classRules s c n p b o =
+classRules s c n p r base =
     rule 9 (n .offset) (isFound (atHand s (n .bytes)))
-    ∷ (extendsRules c b o
+    ∷ (extendsRules c r base
     ++ (rule 13 (n .offset) (hasTwice p || (isAbstract p && isFinal p)) ∷ []))
 
-unfoldable pub judgeClass : State → Sort → Name → List (List ℕ) → Option Reference → Option Def → Judged
-judgeClass s c n p b o = unless (classRules s c n p b o) (opened s (newClass s c n p o))
-
--- ---- domains
+-- ---- domains: r is the reference after EXTENDS, base what it leads to
 unfoldable pub newDomain : State → Name → List (List ℕ) → Written → Option Def → Def
-newDomain s n p w o = record {
+newDomain s n p w base = record {
   sort = domain;
   name = n;
   home = numberIn (s .topic);
+  around = topicName (s .topic);
   number = length (records s);
   abstract = isAbstract p;
   final = isFinal p;
-  mandatory = w .mandatory || orNoDef o .mandatory;
-  type = domainType (w .type) (orNoDef o .type);
-  bases = basesOf o;
+  mandatory = w .mandatory || orNoDef base .mandatory;
+  type = domainType (w .type) (orNoDef base .type);
+  bases = basesOf base;
   own = [];
   inherited = [];
 }
 
 -- 9 to 16
-unfoldable pub domainEarly : State → Name → List (List ℕ) → Option Reference → Written → Option Def → List Rule
-domainEarly s n p b w o =
-    let e = newDomain s n p w o in
+unfoldable pub domainTo16 : State → Name → List (List ℕ) → Option Reference → Written → Option Def → List Rule
+domainTo16 s n p r w base =
+    let e = newDomain s n p w base in
     rule 9 (n .offset) (isFound (atHand s (n .bytes)))
     ∷ elementRule (w .type)
-    ∷ (extendsRules domain b o
+    ∷ (extendsRules domain r base
     ++ (rule 13 (n .offset) (hasTwice p || ((isAbstract p && isFinal p) || (isNumeric (e .type) && not (isAbstract p))))
-    ∷ (typeRules (isFound o) (w .place) (w .type)
-    ++ (kindRule (w .place) (isFound o) (e .type) (orNoDef o .type) ∷ []))))
+    ∷ (typeRules (isFound base) (w .place) (w .type)
+    ++ (kindRule (w .place) (isFound base) (e .type) (orNoDef base .type) ∷ []))))
 
 -- 17
-abbrev pub domainFit : Written → Option Def → Rule
-domainFit w o = rule 17 (w .place) (isFound o && not (fits (domainType (w .type) (orNoDef o .type)) (orNoDef o .type)))
+abbrev pub domain17 : Written → Option Def → Rule
+domain17 w base = rule 17 (w .place) (isFound base && not (fits (domainType (w .type) (orNoDef base .type)) (orNoDef base .type)))
 
 unfoldable pub domainRules : State → Name → List (List ℕ) → Option Reference → Written → Option Def → List Rule
-domainRules s n p b w o = domainEarly s n p b w o ++ (domainFit w o ∷ [])
+domainRules s n p r w base = domainTo16 s n p r w base ++ (domain17 w base ∷ [])
 
-unfoldable pub judgeDomain : State → Name → List (List ℕ) → Option Reference → Written → Option Def → Judged
-judgeDomain s n p b w o = unless (domainRules s n p b w o) (declare s (def (newDomain s n p w o)))
-
--- ---- attributes: c is the open class, o the nearest inherited attribute of that name, g what a reference names
+-- ---- attributes: c is the open class, base the nearest inherited attribute of that name, target what a reference leads to
 abbrev pub isDomain : Use → Bool
 isDomain (inline t) = false
-isDomain (named l bs) = true
-isDomain (struct l bs) = false
+isDomain (ofDomain l bs) = true
+isDomain (ofStructure l bs) = false
 
 abbrev pub baseOfAttribute : Option Attribute → Option ℕ
 baseOfAttribute none = none
@@ -306,14 +303,14 @@ baseOfAttribute (some a) = some (a .number)
 
 -- MANDATORY holds if written, if the named domain has it, or if the base has it
 unfoldable pub newAttribute : State → Name → List (List ℕ) → Written → Option Attribute → Option Def → Attribute
-newAttribute s n p w o g = record {
+newAttribute s n p w base target = record {
   name = n;
   number = length (records s);
   final = isFinal p;
   extended = isExtended p;
-  mandatory = w .mandatory || (orNoDef g .mandatory || orNoAttribute o .mandatory);
-  base = baseOfAttribute o;
-  use-of = attributeUse s (w .type) (orNoAttribute o .use-of);
+  mandatory = w .mandatory || (orNoDef target .mandatory || orNoAttribute base .mandatory);
+  base = baseOfAttribute base;
+  use-of = attributeUse (w .type) target (orNoAttribute base .use-of);
 }
 
 unfoldable pub withAttribute : Def → Attribute → Def
@@ -321,6 +318,7 @@ withAttribute c a = record {
   sort = c .sort;
   name = c .name;
   home = c .home;
+  around = c .around;
   number = c .number;
   abstract = c .abstract;
   final = c .final;
@@ -336,19 +334,19 @@ abbrev pub mayType : Sort → Bool
 mayType b = isSort domain b || isSort D.struct b
 
 -- 4 and 9 to 16; where an attribute is inherited and not EXTENDED, 9 comes first, so behind it an inherited one is the base
-unfoldable pub attributeEarly : State → Def → Name → List (List ℕ) → Written → Option Attribute → Option Def → List Rule
-attributeEarly s c n p w o g =
-    let u = newAttribute s n p w o g .use-of in
+unfoldable pub attributeTo16 : State → Def → Name → List (List ℕ) → Written → Option Attribute → Option Def → List Rule
+attributeTo16 s c n p w base target =
+    let u = newAttribute s n p w base target .use-of in
     rule 4 (n .offset) (not (isFound (attributeAt (n .bytes) (attributesOf c))) && leb 256 (nameCount (attributesOf c)))
-    ∷ rule 9 (n .offset) (isFound (attributeAt (n .bytes) (c .own)) || (isFound o && not (isExtended p)))
+    ∷ rule 9 (n .offset) (isFound (attributeAt (n .bytes) (c .own)) || (isFound base && not (isExtended p)))
     ∷ elementRule (w .type)
-    ∷ rule 10 (n .offset) (isExtended p && not (isFound o))
-    ∷ rule 10 (placeOf (referenceIn (w .type))) (isFound (referenceIn (w .type)) && not (isFound g))
-    ∷ rule 11 (placeOf (referenceIn (w .type))) (isFound g && not (mayType (orNoDef g .sort)))
-    ∷ rule 12 (n .offset) (orNoAttribute o .final)
-    ∷ rule 13 (n .offset) (hasTwice p || (isNumeric (tyOf u) || (isDomain u && orNoDef g .abstract)))
-    ∷ (typeRules (isFound o) (w .place) (w .type)
-    ++ (kindRule (w .place) (isFound o) (tyOf u) (tyOf (orNoAttribute o .use-of)) ∷ []))
+    ∷ rule 10 (n .offset) (isExtended p && not (isFound base))
+    ∷ rule 10 (placeOf (referenceIn (w .type))) (isGiven (referenceIn (w .type)) && not (isFound target))
+    ∷ rule 11 (placeOf (referenceIn (w .type))) (isFound target && not (mayType (orNoDef target .sort)))
+    ∷ rule 12 (n .offset) (orNoAttribute base .final)
+    ∷ rule 13 (n .offset) (hasTwice p || (isNumeric (tyOf u) || (isDomain u && orNoDef target .abstract)))
+    ∷ (typeRules (isFound base) (w .place) (w .type)
+    ++ (kindRule (w .place) (isFound base) (tyOf u) (tyOf (orNoAttribute base .use-of)) ∷ []))
 
 abbrev pub isAmong : ℕ → List Link → Bool
 isAmong k [] = false
@@ -357,51 +355,73 @@ isAmong k (l ∷ ls) = eqb (l .number) k || isAmong k ls
 -- the domain or structure that the first names is what the second names, or descends from it
 abbrev pub descends : Use → Use → Bool
 descends (inline t) b = false
-descends (named l bs) (inline t) = false
-descends (named l bs) (named k cs) = isAmong (k .number) (l ∷ bs)
-descends (named l bs) (struct k cs) = false
-descends (struct l bs) (inline t) = false
-descends (struct l bs) (named k cs) = false
-descends (struct l bs) (struct k cs) = isAmong (k .number) (l ∷ bs)
+descends (ofDomain l bs) (inline t) = false
+descends (ofDomain l bs) (ofDomain k cs) = isAmong (k .number) (l ∷ bs)
+descends (ofDomain l bs) (ofStructure k cs) = false
+descends (ofStructure l bs) (inline t) = false
+descends (ofStructure l bs) (ofDomain k cs) = false
+descends (ofStructure l bs) (ofStructure k cs) = isAmong (k .number) (l ∷ bs)
 
 -- 17, unless a descendant is named, whose steps were judged where they were declared; 18, if another domain or structure is named
-abbrev pub attributeFit : ℕ → Bool → Bool → Use → Use → Rule
-attributeFit p based names u b = rule 17 p (based && (not (names && descends u b) && not (fits (tyOf u) (tyOf b))))
+abbrev pub attribute17 : ℕ → Bool → Bool → Use → Use → Rule
+attribute17 p based names u b = rule 17 p (based && (not (names && descends u b) && not (fits (tyOf u) (tyOf b))))
 
-abbrev pub attributeDescent : ℕ → Bool → Bool → Use → Use → Rule
-attributeDescent p based names u b = rule 18 p (based && (names && not (descends u b)))
+abbrev pub attribute18 : ℕ → Bool → Bool → Use → Use → Rule
+attribute18 p based names u b = rule 18 p (based && (names && not (descends u b)))
 
-abbrev pub attributeLate : ℕ → Bool → Bool → Use → Use → List Rule
-attributeLate p based names u b = attributeFit p based names u b ∷ attributeDescent p based names u b ∷ []
+abbrev pub attribute17To18 : ℕ → Bool → Bool → Use → Use → List Rule
+attribute17To18 p based names u b = attribute17 p based names u b ∷ attribute18 p based names u b ∷ []
 
 unfoldable pub attributeRules : State → Def → Name → List (List ℕ) → Written → Option Attribute → Option Def → List Rule
-attributeRules s c n p w o g =
-    attributeEarly s c n p w o g
-    ++ attributeLate (w .place) (isFound o) (isFound (referenceIn (w .type))) (newAttribute s n p w o g .use-of) (orNoAttribute o .use-of)
+attributeRules s c n p w base target =
+    attributeTo16 s c n p w base target
+    ++ attribute17To18 (w .place) (isFound base) (isGiven (referenceIn (w .type))) (newAttribute s n p w base target .use-of) (orNoAttribute base .use-of)
 
-unfoldable pub judgeAttribute : State → Def → Name → List (List ℕ) → Written → Option Attribute → Option Def → Judged
-judgeAttribute s c n p w o g = unless (attributeRules s c n p w o g) (opened s (withAttribute c (newAttribute s n p w o g)))
+-- the nearest inherited attribute of a name
+abbrev pub inheritedAs : Def → Name → Option Attribute
+inheritedAs c n = attributeAt (n .bytes) (c .inherited)
 
 -- by the grammar an attribute stands only in an open class
-unfoldable pub judgeMember : State → Name → List (List ℕ) → Written → Option Def → Judged
-judgeMember s n p w none = ok s
-judgeMember s n p w (some c) = judgeAttribute s c n p w (attributeAt (n .bytes) (c .inherited)) (resolved s (referenceIn (w .type)))
+abbrev pub memberRules : State → Name → List (List ℕ) → Written → Option Def → List Rule
+memberRules s n p w none = []
+memberRules s n p w (some c) = attributeRules s c n p w (inheritedAs c n) (resolved s (referenceIn (w .type)))
+
+abbrev pub afterMember : State → Name → List (List ℕ) → Written → Option Def → State
+afterMember s n p w none = s
+afterMember s n p w (some c) = opened s (withAttribute c (newAttribute s n p w (inheritedAs c n) (resolved s (referenceIn (w .type)))))
 
 -- ---- END of what is open: the class, else the topic, else the model
+abbrev pub openName : State → Option Def → Option Def → Name
+openName s (some c) t = c .name
+openName s none (some t) = t .name
+openName s none none = s .model
+
 abbrev pub endRules : Name → Name → List Rule
 endRules n m = rule 8 (n .offset) (not (same (n .bytes) (m .bytes))) ∷ []
 
-unfoldable pub judgeClose : State → Name → Option Def → Option Def → Judged
-judgeClose s n (some c) t = unless (endRules n (c .name)) (declare s (def c))
-judgeClose s n none (some t) = unless (endRules n (t .name)) (inTopic (declare s endTopic) none)
-judgeClose s n none none = unless (endRules n (s .model)) s
+abbrev pub afterClose : State → Option Def → Option Def → State
+afterClose s (some c) t = declare s (def c)
+afterClose s none (some t) = inTopic (declare s (endTopic (t .name))) none
+afterClose s none none = s
 
--- ---- every unit
+-- ---- every unit: its rules in the order of their numbers, and the next state
+abbrev pub rulesOf : State → U.Unit → List Rule
+rulesOf s (U.header v) = headerRules v
+rulesOf s (U.model n q) = []
+rulesOf s (U.topic n) = topicRules s n
+rulesOf s (U.class c n p r) = classRules s c n p r (resolved s r)
+rulesOf s (U.domain n p r w) = domainRules s n p r w (resolved s r)
+rulesOf s (U.attribute n p w) = memberRules s n p w (s .open-class)
+rulesOf s (U.close n) = endRules n (openName s (s .open-class) (s .topic))
+
+abbrev pub nextState : State → U.Unit → State
+nextState s (U.header v) = s
+nextState s (U.model n q) = begun n q
+nextState s (U.topic n) = afterTopic s n
+nextState s (U.class c n p r) = opened s (newClass s c n p (resolved s r))
+nextState s (U.domain n p r w) = declare s (def (newDomain s n p w (resolved s r)))
+nextState s (U.attribute n p w) = afterMember s n p w (s .open-class)
+nextState s (U.close n) = afterClose s (s .open-class) (s .topic)
+
 unfoldable pub judge : State → U.Unit → Judged
-judge s (U.header v) = unless (headerRules v) s
-judge s (U.model n) = ok (begun n)
-judge s (U.topic n) = judgeTopic s n
-judge s (U.class st n p b) = judgeClass s (classSort st) n p b (resolved s b)
-judge s (U.domain n p b w) = judgeDomain s n p b w (resolved s b)
-judge s (U.attribute n p w) = judgeMember s n p w (s .open-class)
-judge s (U.close n) = judgeClose s n (s .open-class) (s .topic)
+judge s u = firstBrokenOr (rulesOf s u) (nextState s u)

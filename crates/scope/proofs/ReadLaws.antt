@@ -1,6 +1,6 @@
 -- Every unit that is read from a text is fair.
 use mathlib.Core.Path.{_≡_, refl, sym, ap, _∙_, subst}
-use mathlib.Core.Bool.{Bool, true, false, not, _&&_}
+use mathlib.Core.Bool.{Bool, true, false, _&&_}
 use mathlib.Core.Option.{Option, none, some}
 use mathlib.Core.List.{List, [], _∷_}
 use Prim.Native.Nat.{ℕ, zero, suc, _-_, _<_}
@@ -9,19 +9,21 @@ use native.Mathlib.Omega.{arith}
 use lib.ListN.{length}
 use lib.Dec.{ltb}
 use borrow.Author.Tests.{ltb-true, ltb-false}
-use Rattle.rules.specs.Bytes.{ascii, isOneOf}
+use Rattle.rules.specs.Bytes.{ascii, same, isOneOf}
 use Rattle.rules.specs.Names.{nameOf}
 use Rattle.rules.specs.Symbols.{impossible, Kind, Symbol, symbol, name, number, quoted, dots, stop, isKind, isMark, isWord, isOneWord}
 use Rattle.rules.specs.Readers.{done, refused, Reader, ret, _>>=_, expect, aName, aNumber, aString, theMark, theWord, ifNext}
 use Rattle.rules.specs.Numbers.{digits}
 use Rattle.rules.specs.Enumerations.{Enum}
-use Rattle.rules.specs.Grammar.{enough, propertiesFrom, properties, reference, extends, closeFinal, opening, enumeration, elements, element, WrittenType, isLength, textLength, textType, rangeType, typeOf, typeOrReference, here, written}
-use Rattle.rules.specs.Units.{Where, start, afterHeader, over, body, members, Step, isGiven, headerUnit, modelUnit, topicUnit, classUnit, domainUnit, attributeUnit, endUnit, wordStep, bodyEnd, bodyUnit, memberUnit, lastStep, unitAt}
+use Rattle.rules.specs.Grammar.{enough, propertiesFrom, properties, reference, extends, closeFinal, openingBracket, enumeration, elements, element, WrittenType, isLength, textLength, textType, rangeType, typeOf, typeOrReference, placeOfNext, written}
+use Rattle.rules.specs.Units as U
+use Rattle.rules.specs.Units.{Around, isModel, ofDomains, isHead, Where, start, afterHeader, over, body, members, Step, isGiven, headerUnit, modelUnit, topicUnit, classUnit, domainUnit, attributeUnit, endUnit, wordStep, bodyEnd, bodyUnit, memberUnit, lastStep, unitAt}
 use Rattle.rules.specs.Judge.{referenceIn}
 use Rattle.readers.specs.Reads.{Stands}
 use Rattle.enumerations.specs.Standing.{InText, Named, plain, DeepIn, Deep}
-use Rattle.scope.specs.Scope.{AnyIs, FairReference, FairNumber, FairLength, FairType, Begins, FairWritten, FairSymbol, FairUnit}
-use Rattle.scope.proofs.ListLaws.{apart}
+use Rattle.rules.specs.All.{AnyIs}
+use Rattle.scope.specs.Scope.{FairReference, FairNumber, FairLength, FairType, Begins, FairWritten, FairSymbol, FairUnit}
+use Rattle.rules.proofs.AllLaws.{apart}
 use Rattle.scope.proofs.ReaderLaws.{Gives, given, bind, stays, refuses, weaker, if-next, choice, option, by-text, from-here, passes}
 use Rattle.scope.proofs.SymbolLaws.{Whole, next-whole, in-text, symbol-in-text, fair-number}
 
@@ -51,8 +53,8 @@ module _ {t : List ℕ} where
   the-word : (w : List ℕ) → Gives t (Whole t) (λ _ _. Unit {0}) (theWord w)
   the-word w = skips (isWord w)
 
-  a-string : Gives t (Whole t) (λ _ _. Unit {0}) aString
-  a-string = skips (isKind quoted)
+  a-string : Gives t (Whole t) (λ _ a. FairSymbol t a) aString
+  a-string = takes (isKind quoted) (λ y h e. symbol-in-text t y h)
 
   a-number : Gives t (Whole t) (λ y a. FairNumber a × (a .place ≡ y .place)) aNumber
   a-number = takes (isKind number) (λ y h e. (fair-number t y h e, refl))
@@ -111,7 +113,7 @@ module _ {t : List ℕ} (small : length t < 4294967296) where
   unfolding closeFinal
   close-final k = bind (the-word (ascii "FINAL")) (λ _ _ _. bind (the-mark ")") (λ _ _ _. stays (λ _. (tt, tt))))
 
-  opens : (d : ℕ) → Gives t (Whole t) (λ _ _. d < 8) (opening d)
+  opens : (d : ℕ) → Gives t (Whole t) (λ _ _. d < 8) (openingBracket d)
   opens d = bind (the-mark "(") (λ _ _ _. choice (ltb d 8) (λ e. stays (λ _. ltb-true d 8 e)) (λ _. refuses))
 
   mutual
@@ -150,13 +152,13 @@ module _ {t : List ℕ} (small : length t < 4294967296) where
 
 module _ {t : List ℕ} (Q : WrittenType → Type 0) {q : Reader WrittenType} (h : Gives t (Whole t) (λ y x. FairType t x × Begins (y .place) x × Q x) q) where
   -- a type is there
-  with-type : (based m : Bool) → Gives t (Whole t) (λ _ w. FairWritten t based w × AnyIs Q (w .type)) (here >>= λ p. q >>= λ x. ret (record { mandatory = m; place = p; type = some x }))
+  with-type : (based m : Bool) → Gives t (Whole t) (λ _ w. FairWritten t based w × AnyIs Q (w .type)) (placeOfNext >>= λ p. q >>= λ x. ret (record { mandatory = m; place = p; type = some x }))
   with-type based m =
       from-here (λ p. bind h (λ y x k. stays (λ _ e. (record { type = k .0; begins = subst (λ (i : ℕ). Begins i x) e (k .1); alone = λ z. apart z }, k .2))))
 
   -- it may be missing
   may-type : (based : Bool) → Gives t (Whole t) (λ _ w. FairWritten t based w × AnyIs Q (w .type))
-      (here >>= λ p. ifNext (λ y. based && isMark ";" y) (ret none) (q >>= λ x. ret (some x)) >>= λ x. ret (record { mandatory = true; place = p; type = x }))
+      (placeOfNext >>= λ p. ifNext (λ y. based && isMark ";" y) (ret none) (q >>= λ x. ret (some x)) >>= λ x. ret (record { mandatory = true; place = p; type = x }))
   may-type based =
       from-here (λ p. bind {P = λ y x. AnyIs (FairType t) x × AnyIs (Begins (y .place)) x × AnyIs Q x × (x ≡ none → based ≡ true)} (typed based)
       (λ y x k. stays (λ _ e. (record { type = k .0; begins = subst (λ (i : ℕ). AnyIs (Begins i) x) e (k .1); alone = k .3 }, k .2))))
@@ -197,45 +199,45 @@ module _ {t : List ℕ} (small : length t < 4294967296) where
   unfolding modelUnit
   model-unit =
       bind (the-word (ascii "MODEL")) (λ _ _ _. bind (a-name small) (λ _ n h. bind (option (isMark "(") (bind (the-mark "(") (λ _ _ _. bind (a-name small) (λ _ _ _. the-mark ")")))) (λ _ _ _.
-      bind (the-word (ascii "AT")) (λ _ _ _. bind a-string (λ _ _ _. bind (the-word (ascii "VERSION")) (λ _ _ _. bind a-string (λ _ _ _. bind (the-mark "=") (λ _ _ _. stays (λ _. h)))))))))
+      bind (the-word (ascii "AT")) (λ _ _ _. bind a-string (λ _ a j. bind (the-word (ascii "VERSION")) (λ _ _ _. bind a-string (λ _ v k. bind (the-mark "=") (λ _ _ _. stays (λ _. (h, j, k))))))))))
 
   topic-unit : Gives t (Whole t) (Reads t) topicUnit
   unfolding topicUnit
   topic-unit = bind (the-word (ascii "TOPIC")) (λ _ _ _. bind (a-name small) (λ _ n h. bind (the-mark "=") (λ _ _ _. stays (λ _. h))))
 
-  class-unit : (i : Bool) → Gives t (Whole t) (Reads t) (classUnit i)
+  class-unit : (i : Around) → Gives t (Whole t) (Reads t) (classUnit i)
   unfolding classUnit
   class-unit i =
-      bind (skips (isOneWord (ascii "CLASS" ∷ ascii "STRUCTURE" ∷ []))) (λ _ _ _. bind (a-name small) (λ _ n h. bind (the-properties (ascii "ABSTRACT" ∷ ascii "FINAL" ∷ [])) (λ _ p _.
-      bind (the-base small) (λ _ b k. bind (the-mark "=") (λ _ _ _. stays (λ _. (h, k)))))))
+      bind (skips (isOneWord (ascii "CLASS" ∷ ascii "STRUCTURE" ∷ []))) (λ _ d _. bind (a-name small) (λ _ n h. bind (the-properties (ascii "ABSTRACT" ∷ ascii "FINAL" ∷ [])) (λ _ p _.
+      bind (the-base small) (λ _ b k. bind (the-mark "=") (λ _ _ _. stays (λ _. (h, k, (same (d .bytes) (ascii "STRUCTURE"), refl))))))))
 
-  domain-unit : (i : Bool) → Gives t (Whole t) (Reads t) (domainUnit i)
+  domain-unit : (i : Around) → Gives t (Whole t) (Reads t) (domainUnit i)
   unfolding domainUnit
   domain-unit i =
       bind (a-name small) (λ _ n h. bind (the-properties (ascii "ABSTRACT" ∷ ascii "FINAL" ∷ [])) (λ _ p _. bind (the-base small) (λ _ b k. bind (the-mark "=") (λ _ _ _.
       bind (the-written (λ x. referenceIn (some x) ≡ none) (a-type small) (isGiven b)) (λ _ w l. bind (the-mark ";") (λ _ _ _. stays (λ _. (h, k, l .0, no-reference (w .type) (l .1)))))))))
 
-  attribute-unit : (i : Bool) → Gives t (Whole t) (Reads t) (attributeUnit i)
+  attribute-unit : (i : Around) → Gives t (Whole t) (Reads t) (attributeUnit i)
   unfolding attributeUnit
   attribute-unit i =
       bind (a-name small) (λ _ n h. bind (the-properties (ascii "EXTENDED" ∷ ascii "FINAL" ∷ [])) (λ _ p _. bind (the-mark ":") (λ _ _ _.
       bind (the-written (λ _. Unit) (type-or-reference small) (isOneOf (ascii "EXTENDED") p)) (λ _ w l. bind (the-mark ";") (λ _ _ _. stays (λ _. (h, l .0)))))))
 
-  body-end : (i : Bool) → Gives t (Whole t) (Reads t) (bodyEnd i)
+  body-end : (i : Around) → Gives t (Whole t) (Reads t) (bodyEnd i)
   unfolding bodyEnd
-  body-end true = end-unit ";" (body false false)
-  body-end false = end-unit "." over
+  body-end U.in-topic = end-unit ";" (body U.in-model U.no-run)
+  body-end U.in-model = end-unit "." over
 
   the-unit : (w : Where) → Gives t (Whole t) (Reads t) (unitAt w)
   unfolding unitAt bodyUnit memberUnit lastStep
   the-unit start = header-unit
   the-unit afterHeader = model-unit
   the-unit (body i r) =
-      if-next (λ y. not i && isWord (ascii "TOPIC") y) topic-unit
+      if-next (λ y. isModel i && isWord (ascii "TOPIC") y) topic-unit
       (if-next (isOneWord (ascii "CLASS" ∷ ascii "STRUCTURE" ∷ [])) (class-unit i)
-      (if-next (isWord (ascii "DOMAIN")) (word-step (ascii "DOMAIN") (body i true)) (if-next (λ y. r && isKind name y) (domain-unit i) (body-end i))))
+      (if-next (isWord (ascii "DOMAIN")) (word-step (ascii "DOMAIN") (body i U.domains)) (if-next (λ y. ofDomains r && isKind name y) (domain-unit i) (body-end i))))
   the-unit (members i r) =
-      if-next (λ y. r && isWord (ascii "ATTRIBUTE") y) (word-step (ascii "ATTRIBUTE") (members i false)) (if-next (isKind name) (attribute-unit i) (end-unit ";" (body i false)))
+      if-next (λ y. isHead r && isWord (ascii "ATTRIBUTE") y) (word-step (ascii "ATTRIBUTE") (members i U.a-member)) (if-next (isKind name) (attribute-unit i) (end-unit ";" (body i U.no-run)))
   the-unit over = bind (skips (isKind stop)) (λ _ _ _. stays (λ _. tt))
 
 -- ---- no unit begins with a number
@@ -243,12 +245,12 @@ number-stops : (w : Where) (t : List ℕ) (p : ℕ) (b : List ℕ) → unitAt w 
 unfolding unitAt headerUnit modelUnit topicUnit classUnit domainUnit attributeUnit endUnit wordStep bodyEnd bodyUnit memberUnit lastStep
 number-stops start t p b = refl
 number-stops afterHeader t p b = refl
-number-stops (body true true) t p b = refl
-number-stops (body true false) t p b = refl
-number-stops (body false true) t p b = refl
-number-stops (body false false) t p b = refl
-number-stops (members i true) t p b = refl
-number-stops (members i false) t p b = refl
+number-stops (body U.in-topic U.domains) t p b = refl
+number-stops (body U.in-topic U.no-run) t p b = refl
+number-stops (body U.in-model U.domains) t p b = refl
+number-stops (body U.in-model U.no-run) t p b = refl
+number-stops (members i U.its-head) t p b = refl
+number-stops (members i U.a-member) t p b = refl
 number-stops over t p b = refl
 
 no-number : (w : Where) (t : List ℕ) (y : Symbol) (q : Step) (z : Symbol) → unitAt w t y ≡ done q z → y .kind ≡ number → ⊥

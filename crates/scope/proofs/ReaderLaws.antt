@@ -5,9 +5,9 @@ use mathlib.Core.List.{List}
 use Prim.Native.Nat.{ℕ}
 use Rattle.rules.specs.Symbols.{Fault, Symbol, endOf, symbolAt}
 use Rattle.rules.specs.Readers.{Result, done, refused, Reader, andThen, _>>=_, ret, refuse, expect, ifNext, optional}
-use Rattle.rules.specs.Grammar.{here}
+use Rattle.rules.specs.Grammar.{placeOfNext}
 use Rattle.rules.proofs.SymbolLaws.{either}
-use Rattle.scope.specs.Scope.{AnyIs}
+use Rattle.rules.specs.All.{AnyIs}
 
 abbrev Ends : {A : Type 0} → (Symbol → Type 0) → (A → Type 0) → Result A → Type 0
 Ends F P (done a z) = P a × F z
@@ -61,7 +61,7 @@ module _ {t : List ℕ} {F : Symbol → Type 0} where
   by-text r g = record { gives = λ y f. g .gives y f }
 
   -- a reader that depends on the next symbol's place
-  pub from-here : {A : Type 0} {P : A → Type 0} {k : ℕ → Reader A} → ((p : ℕ) → Gives t F (λ y a. y .place ≡ p → P a) (k p)) → Gives t F (λ _. P) (here >>= k)
+  pub from-here : {A : Type 0} {P : A → Type 0} {k : ℕ → Reader A} → ((p : ℕ) → Gives t F (λ y a. y .place ≡ p → P a) (k p)) → Gives t F (λ _. P) (placeOfNext >>= k)
   from-here {P} {k} h = record { gives = λ y f. ends-map F (λ a. y .place ≡ y .place → P a) P (λ a g. g refl) (k (y .place) t y) (h (y .place) .gives y f) }
 
   pub passes : {P : Symbol → Symbol → Type 0} (p : Symbol → Bool) → ((y : Symbol) → F y → F (symbolAt t (endOf y))) → ((y : Symbol) → F y → p y ≡ true → P y y) → Gives t F P (expect p)

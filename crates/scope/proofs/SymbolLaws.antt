@@ -8,11 +8,11 @@ use lib.ListN.{length}
 use lib.Dec.{eqb}
 use borrow.Author.Tests.{eqb-true}
 use Rattle.rules.specs.Names.{nameOf}
-use Rattle.rules.specs.Symbols.{Kind, word, name, number, quoted, dots, stop, mark, fault, Symbol, endOf, symbolAt, tag, isKind}
+use Rattle.rules.specs.Symbols.{Kind, word, name, number, quoted, dots, stop, mark, fault, Symbol, endOf, symbolAt, tag, isKind, isNameText}
 use Rattle.rules.proofs.Tests.{never}
 use Rattle.numbers.proofs.SymbolLaws.{Sized, number-sized}
 use Rattle.numbers.proofs.WrittenLaws.{value-small}
-use Rattle.symbols.proofs.CutLaws.{Sound}
+use Rattle.symbols.specs.Cut.{Sound}
 use Rattle.readers.specs.Reads.{Stands}
 use Rattle.readers.proofs.StandLaws.{at-stands}
 use Rattle.enumerations.specs.Standing.{InText}
@@ -26,15 +26,15 @@ pub record Whole (t : List ℕ) (y : Symbol) : Type 0 where
 pub next-whole : (t : List ℕ) (y : Symbol) → Whole t y → Whole t (symbolAt t (endOf y))
 next-whole t y h = record { stands = at-stands t (endOf y) (h .stands .ends); sized = number-sized t (endOf y) }
 
-short-name : (k : Kind) (b : List ℕ) → eqb (tag k) 1 ≡ true → Sound k b → length b ≤ 255
-short-name name b e h = h
-short-name word b e h = never e
-short-name number b e h = never e
-short-name quoted b e h = never e
-short-name dots b e h = never e
-short-name stop b e h = never e
-short-name (fault f) b e h = never e
-short-name (mark m) b e h = absurd (let q = eqb-true (7 + m) 1 e in omega arith)
+sound-name : (k : Kind) (b : List ℕ) → eqb (tag k) 1 ≡ true → Sound k b → (length b ≤ 255) × (isNameText b ≡ true)
+sound-name name b e h = h
+sound-name word b e h = never e
+sound-name number b e h = never e
+sound-name quoted b e h = never e
+sound-name dots b e h = never e
+sound-name stop b e h = never e
+sound-name (fault f) b e h = never e
+sound-name (mark m) b e h = absurd (let q = eqb-true (7 + m) 1 e in omega arith)
 
 kind-number : (k : Kind) → eqb (tag k) 2 ≡ true → k ≡ number
 kind-number name e = never e
@@ -50,8 +50,8 @@ module _ (t : List ℕ) (y : Symbol) (h : Whole t y) where
   pub in-text : length t < 4294967296 → isKind name y ≡ true → InText t (nameOf y)
   in-text l e =
       let b = h .stands .ends in
-      let s = short-name (y .kind) (y .bytes) e (h .stands .coded) in
-      record { fits = b; there = sym (h .stands .written); low = omega arith; short = omega arith }
+      let s = sound-name (y .kind) (y .bytes) e (h .stands .coded) in
+      record { fits = b; there = sym (h .stands .written); low = omega arith; short = let q = s .0 in omega arith; text = s .1 }
 
   pub symbol-in-text : FairSymbol t y
   symbol-in-text = record { fits = h .stands .ends; there = sym (h .stands .written) }

@@ -1,36 +1,30 @@
--- What the code relies on beside the rules, of what is read from a text t and of what is declared: names are parts of the text, numbers have
--- at most 18 digits, enumerations are nested at most 8 deep and have no element twice, and record numbers grow.
+-- What the code relies on beside the rules, of what is read from a text t and of what is declared: names are parts of the text and words that
+-- are not reserved, strings are parts of it, numbers have at most 18 digits, enumerations are nested at most 8 deep and have no element twice,
+-- record numbers grow, and what an attribute names is declared.
 use mathlib.Core.Path.{_≡_}
-use mathlib.Core.Bool.{Bool, true, false}
-use mathlib.Core.Option.{Option, none, some}
-use mathlib.Core.List.{List, [], _∷_}
+use mathlib.Core.Bool.{Bool, true, false, _||_}
+use mathlib.Core.Option.{none}
+use mathlib.Core.List.{List, []}
 use Prim.Native.Nat.{ℕ, _+_, _≤_, _<_, _^_}
 use lib.ListN.{length}
 use lib.IntN.{natAbs}
-use Rattle.rules.specs.Symbols.{Symbol}
+use lib.Signed.{leZ}
+use Rattle.rules.specs.Names.{Name}
+use Rattle.rules.specs.Symbols.{Symbol, isNameText}
 use Rattle.rules.specs.Numbers.{digits, valueOf, decimalsOf}
 use Rattle.rules.specs.Grammar as G
 use Rattle.rules.specs.Grammar.{Reference, WrittenType, Written}
 use Rattle.rules.specs.Units as U
-use Rattle.rules.specs.Units.{Where, start, afterHeader, over, body, members}
+use Rattle.rules.specs.Units.{Where, start, afterHeader, over, body, members, isGiven, classSort}
 use Rattle.rules.specs.Types.{Ty, text, range, numeric, structure, enum}
 use Rattle.rules.specs.Declarations as D
-use Rattle.rules.specs.Declarations.{Use, inline, named, struct, Attribute, Def, attributesOf, isFound, State, known}
+use Rattle.rules.specs.Declarations.{Link, Use, inline, ofDomain, ofStructure, Attribute, isSort, Def, linkOf, attributesOf, isFound, Decl, State, known}
 use Rattle.rules.specs.Book.{records}
-use Rattle.rules.specs.Judge.{isExtended, referenceIn, classSort}
-use Rattle.rules.specs.Check.{nothing}
+use Rattle.rules.specs.All.{All, AnyIs, In}
+use Rattle.rules.specs.Judge.{isExtended, referenceIn}
 use Rattle.ground.specs.Parts.{part}
-use Rattle.enumerations.specs.Standing.{InText, Named, Deep}
-use Rattle.enumerations.proofs.KeptLaws.{Kept}
+use Rattle.enumerations.specs.Standing.{InText, Named, Deep, Kept}
 use Rattle.members.specs.Held.{Apart}
-
-abbrev pub All : {A : Type 0} → (A → Type 0) → List A → Type 0
-All P [] = Unit {0}
-All P (a ∷ l) = P a × All P l
-
-abbrev pub AnyIs : {A : Type 0} → (A → Type 0) → Option A → Type 0
-AnyIs P none = Unit {0}
-AnyIs P (some a) = P a
 
 -- ---- as it is read
 abbrev pub FairReference : List ℕ → Reference → Type 0
@@ -71,10 +65,10 @@ pub record FairSymbol (t : List ℕ) (y : Symbol) : Type 0 where
 
 abbrev pub FairUnit : List ℕ → U.Unit → Type 0
 FairUnit t (U.header v) = FairSymbol t v
-FairUnit t (U.model n) = InText t n
+FairUnit t (U.model n q) = InText t n × FairSymbol t (q .address) × FairSymbol t (q .version)
 FairUnit t (U.topic n) = InText t n
-FairUnit t (U.class st n p b) = InText t n × AnyIs (FairReference t) b
-FairUnit t (U.domain n p b w) = InText t n × AnyIs (FairReference t) b × FairWritten t (isFound b) w × (referenceIn (w .type) ≡ none)
+FairUnit t (U.class c n p b) = InText t n × AnyIs (FairReference t) b × ((k : Bool) × (c ≡ classSort k))
+FairUnit t (U.domain n p b w) = InText t n × AnyIs (FairReference t) b × FairWritten t (isGiven b) w × (referenceIn (w .type) ≡ none)
 FairUnit t (U.attribute n p w) = InText t n × FairWritten t (isExtended p) w
 FairUnit t (U.close n) = InText t n
 
@@ -85,26 +79,37 @@ FairLimit n = (0 < n) × (n < 4294967296)
 -- a type that gives values
 abbrev pub Fair : List ℕ → Ty → Type 0
 Fair t (text m n) = AnyIs FairLimit n
-Fair t (range r) = (r .decimals ≤ 17) × (natAbs (r .low) < 10 ^ 18) × (natAbs (r .high) < 10 ^ 18)
+Fair t (range r) = (r .decimals ≤ 17) × (natAbs (r .low) < 10 ^ 18) × (natAbs (r .high) < 10 ^ 18) × (leZ (r .low) (r .high) ≡ true)
 Fair t numeric = Unit {0}
 Fair t (enum e) = Kept t e
 Fair t structure = ⊥
 
 abbrev pub FairUse : List ℕ → Use → Type 0
 FairUse t (inline x) = Fair t x
-FairUse t (named l bs) = Fair t (l .type)
-FairUse t (struct l bs) = Unit {0}
+FairUse t (ofDomain l bs) = Fair t (l .type)
+FairUse t (ofStructure l bs) = Unit {0}
 
--- n records stand before
+-- a word that is no reserved word
+abbrev pub NameText : List ℕ → Type 0
+NameText b = isNameText b ≡ true
+
+-- n is the count of records so far
 pub record FairAttribute (t : List ℕ) (n : ℕ) (a : Attribute) : Type 0 where
   pub used : FairUse t (a .use-of)
   pub before : a .number < n
+  pub name : InText t (a .name)
+
+abbrev pub FairLink : Link → Type 0
+FairLink l = NameText (l .name) × AnyIs NameText (l .around)
 
 pub record FairDef (t : List ℕ) (n : ℕ) (d : Def) : Type 0 where
   pub type : d .sort ≡ D.domain → Fair t (d .type)
   pub before : d .number < n
   pub attributes : All (FairAttribute t n) (attributesOf d)
   pub bare : d .sort ≡ D.domain → attributesOf d ≡ []
+  pub name : InText t (d .name)
+  pub around : AnyIs NameText (d .around)
+  pub bases : All FairLink (d .bases)
 
 pub record FairOpen (t : List ℕ) (n : ℕ) (c : Def) : Type 0 where
   pub fair : FairDef t n c
@@ -112,23 +117,54 @@ pub record FairOpen (t : List ℕ) (n : ℕ) (c : Def) : Type 0 where
   pub sort : c .sort ≡ classSort structure
   pub apart : Apart c
 
+-- what an attribute names is declared in K, and makes the attribute mandatory if it is so itself
+pub record LeadsTo (K : List Def) (l : Link) (bs : List Link) (mandatory : Bool) (d : Def) : Type 0 where
+  pub declared : In d K
+  pub link : linkOf d ≡ l
+  pub bases : d .bases ≡ bs
+  pub holds : (d .mandatory || mandatory) ≡ mandatory
+
+-- a domain that is named is not ABSTRACT
+abbrev pub NamesDeclared : List Def → Use → Bool → Type 0
+NamesDeclared K (inline x) m = Unit {0}
+NamesDeclared K (ofDomain l bs) m = (d : Def) × LeadsTo K l bs m d × (isSort D.domain (d .sort) ≡ true) × (d .abstract ≡ false)
+NamesDeclared K (ofStructure l bs) m = (d : Def) × LeadsTo K l bs m d × (isSort D.struct (d .sort) ≡ true)
+
+abbrev pub NamesAll : List Def → Def → Type 0
+NamesAll K d = All (λ (a : Attribute). NamesDeclared K (a .use-of) (a .mandatory)) (attributesOf d)
+
+-- the names that declarations have besides those of definitions; m is the model's
+abbrev pub FairDecl : List ℕ → Name → Decl → Type 0
+FairDecl t m (D.model n) = InText t n × (m ≡ n)
+FairDecl t m (D.def d) = Unit {0}
+FairDecl t m (D.endTopic n) = InText t n
+
 pub record FairState (t : List ℕ) (s : State) : Type 0 where
   pub defs : All (FairDef t (length (records s))) (known (s .decls))
   pub open-class : AnyIs (FairOpen t (length (records s))) (s .open-class)
+  pub names : All (NamesAll (known (s .decls))) (known (s .decls))
+  pub open-names : AnyIs (NamesAll (known (s .decls))) (s .open-class)
+  pub decls : All (FairDecl t (s .model)) (s .decls)
+  pub topic : AnyIs (λ (d : Def). InText t (d .name)) (s .topic)
 
 -- ---- where units stand: a class is open exactly where its members are read, and nothing is declared before the model
+pub record Undeclared (s : State) : Type 0 where
+  pub decls : s .decls ≡ []
+  pub topic : s .topic ≡ none
+  pub open-class : s .open-class ≡ none
+
 abbrev pub Placed : Where → State → Type 0
-Placed start s = s ≡ nothing
-Placed afterHeader s = s ≡ nothing
+Placed start s = Undeclared s
+Placed afterHeader s = Undeclared s
 Placed over s = isFound (s .open-class) ≡ false
-Placed (body t r) s = isFound (s .open-class) ≡ false
-Placed (members t r) s = isFound (s .open-class) ≡ true
+Placed (body a r) s = isFound (s .open-class) ≡ false
+Placed (members a b) s = isFound (s .open-class) ≡ true
 
 abbrev pub MayStand : State → U.Unit → Type 0
-MayStand s (U.header v) = s ≡ nothing
-MayStand s (U.model n) = s ≡ nothing
+MayStand s (U.header v) = Undeclared s
+MayStand s (U.model n q) = Undeclared s
 MayStand s (U.topic n) = isFound (s .open-class) ≡ false
-MayStand s (U.class st n p b) = isFound (s .open-class) ≡ false
+MayStand s (U.class c n p b) = isFound (s .open-class) ≡ false
 MayStand s (U.domain n p b w) = isFound (s .open-class) ≡ false
 MayStand s (U.attribute n p w) = isFound (s .open-class) ≡ true
 MayStand s (U.close n) = Unit {0}

@@ -12,7 +12,7 @@ use Rattle.rules.specs.Declarations.{Def, State, numberIn}
 use Rattle.rules.specs.Book.{records, book}
 use Rattle.rules.specs.Units as U
 use Rattle.rules.specs.Judge.{Judged, ok, refused, judge}
-use Rattle.rules.specs.Check.{unitPlace, capacity, room}
+use Rattle.rules.specs.Check.{unitPlace, lent, capacity, room}
 use Rattle.enumerations.specs.Standing.{InText}
 use Rattle.names.specs.Index.{homeNumber}
 use Rattle.names.specs.References.{bytesOf}
@@ -58,13 +58,13 @@ module _ (t : List ℕ) (s : State) (st : code.State) (o x z y ns ps : List ℕ)
 
 -- ---- 19
 module _ (m p : ℕ) (s : State) (h : m ≤ 65535) where
-  whole : capacity m ≡ m
+  whole : capacity (lent m) ≡ m
   whole = min-eq-left h
 
-  pub room-over : m < length (book s) → room m p (ok s) ≡ refused 19 p
+  pub room-over : m < length (book s) → room (lent m) p (ok s) ≡ refused 19 p
   room-over w = rw (whole, lt-ltb m (length (book s)) w)
 
-  pub room-within : length (book s) ≤ m → room m p (ok s) ≡ ok s
+  pub room-within : length (book s) ≤ m → room (lent m) p (ok s) ≡ ok s
   room-within w = rw (whole, le-ltb m (length (book s)) w)
 
 -- ---- the answer: a rule of 4 and 7 to 18, 19, or the next state
@@ -73,15 +73,15 @@ module _ (t : List ℕ) (s : State) (v : U.Unit) (o : List ℕ) (st : code.State
   answer j e h = subst (λ (i : Judged). JudgedAs t i st r o' x z y ns ps) (sym e) h
 
   pub judged-refused : (n p : ℕ) → judge s v ≡ refused n p → r ≡ Refused n p → JudgedAs t (verdict s v o) st r o' x z y ns ps
-  judged-refused n p e h = answer (refused n p) (ap (room (length o) (unitPlace v)) e) h
+  judged-refused n p e h = answer (refused n p) (ap (room (lent (length o)) (unitPlace v)) e) h
 
   pub judged-over : (s' : State) → judge s v ≡ ok s' → length o ≤ 65535 → length o < length (book s') → r ≡ Refused 19 (unitPlace v) → JudgedAs t (verdict s v o) st r o' x z y ns ps
-  judged-over s' e m w h = answer (refused 19 (unitPlace v)) (ap (room (length o) (unitPlace v)) e ∙ room-over (length o) (unitPlace v) s' m w) h
+  judged-over s' e m w h = answer (refused 19 (unitPlace v)) (ap (room (lent (length o)) (unitPlace v)) e ∙ room-over (length o) (unitPlace v) s' m w) h
 
   pub judged-fine : (s' : State) (st' : code.State) → judge s v ≡ ok s' → length o ≤ 65535 → st' .used ≤ length o → r ≡ Fine st' → Keeps t s' st' o' x z y ns ps → Grows st st' → JudgedAs t (verdict s v o) st r o' x z y ns ps
   judged-fine s' st' e m w h k g =
       let u = k .used in
-      answer (ok s') (ap (room (length o) (unitPlace v)) e ∙ room-within (length o) (unitPlace v) s' m (omega arith)) (st', h, k, g)
+      answer (ok s') (ap (room (lent (length o)) (unitPlace v)) e ∙ room-within (length o) (unitPlace v) s' m (omega arith)) (st', h, k, g)
 
   pub judged-ok : (s' : State) → judge s v ≡ ok s' → length o ≤ 65535 → length (book s') ≤ length o → JudgedAs t (ok s') st r o' x z y ns ps → JudgedAs t (verdict s v o) st r o' x z y ns ps
-  judged-ok s' e m w h = answer (ok s') (ap (room (length o) (unitPlace v)) e ∙ room-within (length o) (unitPlace v) s' m w) h
+  judged-ok s' e m w h = answer (ok s') (ap (room (lent (length o)) (unitPlace v)) e ∙ room-within (length o) (unitPlace v) s' m w) h

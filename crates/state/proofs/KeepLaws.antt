@@ -12,9 +12,10 @@ use Rattle.rules.specs.Names as R
 use Rattle.rules.specs.Enumerations.{Enum, end, elem}
 use Rattle.rules.specs.Types.{Ty, text, range, numeric, structure, enum}
 use Rattle.rules.specs.Declarations as D
-use Rattle.rules.specs.Declarations.{Use, inline, named, struct, Attribute, Sort, Def, attributeAt, attributesOf, isFound, nameCount, Decl, def, endTopic, State, known}
-use Rattle.rules.specs.Book.{Record, bytes, nameRecord, defRecord, innerRecords, elementRecords, typeRecords, useRecords, headRecords, endRecords, declRecords, declsRecords, attributeRecords, attributesRecords, records, book, isDefinition, definitions}
-use Rattle.rules.specs.Judge.{declare, opened, inTopic, begun, classSort, withAttribute}
+use Rattle.rules.specs.Declarations.{Use, inline, ofDomain, ofStructure, Attribute, Sort, Def, attributeAt, attributesOf, isFound, nameCount, Decl, def, endTopic, State, known}
+use Rattle.rules.specs.Book.{Record, bytes, nameRecord, innerRecords, elementRecords, typeRecords, useRecords, headRecords, endRecords, declRecords, declsRecords, attributeRecords, attributesRecords, records, book, isDefinition, definitions}
+use Rattle.rules.specs.Units.{Strings, classSort}
+use Rattle.rules.specs.Judge.{declare, opened, inTopic, begun, withAttribute}
 use Rattle.rules.specs.Check.{nothing}
 use Rattle.ground.specs.Parts.{splice}
 use Rattle.ground.specs.declared.Name.{Name}
@@ -24,9 +25,10 @@ use Rattle.names.proofs.IndexLaws.{entry-keep}
 use Rattle.names.proofs.KnownLaws.{chains-none}
 use Rattle.members.specs.Held.{DefRow, AttributeRow, OpenRow, Opened, ownsOf, attributesIn}
 use Rattle.members.proofs.HeldLaws.{Agree}
-use Rattle.members.proofs.StateLaws.{known-append, book-attribute, held-declared, held-opened, held-member, held-closed, held-ended, open-row-more}
-use Rattle.scope.specs.Scope.{FairOpen, FairState}
-use Rattle.scope.proofs.ListLaws.{any-is}
+use Rattle.rules.proofs.GrowLaws.{known-append, bytes-append, decls-append}
+use Rattle.members.proofs.StateLaws.{nowhere, owns-append, head-more, end-is, book-attribute, held-declared, held-opened, held-member, held-closed, held-ended, open-row-more}
+use Rattle.scope.specs.Scope.{FairOpen, FairState, Undeclared}
+use Rattle.rules.proofs.AllLaws.{any-is}
 use Rattle.scope.proofs.UseLaws.{fair-nothing}
 use Rattle.state.specs.declared.State as code
 use Rattle.state.specs.Keeping.{Calls, TopicIs, OpenIs, Keeps}
@@ -48,10 +50,6 @@ definitions-few (r ∷ l) = go (isDefinition r) (definitions-few l)
     go : (b : Bool) → definitions l ≤ length l → cond b (suc (definitions l)) (definitions l) ≤ suc (length l)
     go true h = omega arith
     go false h = omega arith
-
-bytes-append : (l m : List Record) → bytes (l ++ m) ≡ bytes l ++ bytes m
-bytes-append [] m = refl
-bytes-append (r ∷ l) m = ap (λ (x : List ℕ). r ++ x) (bytes-append l m) ∙ sym (append-assoc r (bytes l) (bytes m))
 
 length-bytes : (l m : List Record) → length (bytes (l ++ m)) ≡ length (bytes l) + length (bytes m)
 length-bytes l m = ap length (bytes-append l m) ∙ length-append (bytes l) (bytes m)
@@ -100,8 +98,8 @@ plain-type (enum e) = plain-one 13 _ _ refl (plain-elements e)
 
 pub plain-use : (u : Use) → Plain (useRecords u)
 plain-use (inline x) = plain-type x
-plain-use (named l bs) = plain-one 17 _ [] refl plain-none
-plain-use (struct l bs) = plain-one 12 _ [] refl plain-none
+plain-use (ofDomain l bs) = plain-one 17 _ [] refl plain-none
+plain-use (ofStructure l bs) = plain-one 12 _ [] refl plain-none
 
 -- ---- the records of a declaration
 pub attribute-solid : (a : Attribute) → Solid (attributeRecords a)
@@ -142,14 +140,6 @@ pub attribute-defined : (a : Attribute) → definitions (attributeRecords a) ≡
 attribute-defined a = ap suc (plain-use (a .use-of) .undefined)
 
 -- ---- the records of a state that grow
-decls-append : (l : List Decl) (e : Decl) → declsRecords (l ++ (e ∷ [])) ≡ declsRecords l ++ declRecords e
-decls-append [] e = append-nil (declRecords e)
-decls-append (d ∷ l) e = ap (λ (x : List Record). declRecords d ++ x) (decls-append l e) ∙ sym (append-assoc (declRecords d) (declsRecords l) (declRecords e))
-
-attributes-append : (l : List Attribute) (a : Attribute) → attributesRecords (l ++ (a ∷ [])) ≡ attributesRecords l ++ attributeRecords a
-attributes-append [] a = append-nil (attributeRecords a)
-attributes-append (b ∷ l) a = ap (λ (x : List Record). attributeRecords b ++ x) (attributes-append l a) ∙ sym (append-assoc (attributeRecords b) (attributesRecords l) (attributeRecords a))
-
 pub records-declared : (s : State) (e : Decl) → s .open-class ≡ none → records (declare s e) ≡ records s ++ declRecords e
 records-declared s e o = rw (o, append-nil (declsRecords (s .decls)), append-nil (declsRecords (s .decls ++ (e ∷ [])))) (decls-append (s .decls) e)
 
@@ -157,15 +147,6 @@ pub records-opened : (s : State) (c : Def) → s .open-class ≡ none → record
 records-opened s c o = rw (o, append-nil (declsRecords (s .decls)))
 
 -- of a class or structure
-class-more : (x : Sort) (k : Bool) (c : Def) (a : Attribute) → x ≡ classSort k → headRecords x (withAttribute c a) ≡ headRecords x c ++ attributeRecords a
-unfolding withAttribute
-class-more x true c a e = rw e (ap (λ (l : List Record). defRecord 5 c ∷ l) (attributes-append (c .own) a))
-class-more x false c a e = rw e (ap (λ (l : List Record). defRecord 4 c ∷ l) (attributes-append (c .own) a))
-
-class-end : (x : Sort) (k : Bool) → x ≡ classSort k → endRecords x ≡ (16 ∷ []) ∷ []
-class-end x true e = rw e
-class-end x false e = rw e
-
 -- a class's head without attributes
 class-head : (x : Sort) (k : Bool) (c : Def) → x ≡ classSort k → c .own ≡ [] → (length (headRecords x c) ≡ 1) × (length (bytes (headRecords x c)) ≡ 11) × (definitions (headRecords x c) ≡ 1)
 class-head x true c e w = rw (e, w) (refl, refl, refl)
@@ -174,11 +155,11 @@ class-head x false c e w = rw (e, w) (refl, refl, refl)
 module _ (s : State) (c : Def) (k : Bool) (o : s .open-class ≡ some c) (e : c .sort ≡ classSort k) where
   pub records-member : (a : Attribute) → records (opened s (withAttribute c a)) ≡ records s ++ attributeRecords a
   unfolding withAttribute
-  records-member a = rw (o, class-more (c .sort) k c a e) (sym (append-assoc (declsRecords (s .decls)) (headRecords (c .sort) c) (attributeRecords a)))
+  records-member a = rw (o, head-more (c .sort) k c a e) (sym (append-assoc (declsRecords (s .decls)) (headRecords (c .sort) c) (attributeRecords a)))
 
   pub records-closed : records (declare s (def c)) ≡ records s ++ ((16 ∷ []) ∷ [])
   records-closed =
-      rw (o, append-nil (declsRecords (s .decls ++ (def c ∷ []))), decls-append (s .decls) (def c), class-end (c .sort) k e)
+      rw (o, append-nil (declsRecords (s .decls ++ (def c ∷ []))), decls-append (s .decls) (def c), end-is (c .sort) k e)
       (sym (append-assoc (declsRecords (s .decls)) (headRecords (c .sort) c) ((16 ∷ []) ∷ [])))
 
 -- ---- the book in its buffer, with v behind it
@@ -225,15 +206,7 @@ grown s s' st o o' l b r d k e f w eb er ed =
       defined = let p = ap definitions e in let q = definitions-append (records s) l in let h = k .defined in omega arith;
     }
 
-owns-append : (ks : List Def) (d : Def) → ownsOf (ks ++ (d ∷ [])) ≡ ownsOf ks ++ d .own
-owns-append [] d = append-nil (d .own)
-owns-append (k ∷ ks) d = ap (λ (x : List Attribute). k .own ++ x) (owns-append ks d) ∙ sym (append-assoc (k .own) (ownsOf ks) (d .own))
-
 -- ---- the states that the code goes through
-nowhere : {A : Type 0} {a : A} (p : ℕ) → ¬ (entry [] p ≡ some a)
-nowhere zero e = let z : _≡_ {A = ℕ} 0 1 = cc in omega arith
-nowhere (suc i) e = let z : _≡_ {A = ℕ} 0 1 = cc in omega arith
-
 pub keeps-nothing : (t : List ℕ) (st : code.State) (o x y ns ps : List ℕ) (n : ℕ) → st .used ≡ 0 → st .records ≡ 0 → st .definitions ≡ 0 → st .count ≡ 0 → st .total ≡ 0 → st .model .offset ≡ 0 → st .model .len ≡ 0 → st .home ≡ 0
     → st .open ≡ false → st .«in_hand» ≡ 0 → st .held ≡ 0 → Keeps t nothing st o x (replicate n 0) y ns ps
 keeps-nothing t st o x y ns ps n eu er ed ec et eo el eh ep ei ee = record {
@@ -307,8 +280,8 @@ module _ (t : List ℕ) (s : State) (st : code.State) (o x z y ns ps : List ℕ)
       }
 
   -- in a topic, or out of one
-  pub keeps-in : (d : Option Def) (n : Name) (h : ℕ) → s .open-class ≡ none → TopicIs t d (inTopicBy st n h) → Keeps t (inTopic s d) (inTopicBy st n h) o x z y ns ps
-  keeps-in d n h c q =
+  pub keeps-in : (d : Option Def) (n : Name) (h : ℕ) → s .open-class ≡ none → TopicIs t d (inTopicBy st n h) → FairState t (inTopic s d) → Keeps t (inTopic s d) (inTopicBy st n h) o x z y ns ps
+  keeps-in d n h c q f =
       let e : records (inTopic s d) ≡ records s = rw c in
       let a : attributesIn (inTopic s d) ≡ attributesIn s = rw c in
       record {
@@ -322,19 +295,19 @@ module _ (t : List ℕ) (s : State) (st : code.State) (o x z y ns ps : List ℕ)
         topic = q;
         held = rw (e, a) (k .held);
         chained = k .chained;
-        fair = record { defs = rw e (k .fair .defs); open-class = tt };
+        fair = f;
         hand = k .hand;
         opened = rw a (no-class c);
       }
 
   -- the END of a topic
-  pub keeps-ended : (o' : List ℕ) → s .open-class ≡ none → Written (book s) (3 ∷ []) o' → FairState t (inTopic (declare s endTopic) none) → Keeps t (declare s endTopic) (grownBy st 1 1 0) o' x z y ns ps
-  keeps-ended o' c wr f =
-      let g = grown s (declare s endTopic) st o o' ((3 ∷ []) ∷ []) 1 1 0 (booked k) (records-declared s endTopic c) (omega arith) wr refl refl refl in
+  pub keeps-ended : (m : R.Name) (o' : List ℕ) → s .open-class ≡ none → Written (book s) (3 ∷ []) o' → FairState t (inTopic (declare s (endTopic m)) none) → Keeps t (declare s (endTopic m)) (grownBy st 1 1 0) o' x z y ns ps
+  keeps-ended m o' c wr f =
+      let g = grown s (declare s (endTopic m)) st o o' ((3 ∷ []) ∷ []) 1 1 0 (booked k) (records-declared s (endTopic m) c) (omega arith) wr refl refl refl in
       let (op, hl, sz, hd) = no-class c in
-      let n : known (s .decls ++ (endTopic ∷ [])) ≡ known (s .decls) = known-append (s .decls) endTopic ∙ append-nil (known (s .decls)) in
-      let a : attributesIn (declare s endTopic) ≡ attributesIn s = rw (n, c) in
-      let h = held-ended t s x (st .count) y (st .total) (k .held) c in
+      let n : known (s .decls ++ (endTopic m ∷ [])) ≡ known (s .decls) = known-append (s .decls) (endTopic m) ∙ append-nil (known (s .decls)) in
+      let a : attributesIn (declare s (endTopic m)) ≡ attributesIn s = rw (n, c) in
+      let h = held-ended t s x (st .count) y (st .total) m (k .held) c in
       record {
         used = g .used;
         within = g .within;
@@ -346,7 +319,7 @@ module _ (t : List ℕ) (s : State) (st : code.State) (o x z y ns ps : List ℕ)
         topic = topic-kept (grownBy st 1 1 0) refl refl (omega arith);
         held = h;
         chained = rw n (k .chained);
-        fair = record { defs = f .defs; open-class = tt };
+        fair = record { defs = f .defs; open-class = tt; names = f .names; open-names = tt; decls = f .decls; topic = k .fair .topic };
         hand = k .hand;
         opened = (op, hl, omega arith, rw (a, n) hd);
       }
@@ -437,13 +410,20 @@ module _ (t : List ℕ) (s : State) (st : code.State) (o x z y ns ps : List ℕ)
           opened = (refl, omega arith, omega arith, rw (a, n, entry-last (known (s .decls)) c (st .count + 1) (omega arith)) was);
         }
 
--- the model
-pub keeps-begun : (t : List ℕ) (st : code.State) (o x z y ns ps : List ℕ) → Keeps t nothing st o x z y ns ps → (n : R.Name) (m : Name) (o' : List ℕ) → Calls t m n → Written [] (nameRecord 1 n) o' → FairState t (begun n)
-    → Keeps t (begun n) (begunBy st m) o' x z y ns ps
-keeps-begun t st o x z y ns ps k n m o' c wr f =
+-- the model, where nothing is declared
+abbrev blank : R.Name → Strings → State
+blank n q = record { model = n; strings = q; decls = []; topic = none; open-class = none }
+
+is-blank : (s : State) → Undeclared s → s ≡ blank (s .model) (s .strings)
+is-blank s u = λ i. record { model = s .model; strings = s .strings; decls = u .decls i; topic = u .topic i; open-class = u .open-class i }
+
+pub keeps-begun : (t : List ℕ) (s : State) (st : code.State) (o x z y ns ps : List ℕ) → Keeps t s st o x z y ns ps → Undeclared s → (n : R.Name) (q : Strings) (m : Name) (o' : List ℕ) → Calls t m n
+    → Written [] (nameRecord 1 n) o' → FairState t (begun n q) → Keeps t (begun n q) (begunBy st m) o' x z y ns ps
+keeps-begun t s st o x z y ns ps k u n q m o' c wr f =
+    let b : Keeps t (blank (s .model) (s .strings)) st o x z y ns ps = subst (λ (r : State). Keeps t r st o x z y ns ps) (is-blank s u) k in
     let w : Written [] (bytes (nameRecord 1 n ∷ [])) o' = wr in
-    let g = grown nothing (begun n) st o o' (nameRecord 1 n ∷ []) 6 1 0 (booked k) refl (omega arith) w refl refl refl in
-    let (op, hl, sz, hd) = k .opened in
+    let g = grown (blank (s .model) (s .strings)) (begun n q) st o o' (nameRecord 1 n ∷ []) 6 1 0 (booked b) refl (omega arith) w refl refl refl in
+    let (op, hl, sz, hd) = b .opened in
     record {
       used = g .used;
       within = g .within;
@@ -452,10 +432,10 @@ keeps-begun t st o x z y ns ps k n m o' c wr f =
       fewer = g .fewer;
       defined = let h = g .defined in omega arith;
       model = c;
-      topic = k .topic;
-      held = record { all-defs = k .held .all-defs; all-attributes = k .held .all-attributes; def-rows = λ p d e. absurd (nowhere p e); attribute-rows = λ q a e. absurd (nowhere q e) };
-      chained = k .chained;
+      topic = b .topic;
+      held = record { all-defs = b .held .all-defs; all-attributes = b .held .all-attributes; def-rows = λ p d e. absurd (nowhere p e); attribute-rows = λ q a e. absurd (nowhere q e) };
+      chained = b .chained;
       fair = f;
-      hand = k .hand;
+      hand = b .hand;
       opened = (op, hl, omega arith, hd);
     }

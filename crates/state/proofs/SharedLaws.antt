@@ -8,6 +8,7 @@ use native.Mathlib.Omega.{arith}
 use lib.ListN.{length}
 use lib.Dec.{ltb}
 use borrow.Author.Tests.{lt-ltb, eq-eqb, ne-eqb}
+use Rattle.types.proofs.RulingLaws.{Positive}
 use Rattle.rules.specs.Names as R
 use Rattle.rules.specs.Grammar as G
 use Rattle.rules.specs.Declarations.{Def, Sort, sortNumber, isFound, State, resolve}
@@ -26,7 +27,8 @@ use Rattle.parts.specs.declared.Properties.{Properties}
 use Rattle.parts.specs.declared.Extends.{Extends}
 use Rattle.parts.specs.declared.Extends.the-variants.{Nothing, Base}
 use Rattle.parts.specs.Forms.{flagsOf, referenceOf, extendsOf}
-use Rattle.scope.specs.Scope.{AnyIs, FairReference}
+use Rattle.rules.specs.All.{AnyIs}
+use Rattle.scope.specs.Scope.{FairReference}
 use Rattle.types.specs.Rulings.{rulingOf}
 use Rattle.types.specs.declared.Ruling.{Ruling}
 use Rattle.state.proofs.JudgeLaws.{calls-cut}
@@ -98,6 +100,11 @@ module _ (t : List ℕ) (ks : List Def) (x : List ℕ) (count : ℕ) (k : Known 
 
       pub ruling-fine : v ≡ false → record { number = 0; place = 0 } ≡ rulingOf (extendsRules c (some b) (entry ks p))
       ruling-fine h = at (record { number = 0; place = 0 }) (λ d y g. of-fine c b d place q (sym es ∙ sym u ∙ g) (sym (ev d y) ∙ h))
+
+-- all have a number
+pub extends-positive : (c : Sort) (b : Option G.Reference) (o : Option Def) → Positive (extendsRules c b o)
+unfolding extendsRules
+extends-positive c b o = (omega arith, (omega arith, (omega arith, tt)))
 
 -- ---- EXTENDS
 pub extends-inside : (t : List ℕ) (b : Option G.Reference) (e : Extends) (r : Reference) → e ≡ Base r → e ≡ extendsOf b → AnyIs (FairReference t) b → AllInside t r

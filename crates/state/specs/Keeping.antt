@@ -11,7 +11,7 @@ use Rattle.rules.specs.Declarations.{Def, State, known}
 use Rattle.rules.specs.Book.{records, book, definitions}
 use Rattle.rules.specs.Judge as J
 use Rattle.rules.specs.Judge.{judge}
-use Rattle.rules.specs.Check.{unitPlace, room}
+use Rattle.rules.specs.Check.{unitPlace, lent, room}
 use Rattle.ground.specs.declared.Name.{Name}
 use Rattle.names.specs.Index.{entry, row}
 use Rattle.names.specs.Chains.{Chains}
@@ -83,4 +83,4 @@ pub record Comes (t : List ℕ) (s : State) (v : U.Unit) (u : Unit) (rs : List �
 
 -- 4 by count and 7 to 19 of it, with the buffer o
 abbrev pub verdict : State → U.Unit → List ℕ → J.Judged
-verdict s v o = room (length o) (unitPlace v) (judge s v)
+verdict s v o = room (lent (length o)) (unitPlace v) (judge s v)

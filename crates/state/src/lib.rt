@@ -5,7 +5,7 @@ use parts::Extends;
 use parts::Properties;
 use types::Ruling;
 ghost use mathlib.Core.Path.{_≡_};
-ghost use mathlib.Core.Bool.{Bool, false, _&&_, _||_};
+ghost use mathlib.Core.Bool.{false, _&&_, _||_};
 ghost use mathlib.Core.Option.{Option, some};
 ghost use mathlib.Core.List.{List};
 ghost use Prim.Native.Nat.{ℕ, _+_, _*_, _≤_, _<_};
@@ -19,7 +19,8 @@ ghost use Rattle.rules.specs.Judge.{firstPlace, hasTwice, isAbstract, isFinal, 
 ghost use Rattle.names.specs.Index.{entry, Known};
 ghost use Rattle.names.specs.References.{bytesOf, Inside, AllInside};
 ghost use Rattle.parts.specs.Forms.{flagsOf, referenceOf, extendsOf};
-ghost use Rattle.scope.specs.Scope.{AnyIs, FairReference};
+ghost use Rattle.rules.specs.All.{AnyIs};
+ghost use Rattle.scope.specs.Scope.{FairReference};
 ghost use Rattle.types.specs.Rulings.{rulingOf};
 ghost use Rattle.rules.specs.Check.{nothing as Check·nothing};
 ghost use Rattle.state.specs.declared.Judged.the-variants.{Fine, Refused};

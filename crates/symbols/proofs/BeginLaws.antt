@@ -9,17 +9,18 @@ use native.Mathlib.Omega.{arith}
 use lib.ListN.{length, take, drop, getD, drop-of-length-le}
 use lib.Seq.{drop-cons}
 use borrow.Author.Tests.{eqb-true}
-use Rattle.rules.specs.Bytes.{is, isLetter, isDigit, isWordByte, span}
+use Rattle.rules.specs.Bytes.{part, is, isLetter, isDigit, isWordByte, span}
 use Rattle.rules.specs.Symbols.{Symbol, no-symbol, fault, mark, dots, symbol, isMarkByte, unsignedLength, quote, aWord, aNumber, aString, symbolOf, upTo, open-at, beyond}
 use Rattle.rules.specs.Symbols as rules
 use Rattle.rules.proofs.Tests.{split, or-split, or-fails, not-is, is-false, not-both}
 use Rattle.symbols.specs.Cut.{made, cut}
 use Rattle.symbols.specs.declared.Class.the-variants.{Letter, Digit, Sign, Quote, Punctuation, Other}
 use Rattle.symbols.specs.declared.Gap.the-variants.{UpTo, OpenAt}
-use Rattle.symbols.specs.Scans.{part, classOf, runEnd, signedCut, markCut, gapOf}
+use Rattle.symbols.specs.Scans.{classOf, runEnd, signedCut, markCut, gapOf}
 use Rattle.symbols.proofs.RangeLaws.{test}
 use Rattle.symbols.proofs.ClassLaws.{begins, class-first}
-use Rattle.symbols.proofs.ScanLaws.{next-byte, length-part}
+use Rattle.rules.proofs.PartLaws.{length-part}
+use Rattle.symbols.proofs.ScanLaws.{next-byte}
 use Rattle.symbols.proofs.NumberLaws.{stands}
 
 pub symbol-end : (t : List ℕ) (i : ℕ) → length t ≤ i → cut (symbolOf i (drop i t)) ≡ made 0 5 i 0

@@ -2,7 +2,7 @@
 -- The place and the end of `symbolAt t i` lie in the text by `next-lies` of the rules; they are those of its cut as they stand.
 use mathlib.Core.Path.{_≡_, refl, sym, ap, _∙_}
 use mathlib.Core.Logic.{_⊎_, inl, inr}
-use mathlib.Core.Bool.{true, _&&_, _||_}
+use mathlib.Core.Bool.{Bool, true, false, cond, _&&_, _||_}
 use mathlib.Core.List.{List, [], _∷_}
 use Prim.Native.Nat.{ℕ, zero, suc, _+_, _≤_, _<_}
 use native.Mathlib.Omega.{arith}
@@ -15,20 +15,10 @@ use Rattle.rules.specs.Symbols.{Fault, Kind, word, name, number, quoted, dots, 
 use Rattle.rules.proofs.Tests.{never, alike, or-split, split}
 use Rattle.rules.proofs.ByteLaws.{same-eq, same-refl}
 use Rattle.rules.proofs.SymbolLaws.{either}
-use Rattle.symbols.specs.Cut.{position, codeOf}
+use Rattle.symbols.specs.Cut.{position, codeOf, Sound}
 use Rattle.symbols.proofs.RangeLaws.{test}
 
 -- ---- what holds of a symbol's kind and bytes
-abbrev pub Sound : Kind → List ℕ → Type 0
-Sound word b = isOneOf b forms ≡ true
-Sound name b = length b ≤ 255
-Sound number b = digitCount b ≤ 18
-Sound (mark m) b = (40 ≤ m) × (m ≤ 61)
-Sound quoted b = Unit {0}
-Sound dots b = Unit {0}
-Sound stop b = Unit {0}
-Sound (fault f) b = Unit {0}
-
 pub record Cut (t : List ℕ) (y : Symbol) : Type 0 where
   pub stands : y .bytes ≡ take (length (y .bytes)) (drop (y .place) t)
   pub sound : Sound (y .kind) (y .bytes)
@@ -38,11 +28,25 @@ take-take-length zero s = refl
 take-take-length (suc n) [] = refl
 take-take-length (suc n) (b ∷ s) = ap (λ (l : List ℕ). b ∷ l) (take-take-length n s)
 
-word-sound : (b : List ℕ) → Sound (wordKind b) b
-word-sound b =
-    either (λ k. Sound k b) (ltb 255 (length b)) (λ _. tt)
-    (λ e. either (λ k. Sound k b) (isOneOf b forms) (λ f. f)
-    (λ _. either (λ k. Sound k b) (isOneOf b table) (λ _. tt) (λ _. ltb-false 255 (length b) e)))
+-- the bytes of a run pass its test
+span-run : (p : ℕ → Bool) (s : List ℕ) → span p (take (span p s) s) ≡ length (take (span p s) s)
+span-run p [] = refl
+span-run p (b ∷ s) = go (p b) refl (span-run p s)
+  where
+    go : (c : Bool) → p b ≡ c → span p (take (span p s) s) ≡ length (take (span p s) s) →
+        span p (take (cond c (suc (span p s)) zero) (b ∷ s)) ≡ length (take (cond c (suc (span p s)) zero) (b ∷ s))
+    go true e h = rw e (ap suc h)
+    go false e h = refl
+
+-- a word is a letter with word bytes behind it
+word-sound : (b : ℕ) (s : List ℕ) → isLetter b ≡ true → span isWordByte s ≡ length s → Sound (wordKind (b ∷ s)) (b ∷ s)
+word-sound b s l q =
+    either (λ k. Sound k w) (ltb 255 (length w)) (λ _. tt)
+    (λ e. either (λ k. Sound k w) (isOneOf w forms) (λ f. f)
+    (λ f. either (λ k. Sound k w) (isOneOf w table) (λ _. tt) (λ g. (ltb-false 255 (length w) e, let r = eq-eqb (span isWordByte s) (length s) q in rw (l, r, e, f, g)))))
+  where
+    w : List ℕ
+    w = b ∷ s
 
 number-sound : (b : List ℕ) → Sound (numberKind b) b
 number-sound b = either (λ k. Sound k b) (ltb 18 (digitCount b)) (λ _. tt) (λ e. ltb-false 18 (digitCount b) e)
@@ -72,8 +76,8 @@ module _ (t : List ℕ) (k : ℕ) where
   first-cut : (y : Kind) (n : ℕ) → Sound y (take n (drop k t)) → Cut t (symbol y k (take n (drop k t)))
   first-cut y n h = record { stands = take-take-length n (drop k t); sound = h }
 
-  word-cut : (n : ℕ) → Cut t (aWord k (take n (drop k t)))
-  word-cut n = first-cut (wordKind (take n (drop k t))) n (word-sound (take n (drop k t)))
+  word-cut : (n : ℕ) → Sound (wordKind (take n (drop k t))) (take n (drop k t)) → Cut t (aWord k (take n (drop k t)))
+  word-cut n h = first-cut (wordKind (take n (drop k t))) n h
 
   number-cut : (n : ℕ) → Cut t (aNumber k (take n (drop k t)))
   number-cut n = first-cut (numberKind (take n (drop k t))) n (number-sound (take n (drop k t)))
@@ -88,7 +92,7 @@ module _ (t : List ℕ) (k : ℕ) where
   of-cut [] e = record { stands = refl; sound = tt }
   of-cut (b ∷ s) e =
       let marked : (40 ≤ b) × (b ≤ 61) → Cut t (symbol (mark b) k (b ∷ [])) = λ h. rw e at (first-cut (mark b) 1 h) in
-      either (Cut t) (isLetter b) (λ _. rw e at (word-cut (suc (span isWordByte s))))
+      either (Cut t) (isLetter b) (λ l. rw e at (word-cut (suc (span isWordByte s)) (rw e (word-sound b (take (span isWordByte s) s) l (span-run isWordByte s)))))
       (λ _. either (Cut t) (isDigit b) (λ _. rw e at (number-cut (unsignedLength (b ∷ s))))
       (λ _. either (Cut t) ((is "+" b || is "-" b) && isDigit (getD s 0 0)) (λ _. rw e at (number-cut (suc (unsignedLength s))))
       (λ _. either (Cut t) (is "\"" b) (λ _. rw e at (string-cut (quote s 0 0)))

@@ -10,13 +10,14 @@ use lib.ListN.{length, take, drop, getD, length-drop, List·getD-eq-default}
 use lib.Seq.{drop-cons, drop-drop, getD-drop, take-add}
 use lib.Dec.{ltb}
 use borrow.Author.Tests.{eqb-true, ltb-true, ltb-false}
-use Rattle.rules.specs.Bytes.{is, isDigit, span}
+use Rattle.rules.specs.Bytes.{part, is, isDigit, span}
 use Rattle.rules.specs.Symbols.{unsignedLength, digitCount, aNumber}
 use Rattle.rules.proofs.Tests.{split, not-both}
 use Rattle.symbols.specs.Cut.{cut}
-use Rattle.symbols.specs.Scans.{part, runEnd, fractionEnd, numberCut}
+use Rattle.symbols.specs.Scans.{runEnd, fractionEnd, numberCut}
 use Rattle.symbols.proofs.RangeLaws.{test}
-use Rattle.symbols.proofs.ScanLaws.{length-part, span-le}
+use Rattle.rules.proofs.PartLaws.{length-part}
+use Rattle.symbols.proofs.ScanLaws.{span-le}
 
 count-append : (x y : List ℕ) → digitCount (x ++ y) ≡ digitCount x + digitCount y
 count-append [] y = sym (omega arith)

@@ -11,16 +11,16 @@ use lib.ListN.{length, drop, getD, length-drop, length-append}
 use lib.Seq.{take-at, drop-at, drop-drop, getD-drop, getD-take}
 use lib.Dec.{eqb, leb, ltb}
 use borrow.Author.Tests.{eqb-true, eq-eqb, lt-ltb, le-ltb, lt-leb}
-use Rattle.rules.specs.Bytes.{same, isOneOf}
+use Rattle.rules.specs.Bytes.{part, same, isOneOf}
 use Rattle.rules.specs.Reserved.{forms, table}
 use Rattle.rules.specs.Symbols.{reserved, word, name, fault, symbol, wordKind, aWord}
 use Rattle.rules.proofs.Tests.{never, contra, split, or-split}
 use Rattle.rules.proofs.ByteLaws.{same-eq}
 use Rattle.symbols.specs.Cut.{position, made, cut}
-use Rattle.symbols.specs.Scans.{part}
 use Rattle.symbols.specs.Words.{wordCode, rows, areLong, codeAmong}
 use Rattle.symbols.proofs.RangeLaws.{test, second, Beside, isKeyOf, beside}
-use Rattle.symbols.proofs.ScanLaws.{drop-tail, length-part}
+use Rattle.rules.proofs.PartLaws.{length-part}
+use Rattle.symbols.proofs.ScanLaws.{drop-tail}
 
 -- ---- words in lists
 abbrev those : (List ℕ → Bool) → List (List ℕ) → List (List ℕ)

@@ -1,12 +1,13 @@
 -- Document 01, "Symbols": a symbol of the rules as the code hands it on.
-use mathlib.Core.Bool.{cond}
+use mathlib.Core.Path.{_≡_}
+use mathlib.Core.Bool.{true, cond}
 use mathlib.Core.List.{List, [], _∷_}
-use Prim.Native.Nat.{ℕ, suc, _+_}
+use Prim.Native.Nat.{ℕ, suc, _+_, _≤_}
 use lib.ListN.{length}
-use Rattle.rules.specs.Bytes.{same}
+use Rattle.rules.specs.Bytes.{same, isOneOf}
 use Rattle.rules.specs.Reserved.{forms}
 use Rattle.rules.specs.Readers.{faultOf}
-use Rattle.rules.specs.Symbols.{numberOf, Kind, word, name, number, quoted, dots, stop, mark, fault}
+use Rattle.rules.specs.Symbols.{numberOf, Kind, word, name, number, quoted, dots, stop, mark, fault, digitCount, isNameText}
 use Rattle.rules.specs.Symbols as rules
 use Rattle.symbols.specs.declared.Symbol.{Symbol}
 
@@ -32,3 +33,14 @@ made c n p l = record { code = c; no = n; place = p; len = l; next = record { at
 
 abbrev pub cut : rules.Symbol → Symbol
 cut y = made (codeOf (y .kind) (y .bytes)) (numberOf (faultOf (y .kind))) (y .place) (length (y .bytes))
+
+-- what holds of a symbol's kind and bytes
+abbrev pub Sound : Kind → List ℕ → Type 0
+Sound word b = isOneOf b forms ≡ true
+Sound name b = (length b ≤ 255) × (isNameText b ≡ true)
+Sound number b = digitCount b ≤ 18
+Sound (mark m) b = (40 ≤ m) × (m ≤ 61)
+Sound quoted b = Unit {0}
+Sound dots b = Unit {0}
+Sound stop b = Unit {0}
+Sound (fault f) b = Unit {0}

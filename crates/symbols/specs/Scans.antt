@@ -2,9 +2,9 @@
 use mathlib.Core.Bool.{Bool, cond, not, _&&_, _||_}
 use mathlib.Core.List.{List, [], _∷_}
 use Prim.Native.Nat.{ℕ, suc, _+_}
-use lib.ListN.{take, drop, getD}
+use lib.ListN.{drop, getD}
 use lib.Dec.{eqb, ltb}
-use Rattle.rules.specs.Bytes.{is, isLetter, isDigit, isLineEnd, isSeparator, span}
+use Rattle.rules.specs.Bytes.{part, is, isLetter, isDigit, isLineEnd, isSeparator, span}
 use Rattle.rules.specs.Symbols.{upTo, open-at, escape, unsignedLength, aNumber, isMarkByte}
 use Rattle.rules.specs.Symbols as rules
 use Rattle.symbols.specs.declared.Symbol.{Symbol}
@@ -15,10 +15,6 @@ use Rattle.symbols.specs.declared.Pass.the-variants.{To, Open, None}
 use Rattle.symbols.specs.declared.Gap.{Gap}
 use Rattle.symbols.specs.declared.Gap.the-variants.{UpTo, OpenAt}
 use Rattle.symbols.specs.Cut.{made, cut}
-
--- n bytes from the place i on
-abbrev pub part : List ℕ → ℕ → ℕ → List ℕ
-part t i n = take n (drop i t)
 
 -- what a symbol begins with
 unfoldable pub classOf : ℕ → Class

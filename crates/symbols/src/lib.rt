@@ -5,10 +5,10 @@ ghost use mathlib.Core.List.{List};
 ghost use Prim.Native.Nat.{ℕ, _+_, _-_, _≤_, _<_};
 ghost use lib.ListN.{length, drop, getD};
 ghost use lib.Dec.{leb};
-ghost use Rattle.rules.specs.Bytes.{same, isLetter, isDigit, isWordByte, isHexadecimal, isSeparator};
+ghost use Rattle.rules.specs.Bytes.{part, same, isLetter, isDigit, isWordByte, isHexadecimal, isSeparator};
 ghost use Rattle.rules.specs.Symbols.{apart, gap, escape, quote, unsignedLength, digitCount, aWord, aNumber, aString, symbolOf, symbolAt};
 ghost use Rattle.symbols.specs.Cut.{made, cut};
-ghost use Rattle.symbols.specs.Scans.{part, classOf, runEnd, notLineEnd, twoAt, closeOf, passAt, gapOf, fractionEnd, stepAt, numberCut, signedCut, markCut};
+ghost use Rattle.symbols.specs.Scans.{classOf, runEnd, notLineEnd, twoAt, closeOf, passAt, gapOf, fractionEnd, stepAt, numberCut, signedCut, markCut};
 ghost use Rattle.symbols.specs.Words.{wordCode, rows, areLong, codeAmong};
 
 // A place in the text, from which on the next symbol is cut.

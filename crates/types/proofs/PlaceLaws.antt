@@ -16,11 +16,12 @@ use lib.Dec.{lit<}
 use borrow.Author.Tests.{lt-ltb, le-ltb, le-leb}
 use Rattle.rules.specs.Enumerations.{final}
 use Rattle.rules.specs.Types.{Ty, text, range, numeric, structure, enum}
-use Rattle.rules.specs.Book.{bit, low, twos, lengthOr, bytes, typeRecords, openRecord, elementRecords}
+use Rattle.rules.specs.Book.{bit, lowFirst, twos, lengthOr, bytes, typeRecords, openRecord, elementRecords}
 use Rattle.rules.specs.Show.{read4}
 use Rattle.numbers.proofs.SignedLaws.{held, Holds, holds}
 use Rattle.members.specs.Held.{Stands}
-use Rattle.scope.specs.Scope.{AnyIs, FairLimit, Fair}
+use Rattle.rules.specs.All.{AnyIs}
+use Rattle.scope.specs.Scope.{FairLimit, Fair}
 use Rattle.types.specs.Values.{Typed}
 use Rattle.types.specs.Places.{signedOf, signedAt, textAt, rangeAt, typingAt}
 use Rattle.types.specs.declared.Typing.{Typing}
@@ -123,18 +124,18 @@ module _ (b : List ℕ) (i : ℕ) (h : i ≤ length b) where
       let z : i ≡ i + 0 = omega arith in
       (omega arith, ap (λ (j : ℕ). getD b j 0) z ∙ getD-at b _ i 0 e)
 
-  text-there : (k n : ℕ) (more : List ℕ) → n < 4294967296 → drop i b ≡ (k ∷ low 4 n) ++ more → textAt k b i ≡ typing.Text k n
+  text-there : (k n : ℕ) (more : List ℕ) → n < 4294967296 → drop i b ≡ (k ∷ lowFirst 4 n) ++ more → textAt k b i ≡ typing.Text k n
   unfolding textAt
   text-there k n more s e =
-      let l = long-enough b (k ∷ low 4 n) more i e h in
+      let l = long-enough b (k ∷ lowFirst 4 n) more i e h in
       let r : read4 b (i + 1) ≡ n = read4-at b _ i 1 e ∙ low-four n s in
       rw (le-leb (i + 5) (length b) l, r)
 
   range-there : (d : ℕ) (v w : ℤ) (more : List ℕ) → natAbs v < 10 ^ 18 → natAbs w < 10 ^ 18 →
-      drop i b ≡ (10 ∷ d ∷ (low 8 (twos v) ++ low 8 (twos w))) ++ more → rangeAt b i ≡ typing.Range d v w
+      drop i b ≡ (10 ∷ d ∷ (lowFirst 8 (twos v) ++ lowFirst 8 (twos w))) ++ more → rangeAt b i ≡ typing.Range d v w
   unfolding rangeAt
   range-there d v w more s t e =
-      let l = long-enough b (10 ∷ d ∷ (low 8 (twos v) ++ low 8 (twos w))) more i e h in
+      let l = long-enough b (10 ∷ d ∷ (lowFirst 8 (twos v) ++ lowFirst 8 (twos w))) more i e h in
       let x : getD b (i + 1) 0 ≡ d = getD-at b _ i 1 e in
       let y : signedAt b (i + 2) ≡ v = signed-at b _ i 2 e ∙ signed-back v s in
       let z : signedAt b (i + 10) ≡ w = signed-at b _ i 10 e ∙ signed-back w t in
@@ -149,19 +150,19 @@ module _ (t b : List ℕ) (i : ℕ) where
   typed-text : (m : Bool) (n : Option ℕ) → Fair t (text m n) → Stands b i (typeRecords (text m n)) → typingAt b i ≡ typing.Text (cond m 9 8) (lengthOr n)
   unfolding typingAt
   typed-text true n f s =
-      let u : drop i b ≡ (9 ∷ low 4 (lengthOr n)) ++ s .behind = s .bytes-are in
-      let p = first-byte b i (s .within) 9 (low 4 (lengthOr n)) _ u in
+      let u : drop i b ≡ (9 ∷ lowFirst 4 (lengthOr n)) ++ s .behind = s .bytes-are in
+      let p = first-byte b i (s .within) 9 (lowFirst 4 (lengthOr n)) _ u in
       rw (lt-ltb i (length b) (p .0), p .1) (text-there b i (s .within) 9 (lengthOr n) _ (limit-low n f) u)
   typed-text false n f s =
-      let u : drop i b ≡ (8 ∷ low 4 (lengthOr n)) ++ s .behind = s .bytes-are in
-      let p = first-byte b i (s .within) 8 (low 4 (lengthOr n)) _ u in
+      let u : drop i b ≡ (8 ∷ lowFirst 4 (lengthOr n)) ++ s .behind = s .bytes-are in
+      let p = first-byte b i (s .within) 8 (lowFirst 4 (lengthOr n)) _ u in
       rw (lt-ltb i (length b) (p .0), p .1) (text-there b i (s .within) 8 (lengthOr n) _ (limit-low n f) u)
 
   pub typed-here : (x : Ty) (c : Typing) → c ≡ typingAt b i → Fair t x → Stands b i (typeRecords x) → Typed t b x c
   unfolding typingAt
   typed-here (text m n) c e f s = e ∙ typed-text m n f s
   typed-here (range r) c e f s =
-      let p = first-byte b i (s .within) 10 (r .decimals ∷ (low 8 (twos (r .low)) ++ low 8 (twos (r .high)))) _ (s .bytes-are) in
+      let p = first-byte b i (s .within) 10 (r .decimals ∷ (lowFirst 8 (twos (r .low)) ++ lowFirst 8 (twos (r .high)))) _ (s .bytes-are) in
       e ∙ rw (lt-ltb i (length b) (p .0), p .1) (range-there b i (s .within) (r .decimals) (r .low) (r .high) _ (f .1) (f .2) (s .bytes-are))
   typed-here numeric c e f s =
       let p = first-byte b i (s .within) 11 [] _ (s .bytes-are) in

@@ -1,26 +1,31 @@
--- 9 of elements, 14 and 15, of what is written.
+-- 9 of elements, 14 and 15, of what is written; and what holds where 14 is kept.
 use mathlib.Core.Path.{_≡_, refl, sym, ap, _∙_}
-use mathlib.Core.Bool.{Bool, true, false}
+use mathlib.Core.Bool.{Bool, true, false, not, _||_}
 use mathlib.Core.Option.{Option, none, some}
 use mathlib.Core.List.{List, [], _∷_}
 use Prim.Native.Nat.{ℕ}
 use native.Mathlib.Omega.{arith}
 use lib.ListN.{length}
+use lib.Signed.{ltZ}
 use lib.Dec.{eqb}
 use borrow.Author.Tests.{ne-eqb}
+use Rattle.rules.specs.Numbers.{valueOf, decimalsOf}
 use Rattle.rules.specs.Enumerations.{Enum, end, elem, isLeaf, twice}
 use Rattle.rules.specs.Grammar as G
 use Rattle.rules.specs.Grammar.{WrittenType}
-use Rattle.rules.specs.Judge.{elementRule, doubled, typeRules}
+use Rattle.rules.specs.Judge.{rule, elementRule, doubled, typeRules}
+use Rattle.rules.proofs.NumberLaws.{in-order}
 use Rattle.book.specs.declared.Found.{Found}
 use Rattle.enumerations.specs.Standing.{Stands}
 use Rattle.enumerations.specs.Doubling.{foundOf}
 use Rattle.elements.specs.Noted.{listBytes}
 use Rattle.parts.specs.declared.types.Meant.{Meant}
 use Rattle.parts.specs.Forms.{anyOf}
-use Rattle.scope.specs.Scope.{AnyIs, Begins}
+use Rattle.rules.specs.All.{AnyIs}
+use Rattle.scope.specs.Scope.{Begins}
+use Rattle.types.specs.declared.Ruling.{Ruling}
 use Rattle.types.specs.Rulings.{rulingOf, rulingIf, elementRuling, typeRuling}
-use Rattle.types.specs.Values.{Scratched}
+use Rattle.types.specs.Values.{Scratched, Ordered}
 use Rattle.types.specs.Fitting.{isListed}
 use Rattle.types.proofs.ValueLaws.{never}
 
@@ -66,3 +71,20 @@ rules-are p based (some (G.named r)) g = refl
 
 pub type-ruled : {m : Meant} (p : ℕ) (based : Bool) (w : Option WrittenType) → m ≡ anyOf w → AnyIs (Begins p) w → typeRuling m p based ≡ rulingOf (typeRules based p w)
 type-ruled {m} p based w e g = rw e (rules-are p based w g)
+
+-- where 14 is kept
+kept : (p : ℕ) (b : Bool) → rulingOf (rule 14 p b ∷ []) .number ≡ 0 → b ≡ false
+kept p true h = absurd (omega arith)
+kept p false h = refl
+
+ordered : (based : Bool) (p : ℕ) (w : Option WrittenType) → rulingOf (typeRules based p w) .number ≡ 0 → Ordered w
+ordered based p none h = tt
+ordered based p (some (G.text m n)) h = tt
+ordered based p (some (G.range x y)) h =
+    in-order (x .bytes) (y .bytes) (kept (x .place) (not (eqb (decimalsOf (x .bytes)) (decimalsOf (y .bytes))) || ltZ (valueOf (y .bytes)) (valueOf (x .bytes))) h)
+ordered based p (some G.numeric) h = tt
+ordered based p (some (G.enum e)) h = tt
+ordered based p (some (G.named r)) h = tt
+
+pub ordered-of : (based : Bool) (p : ℕ) (w : Option WrittenType) (q : Ruling) → q ≡ rulingOf (typeRules based p w) → q .number ≡ 0 → Ordered w
+ordered-of based p w q e z = ordered based p w (ap (λ (x : Ruling). x .number) (sym e) ∙ z)

@@ -5,7 +5,7 @@ use mathlib.Core.List.{List, [], _∷_, _++_}
 use Prim.Native.Nat.{_<_}
 use borrow.Author.Tests.{lt-ltb}
 use Rattle.rules.specs.Declarations.{State}
-use Rattle.rules.specs.Judge.{Rule, refused, unless}
+use Rattle.rules.specs.Judge.{Rule, refused, firstBrokenOr}
 use Rattle.types.specs.Rulings.{rulingOf, judgedBy}
 
 -- a rule's number is above 0, which says that none is broken
@@ -13,12 +13,12 @@ abbrev pub Positive : List Rule → Type 0
 Positive [] = Unit {0}
 Positive (r ∷ l) = (0 < r .number) × Positive l
 
-pub unless-by : (l m : List Rule) (s : State) → Positive l → unless (l ++ m) s ≡ judgedBy (rulingOf l) (unless m s)
-unless-by [] m s h = refl
-unless-by (r ∷ l) m s h = go (r .broken) (unless-by l m s (h .1))
+pub first-broken-by : (l m : List Rule) (s : State) → Positive l → firstBrokenOr (l ++ m) s ≡ judgedBy (rulingOf l) (firstBrokenOr m s)
+first-broken-by [] m s h = refl
+first-broken-by (r ∷ l) m s h = go (r .broken) (first-broken-by l m s (h .1))
   where
-    go : (b : Bool) → unless (l ++ m) s ≡ judgedBy (rulingOf l) (unless m s) →
-        cond b (refused (r .number) (r .place)) (unless (l ++ m) s) ≡ judgedBy (cond b (record { number = r .number; place = r .place }) (rulingOf l)) (unless m s)
+    go : (b : Bool) → firstBrokenOr (l ++ m) s ≡ judgedBy (rulingOf l) (firstBrokenOr m s) →
+        cond b (refused (r .number) (r .place)) (firstBrokenOr (l ++ m) s) ≡ judgedBy (cond b (record { number = r .number; place = r .place }) (rulingOf l)) (firstBrokenOr m s)
     go true e = rw (lt-ltb 0 (r .number) (h .0))
     go false e = e
 

@@ -1,6 +1,6 @@
 -- Types by value, and what is written over a base's type.
 use mathlib.Core.Path.{_≡_, refl, _∙_}
-use mathlib.Core.Bool.{Bool, true, false, cond, not, _&&_}
+use mathlib.Core.Bool.{Bool, true, false, cond, _&&_}
 use mathlib.Core.Option.{Option, none, some}
 use mathlib.Core.List.{List, [], _∷_, _++_, append-assoc}
 use Prim.Native.Nat.{ℕ, _+_, _≤_}
@@ -14,7 +14,8 @@ use Rattle.rules.specs.Types.{Ty, text, range, numeric, structure, enum, kindOf
 use Rattle.rules.specs.Judge.{domainType, elementRule, doubled, referenceIn}
 use Rattle.ground.specs.Parts.{splice}
 use Rattle.parts.specs.Forms.{Scratches}
-use Rattle.scope.specs.Scope.{AnyIs, FairType}
+use Rattle.rules.specs.All.{AnyIs}
+use Rattle.scope.specs.Scope.{FairType}
 use Rattle.scope.proofs.UseLaws.{fits-self}
 use Rattle.elements.specs.Noted.{listBytes}
 use Rattle.enumerations.specs.Standing.{Named, Deep, Stands}
@@ -32,7 +33,7 @@ typed-valued t b structure c h = h
 
 pub sized-base : (t : List ℕ) (x : Ty) (c : Typing) → FairOrNone t x → Valued x c → Sized c
 sized-base t (text m n) c f h = rw h tt
-sized-base t (range r) c f h = rw h f
+sized-base t (range r) c f h = rw h (f .0, f .1, f .2)
 sized-base t numeric c f h = rw h tt
 sized-base t (enum e) c f h = rw (h .1) tt
 sized-base t structure c f h = rw h tt

@@ -6,9 +6,10 @@ use mathlib.Core.List.{List}
 use Prim.Native.Nat.{ℕ, _≤_, _<_, _^_}
 use native.Mathlib.Omega.{arith}
 use lib.IntN.{ℤ, pos, negsuc, natAbs}
+use lib.Signed.{leZ}
 use lib.Dec.{eqb}
 use borrow.Author.Tests.{eqb-true, eqb-false, ne-eqb, le-leb}
-use Rattle.rules.specs.Numbers.{digits, lowFits, highFits}
+use Rattle.rules.specs.Numbers.{digits}
 use Rattle.rules.specs.Enumerations.{Enum, enumFits}
 use Rattle.rules.specs.Texts.{lengthFits}
 use Rattle.rules.specs.Grammar as G
@@ -16,12 +17,15 @@ use Rattle.rules.specs.Grammar.{WrittenType}
 use Rattle.rules.specs.Types.{Ty, text, range, numeric, structure, enum, kindOf, fits}
 use Rattle.rules.specs.Book.{lengthOr}
 use Rattle.rules.specs.Judge.{domainType, isNumeric}
+use Rattle.numbers.specs.Bounds.{lowFits, highFits}
 use Rattle.numbers.proofs.SignedLaws.{held, kept}
+use Rattle.numbers.proofs.BoundLaws.{range-is}
 use Rattle.enumerations.specs.Standing.{Stands}
 use Rattle.parts.specs.declared.types.Meant.{Meant}
 use Rattle.parts.specs.Forms.{anyOf}
-use Rattle.scope.specs.Scope.{AnyIs, FairLimit}
-use Rattle.types.specs.Values.{Valued, Typed, Sized, FairOrNone, plainFits}
+use Rattle.rules.specs.All.{AnyIs}
+use Rattle.scope.specs.Scope.{FairLimit}
+use Rattle.types.specs.Values.{Valued, Typed, Sized, FairOrNone, Ordered, plainFits}
 use Rattle.types.specs.Fitting.{isEnumeration, placeIn, sortOf, limitFits, rangeFitsBy, isNumericBy, fitsBy, meantBy, plainFitsBy}
 use Rattle.types.specs.declared.Typing.{Typing}
 use Rattle.types.specs.declared.Typing.the-variants as typing
@@ -82,10 +86,10 @@ sort-valued (enum e) c v = rw (v .1)
 sort-valued structure c v = rw v
 
 -- ---- 17
--- no text of length 0, which would have the value of one without
+-- no text of length 0, which would have the value of one without, and no range whose first bound is the greater
 abbrev Told : Ty → Type 0
 Told (text m n) = AnyIs (λ (k : ℕ). 0 < k) n
-Told (range r) = Unit {0}
+Told (range r) = leZ (r .low) (r .high) ≡ true
 Told numeric = Unit {0}
 Told (enum e) = Unit {0}
 Told structure = Unit {0}
@@ -96,7 +100,7 @@ limit-told (some n) f = f .0
 
 pub fair-told : (t : List ℕ) (x : Ty) → FairOrNone t x → Told x
 fair-told t (text m n) f = limit-told n f
-fair-told t (range r) f = tt
+fair-told t (range r) f = f .3
 fair-told t numeric f = tt
 fair-told t (enum e) f = tt
 fair-told t structure f = tt
@@ -128,7 +132,7 @@ text-fits m n structure d f g u e = no-text m 5 (omega arith) e
 pub fits-valued : (x b : Ty) (c d : Typing) → Told x → Told b → isEnumeration c ≡ false → Valued x c → Valued b d → kindOf x ≡ kindOf b → fitsBy c d ≡ fits x b
 fits-valued (text m n) b c d f g h v u e = rw v (text-fits m n b d f g u e)
 fits-valued (range r) (text k l) c d f g h v u e = no-text k 3 (omega arith) (sym e)
-fits-valued (range r) (range q) c d f g h v u e = rw (v, u)
+fits-valued (range r) (range q) c d f g h v u e = rw (v, u) (sym (range-is r q f))
 fits-valued (range r) numeric c d f g h v u e = rw (v, u)
 fits-valued (range r) (enum b) c d f g h v u e = absurd (omega arith)
 fits-valued (range r) structure c d f g h v u e = absurd (omega arith)
@@ -157,19 +161,19 @@ limited m n b c d g v u e = go (eqb n 0) refl
     go true h = sym (none-fits m n b (eqb-true n 0 h) e)
     go false h = rw v (text-fits m (some n) b d (let q = eqb-false n 0 h in omega arith) g u e)
 
-plain-is : (w : Option WrittenType) (b : Ty) (c d : Typing) → Told b → Valued (domainType w b) c → Valued b d → kindOf (domainType w b) ≡ kindOf b →
+plain-is : (w : Option WrittenType) (b : Ty) (c d : Typing) → Ordered w → Told b → Valued (domainType w b) c → Valued b d → kindOf (domainType w b) ≡ kindOf b →
     plainFitsBy (anyOf w) c d ≡ plainFits w b
-plain-is none b c d g v u e = refl
-plain-is (some (G.text m none)) b c d g v u e = rw v (text-fits m none b d tt g u e)
-plain-is (some (G.text m (some y))) b c d g v u e = limited m (digits (y .bytes) 0) b c d g v u e
-plain-is (some (G.range x y)) b c d g v u e = fits-valued (domainType (some (G.range x y)) b) b c d tt g (rw v) v u e
-plain-is (some G.numeric) b c d g v u e = fits-valued numeric b c d tt g (rw v) v u e
-plain-is (some (G.enum x)) b c d g v u e = refl
-plain-is (some (G.named r)) b c d g v u e = refl
+plain-is none b c d o g v u e = refl
+plain-is (some (G.text m none)) b c d o g v u e = rw v (text-fits m none b d tt g u e)
+plain-is (some (G.text m (some y))) b c d o g v u e = limited m (digits (y .bytes) 0) b c d g v u e
+plain-is (some (G.range x y)) b c d o g v u e = fits-valued (domainType (some (G.range x y)) b) b c d o g (rw v) v u e
+plain-is (some G.numeric) b c d o g v u e = fits-valued numeric b c d tt g (rw v) v u e
+plain-is (some (G.enum x)) b c d o g v u e = refl
+plain-is (some (G.named r)) b c d o g v u e = refl
 
-pub plain-valued : {m : Meant} (c d : Typing) (t : List ℕ) (w : Option WrittenType) (b : Ty) → m ≡ anyOf w → FairOrNone t b → Valued (domainType w b) c → Valued b d →
+pub plain-valued : {m : Meant} (c d : Typing) (t : List ℕ) (w : Option WrittenType) (b : Ty) → m ≡ anyOf w → Ordered w → FairOrNone t b → Valued (domainType w b) c → Valued b d →
     kindOf (domainType w b) ≡ kindOf b → plainFitsBy m c d ≡ plainFits w b
-plain-valued {m} c d t w b e g v u k = rw e (plain-is w b c d (fair-told t b g) v u k)
+plain-valued {m} c d t w b e o g v u k = rw e (plain-is w b c d o (fair-told t b g) v u k)
 
 -- ---- in the book
 module _ (t s : List ℕ) where

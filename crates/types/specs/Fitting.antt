@@ -4,8 +4,8 @@ use mathlib.Core.List.{List, [], _∷_}
 use Prim.Native.Nat.{ℕ}
 use lib.IntN.{ℤ}
 use lib.Dec.{eqb, leb}
-use Rattle.rules.specs.Numbers.{lowFits, highFits}
 use Rattle.rules.specs.Book.{Record}
+use Rattle.numbers.specs.Bounds.{lowFits, highFits}
 use Rattle.book.specs.Forms.{lengthForm, rangeForm}
 use Rattle.parts.specs.declared.types.Meant.{Meant}
 use Rattle.parts.specs.declared.types.Meant.the-variants as meant

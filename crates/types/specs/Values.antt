@@ -5,6 +5,8 @@ use mathlib.Core.Option.{Option, none, some}
 use mathlib.Core.List.{List, []}
 use Prim.Native.Nat.{ℕ, _≤_, _<_, _^_}
 use lib.IntN.{natAbs}
+use lib.Signed.{leZ}
+use Rattle.rules.specs.Numbers.{valueOf}
 use Rattle.rules.specs.Enumerations.{merge, enumFits, twice}
 use Rattle.rules.specs.Grammar as G
 use Rattle.rules.specs.Grammar.{WrittenType}
@@ -67,6 +69,15 @@ Once (some (G.range a b)) = Unit {0}
 Once (some G.numeric) = Unit {0}
 Once (some (G.enum e)) = twice e [] ≡ none
 Once (some (G.named r)) = Unit {0}
+
+-- a range's first bound is not the greater
+abbrev pub Ordered : Option WrittenType → Type 0
+Ordered none = Unit {0}
+Ordered (some (G.text m n)) = Unit {0}
+Ordered (some (G.range x y)) = leZ (valueOf (x .bytes)) (valueOf (y .bytes)) ≡ true
+Ordered (some G.numeric) = Unit {0}
+Ordered (some (G.enum e)) = Unit {0}
+Ordered (some (G.named r)) = Unit {0}
 
 -- 17 of all but a written enumeration, and of a written enumeration, over a base's type of its kind
 abbrev pub plainFits : Option WrittenType → Ty → Bool

@@ -29,9 +29,10 @@ ghost use Rattle.rules.specs.Judge.{domainType, isNumeric, elementRule, typeRul
 ghost use Rattle.members.specs.Held.{Stands};
 ghost use Rattle.parts.specs.Forms.{anyOf};
 ghost use Rattle.enumerations.specs.Merging.{LaidAs};
-ghost use Rattle.scope.specs.Scope.{AnyIs, Begins, Fair};
+ghost use Rattle.rules.specs.All.{AnyIs};
+ghost use Rattle.scope.specs.Scope.{Begins, Fair};
 ghost use Rattle.types.specs.Rulings.{rulingOf, rulingIf};
-ghost use Rattle.types.specs.Values.{Valued, Typed, Sized, FairOrNone, Scratched, Once, plainFits, mergeFits};
+ghost use Rattle.types.specs.Values.{Valued, Typed, Sized, FairOrNone, Scratched, Once, Ordered, plainFits, mergeFits};
 ghost use Rattle.types.specs.Fitting.{isAlone, isListed};
 
 // A rule that is broken, and its place; 0 for none.
@@ -208,7 +209,7 @@ pub fn differ(own: Typing, base: Typing) -> bool
 // 17 of what is written, but for an enumeration; of the base's kind.
 pub fn plain_fits(m: Meant, own: Typing, base: Typing) -> bool
     requires { ⌜ Sized own × Sized base ⌝ }
-    ensures { λ r. ⌜ ((t : List ℕ) (w : Option WrittenType) (b : Ty) → m ≡ anyOf w → FairOrNone t b → Valued (domainType w b) own → Valued b base → kindOf (domainType w b) ≡ kindOf b → r ≡ plainFits w b) ⌝ }
+    ensures { λ r. ⌜ ((t : List ℕ) (w : Option WrittenType) (b : Ty) → m ≡ anyOf w → Ordered w → FairOrNone t b → Valued (domainType w b) own → Valued b base → kindOf (domainType w b) ≡ kindOf b → r ≡ plainFits w b) ⌝ }
 {
     match m {
         Meant::Alone => true,

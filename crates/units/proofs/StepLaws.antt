@@ -19,7 +19,7 @@ use Rattle.rules.specs.Grammar.{properties, extends, written, typeOf, typeOrRef
 use Rattle.rules.specs.Units as U
 use Rattle.rules.specs.Units.{step, headerUnit, modelUnit, topicUnit, classUnit, isGiven, domainUnit, attributeUnit, endUnit, wordStep, bodyEnd, bodyUnit, memberUnit, lastStep, unitAt}
 use Rattle.rules.proofs.Tests.{split, or-split}
-use Rattle.rules.proofs.SymbolLaws.{either, Lies}
+use Rattle.rules.proofs.SymbolLaws.{either}
 use Rattle.rules.proofs.ForwardLaws.{Ends, Stepped, unit-steps}
 use Rattle.symbols.specs.declared.Symbol.{Symbol}
 use Rattle.symbols.specs.Cut.{cut}
@@ -27,7 +27,7 @@ use Rattle.ground.specs.declared.Name.{Name}
 use Rattle.readers.specs.Reads.{faultAt, Stands, Cuts, Held, passed, named, Gives, Reads}
 use Rattle.readers.proofs.CodeLaws.{Test, is-name, is-number, is-quoted, is-stop, is-mark, is-word, is-one-word}
 use Rattle.readers.proofs.ReadLaws.{Passes, onward, bind, stay, mapped, if-true, if-false, expected, taken, is-yes, is-no, a-name}
-use Rattle.readers.proofs.StandLaws.{at-stands}
+use Rattle.readers.proofs.StandLaws.{at-stands, stands-lies}
 use Rattle.parts.specs.declared.Properties.{Properties}
 use Rattle.parts.specs.declared.Extends.{Extends}
 use Rattle.parts.specs.declared.types.Written.{Written}
@@ -39,7 +39,7 @@ use Rattle.units.specs.declared.Unit as C
 use Rattle.units.specs.declared.Unit.the-variants.{Header, Model, Topic, Class, Domain, Attribute, Close, Mark}
 use Rattle.units.specs.declared.Step.{Step}
 use Rattle.units.specs.declared.Step.the-variants.{Read, Unread}
-use Rattle.units.specs.Steps.{whereOf, placeOf, endMark, language, anything, IsAny, StepIs, Steps, endedOf}
+use Rattle.units.specs.Steps.{aroundOf, runOf, behindOf, whereOf, placeOf, endMark, language, anything, IsAny, StepIs, Steps, endedOf}
 
 -- ---- one part after another
 abbrev Faults : List ℕ → Symbol → Step → Type 0
@@ -69,14 +69,17 @@ fault-ended : {t : List ℕ} {y : Symbol} {r : Step} (k : ℕ) (u : C.Unit) (w :
 fault-ended {t} k u w s e f i c = e ∙ ap (λ (x : Symbol). endedOf t x k u w) (c .cuts) ∙ rw (ne-eqb 5 k (λ h. s (sym h)))
 
 module _ {t o p : List ℕ} {r : Step} where
-  pub ends : {y : Symbol} {q : rules.Symbol → Bool} {k : ℕ} (u : C.Unit) (x : Option U.Unit) (w : U.Where) → Test q k → r ≡ endedOf t y k u (whereOf w) → IsAny o p x u →
-      Steps t o p (expect q >>= λ e. step x w e) y r
-  ends {y} {q} {k} u x w h e i =
+  pub ends : {y : Symbol} {q : rules.Symbol → Bool} {k : ℕ} (u : C.Unit) (x : Option U.Unit) (w : U.Where) {v : Where} → whereOf w ≡ v → Test q k → r ≡ endedOf t y k u v →
+      IsAny o p x u → Steps t o p (expect q >>= λ e. step x w e) y r
+  ends {y} {q} {k} u x w {v} j h e i =
       record {
-        steps = λ z c. subst (StepIs t o p ((expect q >>= λ e. step x w e) t z)) (sym (e ∙ ap (λ (s : Symbol). endedOf t s k u (whereOf w)) (c .cuts))) (at z (h .test z (c .stands .coded)));
-        faults = fault-ended k u (whereOf w) (h .sound) e;
+        steps = λ z c. subst (StepIs t o p ((expect q >>= λ e. step x w e) t z)) (sym (placed ∙ ap (λ (s : Symbol). endedOf t s k u (whereOf w)) (c .cuts))) (at z (h .test z (c .stands .coded)));
+        faults = fault-ended k u v (h .sound) e;
       }
     where
+      placed : r ≡ endedOf t y k u (whereOf w)
+      placed = e ∙ ap (λ (s : Where). endedOf t y k u s) (sym j)
+
       at : (z : rules.Symbol) → q z ≡ eqb (cut z .code) k → StepIs t o p ((expect q >>= λ e. step x w e) t z) (endedOf t (cut z) k u (whereOf w))
       at z f = rw f (go (eqb (cut z .code) k))
         where
@@ -85,11 +88,23 @@ module _ {t o p : List ℕ} {r : Step} where
           go true = (u, refl, i)
           go false = refl
 
-where-place : (w : Where) → whereOf (placeOf w) ≡ w
+where-around : (t : Bool) → not (U.isModel (aroundOf t)) ≡ t
+where-around true = refl
+where-around false = refl
+
+where-run : (r : Bool) → U.ofDomains (runOf r) ≡ r
+where-run true = refl
+where-run false = refl
+
+where-behind : (f : Bool) → U.isHead (behindOf f) ≡ f
+where-behind true = refl
+where-behind false = refl
+
+pub where-place : (w : Where) → whereOf (placeOf w) ≡ w
 where-place Start = refl
 where-place AfterHeader = refl
-where-place (Body t r) = refl
-where-place (Members t f) = refl
+where-place (Body t r) = rw (where-around t, where-run r)
+where-place (Members t f) = rw (where-around t, where-behind f)
 where-place Over = refl
 
 end-test : (last : Bool) → Test (isMark (endMark last)) (cond last 46 59)
@@ -137,7 +152,7 @@ module _ {t : List ℕ} (o : List ℕ) {y : Symbol} {r : Step} where
   header-steps {v} {e} {i} e₁ e₂ f g =
       let second = expected is-number e₂ in
       let last = fault-ended 59 (Header i) AfterHeader (omega arith) g in
-      on (expected (is-word (ascii "INTERLIS") 64 refl) e₁) (λ _ _. on second (λ a q. ends (Header i) (some (U.header a)) U.afterHeader semi g (ap Header (f ∙ ap named q))) last)
+      on (expected (is-word (ascii "INTERLIS") 64 refl) e₁) (λ _ _. on second (λ a q. ends (Header i) (some (U.header a)) U.afterHeader refl semi g (ap Header (f ∙ ap named q))) last)
       (through (second .passes) last)
 
   pub topic-steps : {n e : Symbol} {i : Name} → n ≡ passed t y 68 → e ≡ passed t n 1 → i ≡ named n → r ≡ endedOf t e 61 (Topic i) (Body true false) → Steps t o o topicUnit y r
@@ -145,7 +160,7 @@ module _ {t : List ℕ} (o : List ℕ) {y : Symbol} {r : Step} where
   topic-steps {n} {e} {i} e₁ e₂ f g =
       let second = a-name e₂ in
       let last = fault-ended 61 (Topic i) (Body true false) (omega arith) g in
-      on (expected (is-word (ascii "TOPIC") 68 refl) e₁) (λ _ _. on second (λ a q. ends (Topic i) (some (U.topic a)) (U.body true false) equals g (ap Topic (f ∙ q))) last)
+      on (expected (is-word (ascii "TOPIC") 68 refl) e₁) (λ _ _. on second (λ a q. ends (Topic i) (some (U.topic a)) (U.body U.in-topic U.no-run) refl equals g (ap Topic (f ∙ q))) last)
       (through (second .passes) last)
 
   pub close-steps : (last : Bool) {n e : Symbol} {i : Name} (w : Where) → n ≡ passed t y 77 → e ≡ passed t n 1 → i ≡ named n → r ≡ endedOf t e (cond last 46 59) (Close i) w →
@@ -153,15 +168,14 @@ module _ {t : List ℕ} (o : List ℕ) {y : Symbol} {r : Step} where
   unfolding endUnit
   close-steps last {n} {e} {i} w e₁ e₂ f g =
       let second = a-name e₂ in
-      let h : r ≡ endedOf t e (cond last 46 59) (Close i) (whereOf (placeOf w)) = g ∙ ap (λ (x : Where). endedOf t e (cond last 46 59) (Close i) x) (sym (where-place w)) in
       let end = fault-ended (cond last 46 59) (Close i) w (end-sound last) g in
-      on (expected (is-word (ascii "END") 77 refl) e₁) (λ _ _. on second (λ a q. ends (Close i) (some (U.close a)) (placeOf w) (end-test last) h (ap Close (f ∙ q))) end)
+      on (expected (is-word (ascii "END") 77 refl) e₁) (λ _ _. on second (λ a q. ends (Close i) (some (U.close a)) (placeOf w) (where-place w) (end-test last) g (ap Close (f ∙ q))) end)
       (through (second .passes) end)
 
   pub model-steps : {n l a s v w e : Symbol} (head : ModelHead) → n ≡ passed t y 65 → l ≡ passed t n 1 → head .name ≡ named n → Reads t language anything l a → s ≡ passed t a 66 →
-      v ≡ passed t s 3 → w ≡ passed t v 67 → e ≡ passed t w 3 → r ≡ endedOf t e 61 (Model head) (Body false false) → Steps t o o modelUnit y r
+      v ≡ passed t s 3 → head .at ≡ named s → w ≡ passed t v 67 → e ≡ passed t w 3 → head .version ≡ named w → r ≡ endedOf t e 61 (Model head) (Body false false) → Steps t o o modelUnit y r
   unfolding modelUnit
-  model-steps head e₁ e₂ f m e₃ e₄ e₅ e₆ g =
+  model-steps head e₁ e₂ f m e₃ e₄ x e₅ e₆ z g =
       let r₂ = a-name e₂ in
       let r₃ = expected (is-word (ascii "AT") 66 refl) e₃ in
       let r₄ = expected is-quoted e₄ in
@@ -173,20 +187,21 @@ module _ {t : List ℕ} (o : List ℕ) {y : Symbol} {r : Step} where
       let f₃ = through (r₄ .passes) f₄ in
       let f₂ = through (r₃ .passes) f₃ in
       let f₁ = through (m .passes) f₂ in
-      on (expected (is-word (ascii "MODEL") 65 refl) e₁) (λ _ _. on r₂ (λ i q. on m (λ _ _. on r₃ (λ _ _. on r₄ (λ _ _. on r₅ (λ _ _. on r₆
-      (λ _ _. ends (Model head) (some (U.model i)) (U.body false false) equals g (head, refl, f ∙ q)) f₆) f₅) f₄) f₃) f₂) f₁) (through (r₂ .passes) f₁)
+      on (expected (is-word (ascii "MODEL") 65 refl) e₁) (λ _ _. on r₂ (λ i q. on m (λ _ _. on r₃ (λ _ _. on r₄ (λ b j. on r₅ (λ _ _. on r₆
+      (λ d k. ends (Model head) (some (U.model i (record { address = b; version = d }))) (U.body U.in-model U.no-run) refl equals g
+      (head, refl, f ∙ q, x ∙ ap named j, z ∙ ap named k)) f₆) f₅) f₄) f₃) f₂) f₁) (through (r₂ .passes) f₁)
 
-  pub mark-steps : (w : List ℕ) (k : ℕ) (at : U.Where) → Test (isWord w) k → r ≡ endedOf t y k Mark (whereOf at) → Steps t o o (wordStep w at) y r
+  pub mark-steps : (w : List ℕ) (k : ℕ) (at : U.Where) {v : Where} → whereOf at ≡ v → Test (isWord w) k → r ≡ endedOf t y k Mark v → Steps t o o (wordStep w at) y r
   unfolding wordStep
-  mark-steps w k at q g = ends Mark none at q g refl
+  mark-steps w k at j q g = ends Mark none at j q g refl
 
   pub over-steps : r ≡ endedOf t y 0 Mark Over → Steps t o o lastStep y r
   unfolding lastStep
-  over-steps g = ends Mark none U.over is-stop g refl
+  over-steps g = ends Mark none U.over refl is-stop g refl
 
   pub class-steps : (topic : Bool) {n l m k : Symbol} {i : Name} {ps : Properties} {b : Extends} {s : Bool} → (eqb (y .code) 69 || eqb (y .code) 70) ≡ true → n ≡ passed t y (y .code) →
       l ≡ passed t n 1 → i ≡ named n → Reads t (properties (wordsOf false)) (λ p. ps ≡ flagsOf p) l m → Reads t extends (λ a. b ≡ extendsOf a) m k → s ≡ eqb (y .code) 70 →
-      r ≡ endedOf t k 61 (Class (record { structure = s; name = i; properties = ps; base = b })) (Members topic true) → Steps t o o (classUnit topic) y r
+      r ≡ endedOf t k 61 (Class (record { structure = s; name = i; properties = ps; base = b })) (Members topic true) → Steps t o o (classUnit (aroundOf topic)) y r
   unfolding classUnit
   class-steps topic {n} {l} {m} {k} {i} {ps} {b} {s} h e₁ e₂ f p x j g =
       let r₂ = a-name e₂ in
@@ -195,14 +210,14 @@ module _ {t : List ℕ} (o : List ℕ) {y : Symbol} {r : Step} where
       let f₃ = through (x .passes) f₄ in
       let f₂ = through (p .passes) f₃ in
       on (taken (class-word h) (class-sound y h) e₁) (λ w c. on r₂ (λ a q₁. on p (λ d q₂. on x (λ z q₃.
-      ends head (some (U.class (same (w .bytes) (ascii "STRUCTURE")) a d z)) (U.members topic true) equals g
-      (rw (j ∙ sym (structure-flag h w c), f ∙ q₁, q₂, q₃))) f₄) f₃) f₂) (through (r₂ .passes) f₂)
+      ends head (some (U.class (U.classSort (same (w .bytes) (ascii "STRUCTURE"))) a d z)) (U.members (aroundOf topic) U.its-head) (where-place (Members topic true)) equals g
+      (s, ap U.classSort (structure-flag h w c ∙ sym j), rw (f ∙ q₁, q₂, q₃))) f₄) f₃) f₂) (through (r₂ .passes) f₂)
 
 -- ---- domains and attributes
 module _ {t o o′ : List ℕ} (topic : Bool) {y : Symbol} {r : Step} {l m : Symbol} {i : Name} {ps : Properties} {v : Written} (e₁ : l ≡ passed t y 1) (f : i ≡ named y) where
   pub domain-steps : {k q e : Symbol} {b : Extends} {x : Bool} → Reads t (properties (wordsOf false)) (λ p. ps ≡ flagsOf p) l m → Reads t extends (λ a. b ≡ extendsOf a) m k →
       q ≡ passed t k 61 → x ≡ givenOf b → Reads t (written x (typeBy false)) (MeansAll o o′ v) q e →
-      r ≡ endedOf t e 59 (Domain (record { name = i; properties = ps; base = b; written = v })) (Body topic true) → Steps t o o′ (domainUnit topic) y r
+      r ≡ endedOf t e 59 (Domain (record { name = i; properties = ps; base = b; written = v })) (Body topic true) → Steps t o o′ (domainUnit (aroundOf topic)) y r
   unfolding domainUnit
   domain-steps {k} {q} {e} {b} {x} p n e₂ j w g =
       let unit = Domain (record { name = i; properties = ps; base = b; written = v }) in
@@ -213,11 +228,11 @@ module _ {t o o′ : List ℕ} (topic : Bool) {y : Symbol} {r : Step} {l m : Sym
       let f₂ = through (n .passes) f₃ in
       on (a-name e₁) (λ a q₁. on p (λ d q₂. on n (λ z q₃. on r₄ (λ _ _.
       on (subst (λ (c : Bool). Reads t (written c typeOf) (MeansAll o o′ v) q e) (j ∙ rw q₃ (given-extends z)) w)
-      (λ u q₄. ends unit (some (U.domain a d z u)) (U.body topic true) semi g (rw (f ∙ q₁, q₂, q₃, q₄ .0), q₄ .1)) f₅) f₄) f₃) f₂) (through (p .passes) f₂)
+      (λ u q₄. ends unit (some (U.domain a d z u)) (U.body (aroundOf topic) U.domains) (where-place (Body topic true)) semi g (rw (f ∙ q₁, q₂, q₃, q₄ .0), q₄ .1)) f₅) f₄) f₃) f₂) (through (p .passes) f₂)
 
   pub attribute-steps : {q e : Symbol} → Reads t (properties (wordsOf true)) (λ p. ps ≡ flagsOf p) l m → q ≡ passed t m 58 →
       Reads t (written (ps .extended) (typeBy true)) (MeansAll o o′ v) q e → r ≡ endedOf t e 59 (Attribute (record { name = i; properties = ps; written = v })) (Members topic false) →
-      Steps t o o′ (attributeUnit topic) y r
+      Steps t o o′ (attributeUnit (aroundOf topic)) y r
   unfolding attributeUnit
   attribute-steps {q} {e} p e₂ w g =
       let unit = Attribute (record { name = i; properties = ps; written = v }) in
@@ -227,66 +242,70 @@ module _ {t o o′ : List ℕ} (topic : Bool) {y : Symbol} {r : Step} {l m : Sym
       let f₂ = through (r₃ .passes) f₃ in
       on (a-name e₁) (λ a q₁. on p (λ d q₂. on r₃ (λ _ _.
       on (subst (λ (c : Bool). Reads t (written c typeOrReference) (MeansAll o o′ v) q e) (ap (λ (x : Properties). x .extended) q₂) w)
-      (λ u q₄. ends unit (some (U.attribute a d u)) (U.members topic false) semi g (rw (f ∙ q₁, q₂, q₄ .0), q₄ .1)) f₄) f₃) f₂) (through (p .passes) f₂)
+      (λ u q₄. ends unit (some (U.attribute a d u)) (U.members (aroundOf topic) U.a-member) (where-place (Members topic false)) semi g (rw (f ∙ q₁, q₂, q₄ .0), q₄ .1)) f₄) f₃) f₂) (through (p .passes) f₂)
 
 -- ---- which unit
+is-model : (t : Bool) → U.isModel (aroundOf t) ≡ not t
+is-model true = refl
+is-model false = refl
+
 module _ {t : List ℕ} {y : Symbol} where
-  at-topic : (topic x : Bool) → (not topic && eqb (y .code) 68) ≡ x → (z : rules.Symbol) → Cuts t z y → (not topic && isWord (ascii "TOPIC") z) ≡ x
-  at-topic topic x e z c = rw (is-word (ascii "TOPIC") 68 refl .test z (c .stands .coded)) (rw (c .cuts) at e)
+  at-topic : (topic x : Bool) → (not topic && eqb (y .code) 68) ≡ x → (z : rules.Symbol) → Cuts t z y → (U.isModel (aroundOf topic) && isWord (ascii "TOPIC") z) ≡ x
+  at-topic topic x e z c = rw (is-model topic, is-word (ascii "TOPIC") 68 refl .test z (c .stands .coded)) (rw (c .cuts) at e)
 
-  at-domain : (run x : Bool) → (run && eqb (y .code) 1) ≡ x → (z : rules.Symbol) → Cuts t z y → (run && isKind name z) ≡ x
-  at-domain run x e z c = rw (is-name .test z (c .stands .coded)) (rw (c .cuts) at e)
+  at-domain : (run x : Bool) → (run && eqb (y .code) 1) ≡ x → (z : rules.Symbol) → Cuts t z y → (U.ofDomains (runOf run) && isKind name z) ≡ x
+  at-domain run x e z c = rw (where-run run, is-name .test z (c .stands .coded)) (rw (c .cuts) at e)
 
-  at-attribute : (first x : Bool) → (first && eqb (y .code) 75) ≡ x → (z : rules.Symbol) → Cuts t z y → (first && isWord (ascii "ATTRIBUTE") z) ≡ x
-  at-attribute first x e z c = rw (is-word (ascii "ATTRIBUTE") 75 refl .test z (c .stands .coded)) (rw (c .cuts) at e)
+  at-attribute : (first x : Bool) → (first && eqb (y .code) 75) ≡ x → (z : rules.Symbol) → Cuts t z y → (U.isHead (behindOf first) && isWord (ascii "ATTRIBUTE") z) ≡ x
+  at-attribute first x e z c = rw (where-behind first, is-word (ascii "ATTRIBUTE") 75 refl .test z (c .stands .coded)) (rw (c .cuts) at e)
 
 module _ {t o p : List ℕ} {y : Symbol} {r : Step} (topic : Bool) where
   module _ (run : Bool) where
-    pub body-topic : (not topic && eqb (y .code) 68) ≡ true → Steps t o p topicUnit y r → Steps t o p (bodyUnit topic run) y r
+    pub body-topic : (not topic && eqb (y .code) 68) ≡ true → Steps t o p topicUnit y r → Steps t o p (bodyUnit (aroundOf topic) (runOf run)) y r
     unfolding bodyUnit
     body-topic h g = when _ _ _ (at-topic topic true h) g
 
     module _ (h₁ : (not topic && eqb (y .code) 68) ≡ false) where
-      pub body-class : (eqb (y .code) 69 || eqb (y .code) 70) ≡ true → Steps t o p (classUnit topic) y r → Steps t o p (bodyUnit topic run) y r
+      pub body-class : (eqb (y .code) 69 || eqb (y .code) 70) ≡ true → Steps t o p (classUnit (aroundOf topic)) y r → Steps t o p (bodyUnit (aroundOf topic) (runOf run)) y r
       unfolding bodyUnit
       body-class h g = unless _ _ _ (at-topic topic false h₁) (when _ _ _ (class-test true h) g)
 
       module _ (h₂ : (eqb (y .code) 69 || eqb (y .code) 70) ≡ false) where
-        pub body-domains : y .code ≡ 74 → Steps t o p (wordStep (ascii "DOMAIN") (U.body topic true)) y r → Steps t o p (bodyUnit topic run) y r
+        pub body-domains : y .code ≡ 74 → Steps t o p (wordStep (ascii "DOMAIN") (U.body (aroundOf topic) U.domains)) y r → Steps t o p (bodyUnit (aroundOf topic) (runOf run)) y r
         unfolding bodyUnit
         body-domains h g = unless _ _ _ (at-topic topic false h₁) (unless _ _ _ (class-test false h₂) (when _ _ _ (is-yes (is-word (ascii "DOMAIN") 74 refl) h) g))
 
         module _ (h₃ : y .code ≡ 74 → ⊥) where
-          pub body-domain : (run && eqb (y .code) 1) ≡ true → Steps t o p (domainUnit topic) y r → Steps t o p (bodyUnit topic run) y r
+          pub body-domain : (run && eqb (y .code) 1) ≡ true → Steps t o p (domainUnit (aroundOf topic)) y r → Steps t o p (bodyUnit (aroundOf topic) (runOf run)) y r
           unfolding bodyUnit
           body-domain h g =
               unless _ _ _ (at-topic topic false h₁) (unless _ _ _ (class-test false h₂) (unless _ _ _ (is-no (is-word (ascii "DOMAIN") 74 refl) h₃) (when _ _ _ (at-domain run true h) g)))
 
-          pub body-close : (run && eqb (y .code) 1) ≡ false → Steps t o p (bodyEnd topic) y r → Steps t o p (bodyUnit topic run) y r
+          pub body-close : (run && eqb (y .code) 1) ≡ false → Steps t o p (bodyEnd (aroundOf topic)) y r → Steps t o p (bodyUnit (aroundOf topic) (runOf run)) y r
           unfolding bodyUnit
           body-close h g =
               unless _ _ _ (at-topic topic false h₁) (unless _ _ _ (class-test false h₂) (unless _ _ _ (is-no (is-word (ascii "DOMAIN") 74 refl) h₃) (unless _ _ _ (at-domain run false h) g)))
 
   module _ (first : Bool) where
-    pub members-open : (first && eqb (y .code) 75) ≡ true → Steps t o p (wordStep (ascii "ATTRIBUTE") (U.members topic false)) y r → Steps t o p (memberUnit topic first) y r
+    pub members-open : (first && eqb (y .code) 75) ≡ true → Steps t o p (wordStep (ascii "ATTRIBUTE") (U.members (aroundOf topic) U.a-member)) y r → Steps t o p (memberUnit (aroundOf topic) (behindOf first)) y r
     unfolding memberUnit
     members-open h g = when _ _ _ (at-attribute first true h) g
 
-    pub members-attribute : (first && eqb (y .code) 75) ≡ false → y .code ≡ 1 → Steps t o p (attributeUnit topic) y r → Steps t o p (memberUnit topic first) y r
+    pub members-attribute : (first && eqb (y .code) 75) ≡ false → y .code ≡ 1 → Steps t o p (attributeUnit (aroundOf topic)) y r → Steps t o p (memberUnit (aroundOf topic) (behindOf first)) y r
     unfolding memberUnit
     members-attribute h k g = unless _ _ _ (at-attribute first false h) (when _ _ _ (is-yes is-name k) g)
 
-    pub members-close : (first && eqb (y .code) 75) ≡ false → (y .code ≡ 1 → ⊥) → Steps t o p (endUnit ";" (U.body topic false)) y r → Steps t o p (memberUnit topic first) y r
+    pub members-close : (first && eqb (y .code) 75) ≡ false → (y .code ≡ 1 → ⊥) → Steps t o p (endUnit ";" (U.body (aroundOf topic) U.no-run)) y r → Steps t o p (memberUnit (aroundOf topic) (behindOf first)) y r
     unfolding memberUnit
     members-close h k g = unless _ _ _ (at-attribute first false h) (unless _ _ _ (is-no is-name k) g)
 
 -- ---- the rest
 module _ {t o : List ℕ} {y : Symbol} {r : Step} (topic : Bool) where
-  pub topic-ends : topic ≡ true → Steps t o o (endUnit ";" (U.body false false)) y r → Steps t o o (bodyEnd topic) y r
+  pub topic-ends : topic ≡ true → Steps t o o (endUnit ";" (U.body U.in-model U.no-run)) y r → Steps t o o (bodyEnd (aroundOf topic)) y r
   unfolding bodyEnd
   topic-ends h g = rw h g
 
-  pub model-ends : topic ≡ false → Steps t o o (endUnit "." U.over) y r → Steps t o o (bodyEnd topic) y r
+  pub model-ends : topic ≡ false → Steps t o o (endUnit "." U.over) y r → Steps t o o (bodyEnd (aroundOf topic)) y r
   unfolding bodyEnd
   model-ends h g = rw h g
 
@@ -314,11 +333,11 @@ module _ {t o p : List ℕ} {y : Symbol} {r : Step} where
   unfolding unitAt
   at-header g = g
 
-  pub at-body : (a b : Bool) → Steps t o p (bodyUnit a b) y r → Steps t o p (unitAt (U.body a b)) y r
+  pub at-body : (a : U.Around) (b : U.Run) → Steps t o p (bodyUnit a b) y r → Steps t o p (unitAt (U.body a b)) y r
   unfolding unitAt
   at-body a b g = g
 
-  pub at-members : (a b : Bool) → Steps t o p (memberUnit a b) y r → Steps t o p (unitAt (U.members a b)) y r
+  pub at-members : (a : U.Around) (b : U.Behind) → Steps t o p (memberUnit a b) y r → Steps t o p (unitAt (U.members a b)) y r
   unfolding unitAt
   at-members a b g = g
 
@@ -327,19 +346,16 @@ module _ {t o p : List ℕ} {y : Symbol} {r : Step} where
   at-over g = g
 
 -- ---- behind a unit there is another symbol
-lies : {t : List ℕ} {z : rules.Symbol} → Stands t z → Lies 0 (length t) z
-lies s = record { starts = omega arith; ends = s .ends; solid = s .solid }
-
 behind-only : (t : List ℕ) (m : Result U.Step) → Ends (Stepped t 1) m → Ends (λ q _. q .behind ≤ length t) m
 behind-only t (done q z) h = h .1
 behind-only t (refused f k) h = tt
 
 behind : (t : List ℕ) (w : U.Where) (z : rules.Symbol) → Stands t z → Ends (λ q _. q .behind ≤ length t) (unitAt w t z)
 unfolding unitAt lastStep
-behind t U.start z s = behind-only t (unitAt U.start t z) (unit-steps U.start refl .reads t 0 z (lies s))
-behind t U.afterHeader z s = behind-only t (unitAt U.afterHeader t z) (unit-steps U.afterHeader refl .reads t 0 z (lies s))
-behind t (U.body a b) z s = behind-only t (unitAt (U.body a b) t z) (unit-steps (U.body a b) refl .reads t 0 z (lies s))
-behind t (U.members a b) z s = behind-only t (unitAt (U.members a b) t z) (unit-steps (U.members a b) refl .reads t 0 z (lies s))
+behind t U.start z s = behind-only t (unitAt U.start t z) (unit-steps U.start refl .reads t 0 z (stands-lies s))
+behind t U.afterHeader z s = behind-only t (unitAt U.afterHeader t z) (unit-steps U.afterHeader refl .reads t 0 z (stands-lies s))
+behind t (U.body a b) z s = behind-only t (unitAt (U.body a b) t z) (unit-steps (U.body a b) refl .reads t 0 z (stands-lies s))
+behind t (U.members a b) z s = behind-only t (unitAt (U.members a b) t z) (unit-steps (U.members a b) refl .reads t 0 z (stands-lies s))
 behind t U.over z s =
     either (λ m. Ends (λ q _. q .behind ≤ length t) (andThen t m (λ e. step none U.over e))) (isKind stop z) (λ _. s .ends) (λ _. tt)
 

@@ -1,6 +1,6 @@
 -- Units as the code hands them on, and what it promises of the units of the rules.
 use mathlib.Core.Path.{_≡_}
-use mathlib.Core.Bool.{Bool, cond}
+use mathlib.Core.Bool.{Bool, true, false, not, cond}
 use mathlib.Core.Option.{Option, none, some}
 use mathlib.Core.List.{List}
 use Prim.Native.Nat.{ℕ}
@@ -24,18 +24,31 @@ use Rattle.units.specs.declared.Unit.the-variants.{Header, Model, Topic,
 use Rattle.units.specs.declared.Step.{Step}
 use Rattle.units.specs.declared.Step.the-variants.{Read, Unread}
 
+-- what the flags of a place say
+abbrev pub aroundOf : Bool → U.Around
+aroundOf true = U.in-topic
+aroundOf false = U.in-model
+
+abbrev pub runOf : Bool → U.Run
+runOf true = U.domains
+runOf false = U.no-run
+
+abbrev pub behindOf : Bool → U.Behind
+behindOf true = U.its-head
+behindOf false = U.a-member
+
 abbrev pub whereOf : U.Where → Where
 whereOf U.start = Start
 whereOf U.afterHeader = AfterHeader
 whereOf U.over = Over
-whereOf (U.body t r) = Body t r
-whereOf (U.members t f) = Members t f
+whereOf (U.body a r) = Body (not (U.isModel a)) (U.ofDomains r)
+whereOf (U.members a b) = Members (not (U.isModel a)) (U.isHead b)
 
 abbrev pub placeOf : Where → U.Where
 placeOf Start = U.start
 placeOf AfterHeader = U.afterHeader
-placeOf (Body t r) = U.body t r
-placeOf (Members t f) = U.members t f
+placeOf (Body t r) = U.body (aroundOf t) (runOf r)
+placeOf (Members t f) = U.members (aroundOf t) (behindOf f)
 placeOf Over = U.over
 
 -- the mark after END and a name: the model ends with `.`
@@ -53,13 +66,14 @@ anything o = Unit {0}
 abbrev pub partOf : rules.Symbol → Name
 partOf s = record { offset = s .place; len = length (s .bytes) }
 
--- u is the unit, and the scratch o has become p. The rules of a model's strings are those of their symbols alone
+-- u is the unit, and the scratch o has become p
 abbrev pub Is : List ℕ → List ℕ → U.Unit → code.Unit → Type 0
 Is o p (U.header s) u = u ≡ Header (partOf s)
-Is o p (U.model n) u = (h : ModelHead) × (u ≡ Model h) × (h .name ≡ nameCut n)
+Is o p (U.model n q) u = (h : ModelHead) × (u ≡ Model h) × (h .name ≡ nameCut n) × (h .at ≡ partOf (q .address)) × (h .version ≡ partOf (q .version))
 Is o p (U.topic n) u = u ≡ Topic (nameCut n)
 Is o p (U.close n) u = u ≡ Close (nameCut n)
-Is o p (U.class s n ps b) u = u ≡ Class (record { structure = s; name = nameCut n; properties = flagsOf ps; base = extendsOf b })
+Is o p (U.class c n ps b) u =
+    (k : Bool) × (c ≡ U.classSort k) × (u ≡ Class (record { structure = k; name = nameCut n; properties = flagsOf ps; base = extendsOf b }))
 Is o p (U.domain n ps b w) u =
     (u ≡ Domain (record { name = nameCut n; properties = flagsOf ps; base = extendsOf b; written = writtenOf w })) × Scratches o p (w .type)
 Is o p (U.attribute n ps w) u = (u ≡ Attribute (record { name = nameCut n; properties = flagsOf ps; written = writtenOf w })) × Scratches o p (w .type)

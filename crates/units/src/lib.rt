@@ -15,7 +15,7 @@ ghost use lib.ListN.{length};
 ghost use lib.Dec.{eqb};
 ghost use Rattle.rules.specs.Units.{headerUnit, modelUnit, topicUnit, classUnit, domainUnit, attributeUnit, endUnit, bodyEnd, bodyUnit, memberUnit, unitAt};
 ghost use Rattle.readers.specs.Reads.{Held, Reads};
-ghost use Rattle.units.specs.Steps.{placeOf, endMark, language, anything, Steps, endedOf};
+ghost use Rattle.units.specs.Steps.{aroundOf, runOf, behindOf, placeOf, endMark, language, anything, Steps, endedOf};
 
 // Where the next unit stands: before the header; behind it; in the model or a topic, perhaps in a run of domains; in a class, perhaps right
 // after its head; behind the model's END.
@@ -158,7 +158,7 @@ fn is_class(code: u8) -> bool
 // CLASS or STRUCTURE, which is y.
 fn class(text: &[u8], y: Symbol, in_topic: bool) -> Step
     requires { ⌜ Held (now text) y ⌝ }
-    ensures { λ r. ⌜ ((o : List ℕ) → (eqb (y .code) 69 || eqb (y .code) 70) ≡ true → Steps (now (text .entry)) o o (classUnit «in_topic») y r) ⌝ }
+    ensures { λ r. ⌜ ((o : List ℕ) → (eqb (y .code) 69 || eqb (y .code) 70) ≡ true → Steps (now (text .entry)) o o (classUnit (aroundOf «in_topic»)) y r) ⌝ }
 {
     let n = expect(text, y, y.code);
     let l = expect(text, n, readers::NAME);
@@ -184,7 +184,7 @@ fn class(text: &[u8], y: Symbol, in_topic: bool) -> Step
 fn domain(text: &[u8], records: &mut [u8], y: Symbol, in_topic: bool) -> Step
     requires { ⌜ Held (now text) y ⌝ }
     requires { ⌜ 3 * length (now text) ≤ length (now records) ⌝ }
-    ensures { λ r. ⌜ Steps (now (text .entry)) (now (records .entry)) (now (records .exit)) (domainUnit «in_topic») y r ⌝ }
+    ensures { λ r. ⌜ Steps (now (text .entry)) (now (records .entry)) (now (records .exit)) (domainUnit (aroundOf «in_topic»)) y r ⌝ }
 {
     let l = expect(text, y, readers::NAME);
     let p = parts::read_properties(text, l, false);
@@ -213,7 +213,7 @@ fn domain(text: &[u8], records: &mut [u8], y: Symbol, in_topic: bool) -> Step
 fn attribute(text: &[u8], records: &mut [u8], y: Symbol, in_topic: bool) -> Step
     requires { ⌜ Held (now text) y ⌝ }
     requires { ⌜ 3 * length (now text) ≤ length (now records) ⌝ }
-    ensures { λ r. ⌜ Steps (now (text .entry)) (now (records .entry)) (now (records .exit)) (attributeUnit «in_topic») y r ⌝ }
+    ensures { λ r. ⌜ Steps (now (text .entry)) (now (records .entry)) (now (records .exit)) (attributeUnit (aroundOf «in_topic»)) y r ⌝ }
 {
     let l = expect(text, y, readers::NAME);
     let p = parts::read_properties(text, l, true);
@@ -256,7 +256,7 @@ fn close(text: &[u8], y: Symbol, last: bool, at: Where) -> Step
 
 // A topic ends with `;`, the model with `.`.
 fn body_end(text: &[u8], y: Symbol, in_topic: bool) -> Step
-    ensures { λ r. ⌜ ((o : List ℕ) → Steps (now (text .entry)) o o (bodyEnd «in_topic») y r) ⌝ }
+    ensures { λ r. ⌜ ((o : List ℕ) → Steps (now (text .entry)) o o (bodyEnd (aroundOf «in_topic»)) y r) ⌝ }
 {
     if in_topic {
         let at = Where::Body {
@@ -290,7 +290,7 @@ fn allowed(may: bool, code: u8, wanted: u8) -> bool
 fn body_unit(text: &[u8], records: &mut [u8], y: Symbol, in_topic: bool, run: bool) -> Step
     requires { ⌜ Held (now text) y ⌝ }
     requires { ⌜ 3 * length (now text) ≤ length (now records) ⌝ }
-    ensures { λ r. ⌜ Steps (now (text .entry)) (now (records .entry)) (now (records .exit)) (bodyUnit «in_topic» run) y r ⌝ }
+    ensures { λ r. ⌜ Steps (now (text .entry)) (now (records .entry)) (now (records .exit)) (bodyUnit (aroundOf «in_topic») (runOf run)) y r ⌝ }
 {
     if opens_topic(y.code, in_topic) {
         return topic(text, y);
@@ -314,7 +314,7 @@ fn body_unit(text: &[u8], records: &mut [u8], y: Symbol, in_topic: bool, run: bo
 fn member_unit(text: &[u8], records: &mut [u8], y: Symbol, in_topic: bool, first: bool) -> Step
     requires { ⌜ Held (now text) y ⌝ }
     requires { ⌜ 3 * length (now text) ≤ length (now records) ⌝ }
-    ensures { λ r. ⌜ Steps (now (text .entry)) (now (records .entry)) (now (records .exit)) (memberUnit «in_topic» first) y r ⌝ }
+    ensures { λ r. ⌜ Steps (now (text .entry)) (now (records .entry)) (now (records .exit)) (memberUnit (aroundOf «in_topic») (behindOf first)) y r ⌝ }
 {
     if allowed(first, y.code, readers::ATTRIBUTE) {
         let at = Where::Members {

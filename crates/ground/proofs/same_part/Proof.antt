@@ -3,14 +3,15 @@ use Prim.Native.Nat.{_-_, _≤_}
 use native.Mathlib.Nat.{add-zero, sub-zero}
 use Rattle.rules.specs.Bytes.{same}
 use Rattle.ground.specs.Parts.{part}
-use Rattle.ground.proofs.PartLaws.{sameFrom, same-go, same-stop, same-done, same-unlike}
+use Rattle.rules.proofs.PartLaws.{sameFrom, same-go, same-stop, same-done}
+use Rattle.ground.proofs.PartLaws.{same-unlike}
 use native.Mathlib.Omega.{arith}
 use borrow.Author.Needs.{needs}
 use Rattle.ground.proofs.same_part.Statement.{statement}
 use Rattle.ground.proofs.same_part.Tie as tie
 
 abbrev Inv-loop : tie.InvT-loop
-Inv-loop text a m b n i₀ i = (i ≤ m) × (same (part text a m) (part text b n) ≡ sameFrom text a b m i)
+Inv-loop text a m b n i₀ i = (i ≤ m) × (same (part text a m) (part text b n) ≡ sameFrom text a text b m i)
 
 abbrev μ-loop : tie.MeasureT-loop
 μ-loop text a m b n i₀ i = m - i
@@ -31,20 +32,20 @@ returns-2 c =
     let a = c .before .before .before .before .before .before .args in
     let v = c .before .before .before .before .loop in
     let e : a .m ≡ a .n = c .before .before .before .before .before .if1 .left in
-    sym (v .inv .1 ∙ same-stop (a .text .now) (a .a) (a .b) (a .m) (v .i) (omega arith) (omega arith) (omega arith) (c .if2 .taken))
+    sym (v .inv .1 ∙ same-stop (a .text .now) (a .a) (a .text .now) (a .b) (a .m) (v .i) (omega arith) (omega arith) (omega arith) (c .if2 .taken))
 
 loop-again : tie.Need-loop-again Inv-loop μ-loop
 loop-again c =
     let a = c .before .before .before .before .before .before .args in
     let v = c .before .before .before .before .loop in
     let e : a .m ≡ a .n = c .before .before .before .before .before .if1 .left in
-    (omega arith, v .inv .1 ∙ same-go (a .text .now) (a .a) (a .b) (a .m) (v .i) (omega arith) (omega arith) (omega arith) (c .if2 .left))
+    (omega arith, v .inv .1 ∙ same-go (a .text .now) (a .a) (a .text .now) (a .b) (a .m) (v .i) (omega arith) (omega arith) (omega arith) (c .if2 .left))
 
 returns-3 : tie.Need-returns-3 Inv-loop μ-loop
 returns-3 c =
     let a = c .before .before .before .args in
     let v = c .before .loop in
-    sym (v .inv .1 ∙ same-done (a .text .now) (a .a) (a .b) (a .m) (v .i) (omega arith))
+    sym (v .inv .1 ∙ same-done (a .text .now) (a .a) (a .text .now) (a .b) (a .m) (v .i) (omega arith))
 
 pub same-part-spec : {M : Type 1} → statement M
 same-part-spec =

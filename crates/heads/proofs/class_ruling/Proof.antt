@@ -1,6 +1,6 @@
 use mathlib.Core.Path.{refl, sym, ap, _∙_}
 use Rattle.rules.specs.Declarations.{sortNumber}
-use Rattle.rules.specs.Judge.{classSort}
+use Rattle.rules.specs.Units.{classSort}
 use Rattle.units.specs.declared.ClassHead.{ClassHead}
 use Rattle.heads.proofs.ClassLaws.{taken-by, ruled-taken, ruled-extends, ruled-mixed, ruled-fine}
 use native.Mathlib.Omega.{arith}

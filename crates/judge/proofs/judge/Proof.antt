@@ -17,8 +17,8 @@ judge-model-requires : tie.Need-judge-model-requires
 judge-model-requires c κs =
     let s = c .before .before .before .before .before .before .before .before .before .before .before .before .before .before in
     let (i, v, k, m) = s .pre .1 .1 .1 .1 .1 in
-    let (n, h) = a-model v m (c .before .before .unit2 .given .1) in
-    (s .pre .0, (i, n, _, _, _, _, _, _, k, h))
+    let (n, q, h) = a-model v m (c .before .before .unit2 .given .1) in
+    (s .pre .0, (i, n, q, _, _, _, _, _, _, k, h))
 
 judge-topic-requires : tie.Need-judge-topic-requires
 judge-topic-requires c κs =
@@ -61,7 +61,7 @@ returns c =
 
 returns-2 : tie.Need-returns-2
 returns-2 c =
-    λ s v k m. by-model (Answers _ _ s _ _ _ _ _ _ _ _) v m (c .before .before .before .before .before .unit2 .given .1) (λ n h. record { as-judged = c .before .before .judge-model .ensures s n _ _ _ _ _ _ k h })
+    λ s v k m. by-model (Answers _ _ s _ _ _ _ _ _ _ _) v m (c .before .before .before .before .before .unit2 .given .1) (λ n q h. record { as-judged = c .before .before .judge-model .ensures s n q _ _ _ _ _ _ k h })
 
 returns-3 : tie.Need-returns-3
 returns-3 c =

@@ -3,7 +3,7 @@ use mathlib.Core.Bool.{true}
 use mathlib.Core.List.{List}
 use Prim.Native.Nat.{ℕ, _-_, _≤_}
 use lib.ListN.{length}
-use Rattle.symbols.specs.Scans.{part}
+use Rattle.rules.specs.Bytes.{part}
 use Rattle.symbols.specs.Words.{rows, areLong}
 use Rattle.symbols.proofs.WordLaws.{Left, row-found, row-next, row-fits, rows-done}
 use native.Mathlib.Omega.{arith}

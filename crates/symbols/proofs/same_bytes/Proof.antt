@@ -1,9 +1,8 @@
 use mathlib.Core.Path.{_≡_, sym, _∙_}
 use Prim.Native.Nat.{_-_, _≤_}
 use native.Mathlib.Nat.{add-zero, sub-zero}
-use Rattle.rules.specs.Bytes.{same}
-use Rattle.symbols.specs.Scans.{part}
-use Rattle.symbols.proofs.ScanLaws.{sameFrom, same-go, same-stop, same-done}
+use Rattle.rules.specs.Bytes.{part, same}
+use Rattle.rules.proofs.PartLaws.{sameFrom, same-go, same-stop, same-done}
 use native.Mathlib.Omega.{arith}
 use borrow.Author.Needs.{needs}
 use Rattle.symbols.proofs.same_bytes.Statement.{statement}

@@ -1,6 +1,6 @@
-use Rattle.units.proofs.StepLaws.{body-topic, body-class, body-domains, body-domain, body-close, mark-steps}
+use Rattle.units.proofs.StepLaws.{body-topic, body-class, body-domains, body-domain, body-close, mark-steps, where-place}
 use Rattle.readers.proofs.CodeLaws.{is-word}
-use Rattle.rules.specs.Units as U
+use Rattle.units.specs.declared.Where.the-variants.{Body}
 use Rattle.rules.specs.Bytes.{ascii}
 use mathlib.Core.Path.{sym, refl, _∙_}
 use mathlib.Core.Bool.{true}
@@ -9,19 +9,19 @@ use Rattle.units.proofs.body_unit.Statement.{statement}
 use Rattle.units.proofs.body_unit.Tie as tie
 
 returns : tie.Need-returns
-returns c = body-topic _ _ (sym (c .before .before .opens-topic .ensures) ∙ c .before .if1 .taken) (c .topic .ensures _)
+returns c = body-topic (c .before .before .before .before .before .args .in-topic) (c .before .before .before .before .before .args .run) (sym (c .before .before .opens-topic .ensures) ∙ c .before .if1 .taken) (c .topic .ensures _)
 
 returns-2 : tie.Need-returns-2
-returns-2 c = body-class _ _ (sym (c .before .before .before .before .opens-topic .ensures) ∙ c .before .before .before .if1 .left) (sym (c .before .before .is-class .ensures) ∙ c .before .if2 .taken) (c .class .ensures _ (sym (c .before .before .is-class .ensures) ∙ c .before .if2 .taken))
+returns-2 c = body-class (c .before .before .before .before .before .before .before .args .in-topic) (c .before .before .before .before .before .before .before .args .run) (sym (c .before .before .before .before .opens-topic .ensures) ∙ c .before .before .before .if1 .left) (sym (c .before .before .is-class .ensures) ∙ c .before .if2 .taken) (c .class .ensures _ (sym (c .before .before .is-class .ensures) ∙ c .before .if2 .taken))
 
 returns-3 : tie.Need-returns-3
-returns-3 c = body-domains _ _ (sym (c .before .before .before .before .before .before .opens-topic .ensures) ∙ c .before .before .before .before .before .if1 .left) (sym (c .before .before .before .before .is-class .ensures) ∙ c .before .before .before .if2 .left) (c .before .if3 .taken) (mark-steps _ (ascii "DOMAIN") 74 (U.body (c .before .before .before .before .before .before .before .before .before .args .in-topic) true) (is-word (ascii "DOMAIN") 74 refl) (c .ended .ensures))
+returns-3 c = body-domains (c .before .before .before .before .before .before .before .before .before .args .in-topic) (c .before .before .before .before .before .before .before .before .before .args .run) (sym (c .before .before .before .before .before .before .opens-topic .ensures) ∙ c .before .before .before .before .before .if1 .left) (sym (c .before .before .before .before .is-class .ensures) ∙ c .before .before .before .if2 .left) (c .before .if3 .taken) (mark-steps _ (ascii "DOMAIN") 74 _ (where-place (Body (c .before .before .before .before .before .before .before .before .before .args .in-topic) true)) (is-word (ascii "DOMAIN") 74 refl) (c .ended .ensures))
 
 returns-4 : tie.Need-returns-4
-returns-4 c = body-domain _ _ (sym (c .before .before .before .before .before .before .before .before .before .before .before .opens-topic .ensures) ∙ c .before .before .before .before .before .before .before .before .before .before .if1 .left) (sym (c .before .before .before .before .before .before .before .before .before .is-class .ensures) ∙ c .before .before .before .before .before .before .before .before .if2 .left) (c .before .before .before .before .before .before .if3 .left) (sym (c .before .before .before .before .before .allowed .ensures) ∙ c .before .before .before .before .if4 .taken) (c .before .before .domain .ensures)
+returns-4 c = body-domain (c .before .before .before .before .before .before .before .before .before .before .before .before .before .before .args .in-topic) (c .before .before .before .before .before .before .before .before .before .before .before .before .before .before .args .run) (sym (c .before .before .before .before .before .before .before .before .before .before .before .opens-topic .ensures) ∙ c .before .before .before .before .before .before .before .before .before .before .if1 .left) (sym (c .before .before .before .before .before .before .before .before .before .is-class .ensures) ∙ c .before .before .before .before .before .before .before .before .if2 .left) (c .before .before .before .before .before .before .if3 .left) (sym (c .before .before .before .before .before .allowed .ensures) ∙ c .before .before .before .before .if4 .taken) (c .before .before .domain .ensures)
 
 returns-5 : tie.Need-returns-5
-returns-5 c = body-close _ _ (sym (c .before .before .before .before .before .before .before .before .opens-topic .ensures) ∙ c .before .before .before .before .before .before .before .if1 .left) (sym (c .before .before .before .before .before .before .is-class .ensures) ∙ c .before .before .before .before .before .if2 .left) (c .before .before .before .if3 .left) (sym (c .before .before .allowed .ensures) ∙ c .before .if4 .left) (c .body-end .ensures _)
+returns-5 c = body-close (c .before .before .before .before .before .before .before .before .before .before .before .args .in-topic) (c .before .before .before .before .before .before .before .before .before .before .before .args .run) (sym (c .before .before .before .before .before .before .before .before .opens-topic .ensures) ∙ c .before .before .before .before .before .before .before .if1 .left) (sym (c .before .before .before .before .before .before .is-class .ensures) ∙ c .before .before .before .before .before .if2 .left) (c .before .before .before .if3 .left) (sym (c .before .before .allowed .ensures) ∙ c .before .if4 .left) (c .body-end .ensures _)
 
 pub body-unit-spec : {M : Type 1} → statement M
 body-unit-spec =

@@ -1,6 +1,6 @@
-use Rattle.units.proofs.StepLaws.{members-open, members-attribute, members-close, mark-steps}
+use Rattle.units.proofs.StepLaws.{members-open, members-attribute, members-close, mark-steps, where-place}
 use Rattle.readers.proofs.CodeLaws.{is-word}
-use Rattle.rules.specs.Units as U
+use Rattle.units.specs.declared.Where.the-variants.{Members}
 use Rattle.rules.specs.Bytes.{ascii}
 use mathlib.Core.Path.{sym, refl, _∙_}
 use mathlib.Core.Bool.{false}
@@ -9,13 +9,13 @@ use Rattle.units.proofs.member_unit.Statement.{statement}
 use Rattle.units.proofs.member_unit.Tie as tie
 
 returns : tie.Need-returns
-returns c = members-open _ _ (sym (c .before .before .allowed .ensures) ∙ c .before .if1 .taken) (mark-steps _ (ascii "ATTRIBUTE") 75 (U.members (c .before .before .before .before .before .args .in-topic) false) (is-word (ascii "ATTRIBUTE") 75 refl) (c .ended .ensures))
+returns c = members-open (c .before .before .before .before .before .args .in-topic) (c .before .before .before .before .before .args .first) (sym (c .before .before .allowed .ensures) ∙ c .before .if1 .taken) (mark-steps _ (ascii "ATTRIBUTE") 75 _ (where-place (Members (c .before .before .before .before .before .args .in-topic) false)) (is-word (ascii "ATTRIBUTE") 75 refl) (c .ended .ensures))
 
 returns-2 : tie.Need-returns-2
-returns-2 c = members-attribute _ _ (sym (c .before .before .before .before .before .before .before .allowed .ensures) ∙ c .before .before .before .before .before .before .if1 .left) (c .before .before .before .before .if2 .taken) (c .before .before .attribute .ensures)
+returns-2 c = members-attribute (c .before .before .before .before .before .before .before .before .before .before .args .in-topic) (c .before .before .before .before .before .before .before .before .before .before .args .first) (sym (c .before .before .before .before .before .before .before .allowed .ensures) ∙ c .before .before .before .before .before .before .if1 .left) (c .before .before .before .before .if2 .taken) (c .before .before .attribute .ensures)
 
 returns-3 : tie.Need-returns-3
-returns-3 c = members-close _ _ (sym (c .before .before .before .before .allowed .ensures) ∙ c .before .before .before .if1 .left) (c .before .if2 .left) (c .close .ensures _)
+returns-3 c = members-close (c .before .before .before .before .before .before .before .args .in-topic) (c .before .before .before .before .before .before .before .args .first) (sym (c .before .before .before .before .allowed .ensures) ∙ c .before .before .before .if1 .left) (c .before .if2 .left) (c .close .ensures _)
 
 pub member-unit-spec : {M : Type 1} → statement M
 member-unit-spec =

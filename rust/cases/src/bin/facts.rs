@@ -29,8 +29,8 @@ const OPENED: [(&str, &str); 7] = [
     ),
     (
         "Judge",
-        "newTopic newClass newDomain newAttribute withAttribute extendsRules classRules domainEarly domainRules attributeEarly \
-         attributeRules judgeTopic judgeClass judgeDomain judgeAttribute judgeMember judgeClose judge",
+        "newTopic newClass newDomain newAttribute withAttribute extendsRules classRules domainTo16 domainRules attributeTo16 \
+         attributeRules judge",
     ),
     ("Check", "run"),
     ("Numbers", "readNumber"),
@@ -74,12 +74,12 @@ fn check_fact(name: &str, case: &Case) -> String {
         Answer::Accepted {
             book_len,
             definitions,
-        } => (format!("accepted {book_len} {definitions}"), book_len),
-        Answer::Refused { number, place } => (format!("refusal {number} {place}"), 0),
+        } => (format!("accepting {book_len} {definitions}"), book_len),
+        Answer::Refused { number, place } => (format!("refusing {number} {place}"), 0),
     };
     assert!(buffer[book..].iter().all(|byte| *byte == 0));
     format!(
-        "{name} : check {} {} ≡ record {{ answer = {answer}; buffer = padded {} {} }}",
+        "{name} : check {} (lent {}) ≡ record {{ answer = {answer}; buffer = padded {} {} }}",
         literal(&case.text),
         case.buffer_len,
         list(&buffer[..book]),
@@ -100,7 +100,7 @@ fn read_fact(name: &str, random: &mut Random) -> String {
     let (from, to) = (random.below(19) as u64, random.below(19) as u64);
     let read = match peer::read_number(value, from, to) {
         Ok(reading) => format!("reads {}", whole(reading)),
-        Err(number) => format!("unread {number}"),
+        Err(number) => format!("notRead {number}"),
     };
     format!("{name} : readNumber {} {from} {to} ≡ {read}", whole(value))
 }
@@ -134,8 +134,8 @@ fn module(facts: &[String]) -> String {
     let mut text = String::from(
         "use mathlib.Core.Path.{_≡_, refl}\nuse mathlib.Core.List.{List, [], _∷_}\nuse Prim.Native.Nat.{ℕ}\n\
          use lib.IntN.{ℤ, pos, negsuc}\nuse Rattle.rules.specs.Bytes.{ascii}\nuse Rattle.rules.specs.Book.{padded}\n\
-         use Rattle.rules.specs.Numbers.{reads, unread}\nuse Rattle.rules.specs.Show.{Part}\n\
-         use Rattle.rules.specs.Check.{check, Checked, accepted, refusal}\n",
+         use Rattle.rules.specs.Numbers.{reads, notRead}\nuse Rattle.rules.specs.Show.{Part}\n\
+         use Rattle.rules.specs.Check.{lent, check, Checked, accepting, refusing}\n",
     );
     let mut opened = String::from("unfolding");
     for (module, names) in OPENED {

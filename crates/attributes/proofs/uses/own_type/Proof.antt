@@ -1,5 +1,5 @@
+use Rattle.rules.specs.Judge.{attributeUse}
 use Rattle.names.specs.Index.{entry}
-use Rattle.attributes.specs.Stages.{useOf}
 use Rattle.rules.specs.Declarations.{tyOf}
 use Rattle.types.proofs.TypeLaws.{typed-valued}
 use Rattle.attributes.proofs.UseLaws.{own-in-place, own-named}
@@ -12,7 +12,7 @@ returns : tie.Need-returns
 returns c = λ t ks ms n y total w b r l e f v. (own-in-place ks (c .before .before .before .before .args .named) w b _ (c .before .if1 .taken) f (c .meant .ensures w (tyOf b) e v), λ z. absurd (omega (arith, c .before .if1 .taken)))
 
 returns-2 : tie.Need-returns-2
-returns-2 c = λ t ks ms n y total w b r l e f v. let a = r .held .all-defs in let q = own-named t (c .before .before .before .before .args .front .now) ks (c .before .before .before .before .args .named) w b (c .named-type .result) (omega arith) (c .before .if1 .left) f (λ d p. c .named-type .ensures t ks ms n y total d r p) in (typed-valued t (c .before .before .before .before .args .front .now) (tyOf (useOf w (entry ks (c .before .before .before .before .args .named)) b)) (c .named-type .result) q, λ z. q)
+returns-2 c = λ t ks ms n y total w b r l e f v. let a = r .held .all-defs in let q = own-named t (c .before .before .before .before .args .front .now) ks (c .before .before .before .before .args .named) w b (c .named-type .result) (omega arith) (c .before .if1 .left) f (λ d p. c .named-type .ensures t ks ms n y total d r p) in (typed-valued t (c .before .before .before .before .args .front .now) (tyOf (attributeUse w (entry ks (c .before .before .before .before .args .named)) b)) (c .named-type .result) q, λ z. q)
 
 pub own-type-spec : {M : Type 1} → statement M
 own-type-spec = tie.close (tie.spec (λ c κs. search needs) returns (λ c κs. search needs) returns-2)

@@ -5,7 +5,7 @@ use Prim.Native.Nat.{_-_, _≤_}
 use lib.ListN.{length}
 use lib.Seq.{paste, paste-zero}
 use Rattle.ground.specs.Parts.{part}
-use Rattle.ground.proofs.PartLaws.{length-part}
+use Rattle.rules.proofs.PartLaws.{length-part}
 use Rattle.ground.proofs.BufferLaws.{paste-done}
 use Rattle.enumerations.proofs.CopyLaws.{copy-length, copy-more}
 use Rattle.enumerations.proofs.lists.copy_within.Statement.{statement}

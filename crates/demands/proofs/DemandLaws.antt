@@ -1,0 +1,104 @@
+-- All demands, from the claims on `check` and from what the program promises.
+use mathlib.Core.Path.{_≡_, refl, sym, ap, _∙_, subst}
+use mathlib.Core.List.{List}
+use Prim.Native.Nat.{ℕ}
+use native.Mathlib.Omega.{arith}
+use Rattle.rules.specs.Declarations.{State}
+use Rattle.rules.specs.Check as C
+use Rattle.rules.specs.Check.{lent, kept, run, accepted, refusal, check}
+use Rattle.claims.specs.Promise.{OnlyOne}
+use Rattle.claims.specs.Steps.{EveryReading}
+use Rattle.claims.proofs.Tables.{marked-hold}
+use Rattle.claims.proofs.PromiseLaws.{same-accepted, same-refused, one-outcome, refused-zeros, accepted-book}
+use Rattle.claims.proofs.RankingLaws.{units-ranked, texts-ranked}
+use Rattle.claims.proofs.NumberedLaws.{refused-numbered}
+use Rattle.claims.proofs.DistinctLaws.{all-distinct}
+use Rattle.claims.proofs.ShutLaws.{shut}
+use Rattle.claims.proofs.Demand3Laws.{demand3}
+use Rattle.claims.proofs.RunLaws.{Ending, Ended, run-ends}
+use Rattle.auzuplens.specs.declared.Answer.{Answer}
+use Rattle.auzuplens.specs.declared.Answer.the-variants.{Accepted, Refused}
+use Rattle.auzuplens.specs.Promise.{answerOf}
+use Rattle.demands.specs.Demands.{Gives, Demand1, Demand2, NumbersRead, Demand3, Demands}
+use Rattle.demands.proofs.PackLaws.{unpacks-answer, unpacks-name}
+use Rattle.demands.proofs.FairLaws.{reached-fair, reached-typed}
+use Rattle.demands.proofs.ReadLaws.{numbers-read}
+
+-- ---- the program's answers
+-- each of document 01's is one of them, and only one
+coded : (a : C.Answer) → (r : Answer) × (answerOf r ≡ a)
+coded (accepted a) = (Accepted (a .length) (a .definitions), refl)
+coded (refusal r) = (Refused (r .number) (r .place), refl)
+
+same-answer : (r s : Answer) → answerOf r ≡ answerOf s → r ≡ s
+same-answer (Accepted n k) (Accepted m j) e = let (p, q) = same-accepted e in rw (p, q)
+same-answer (Accepted n k) (Refused m q) e = absurd (let z : _≡_ {A = ℕ} 0 1 = cc in omega arith)
+same-answer (Refused n p) (Accepted m j) e = absurd (let z : _≡_ {A = ℕ} 0 1 = cc in omega arith)
+same-answer (Refused n p) (Refused m q) e = let (i, j) = same-refused e in rw (i, j)
+
+same-kept : {x y : State} → kept x ≡ kept y → x ≡ y
+same-kept e = cc
+
+module _ (t : List ℕ) (m : ℕ) where
+  -- what `check` answers is given
+  gives : (r : Answer) → check t (lent m) .answer ≡ answerOf r → (b : List ℕ) × Gives t m r b
+  gives r e = (_, record { answer = sym e; buffer = refl })
+
+  outcome : OnlyOne t (lent m)
+  outcome = one-outcome t (lent m)
+
+  demand-1 : Demand1 t m
+  demand-1 = record {
+    answered =
+        let (r, e) = coded (outcome .answer) in
+        (r, outcome .buffer, record { answer = e ∙ outcome .promised .answer; buffer = outcome .promised .buffer });
+    one = λ r s b c h k.
+        let (p, q) = outcome .only (answerOf r) b h in
+        let (i, j) = outcome .only (answerOf s) c k in
+        (same-answer r s (p ∙ sym i), q ∙ sym j);
+    numbered = λ n p b h. refused-numbered t (lent m) n p (sym (h .answer));
+    zeros = λ n p b h. refused-zeros t (lent m) n p b h;
+    unpacks = λ r b h. unpacks-answer t m r (h .answer);
+  }
+
+  demand-2 : Demand2 t m
+  demand-2 = record {
+    follows = (
+      λ h. let (n, k, b, g) = h in let r = accepted-book t (lent m) n k b g in (r .state, r .runs),
+      λ h. let (b, g) = gives (Accepted _ _) (ap C.answerOf (h .1)) in (_, _, b, g),
+    );
+    first = λ n p. (
+      λ h. texts-ranked .refused t (lent m) n p .0 (sym (h .1 .answer)),
+      λ h. gives (Refused n p) (texts-ranked .refused t (lent m) n p .1 h),
+    );
+    book = λ n k b h. accepted-book t (lent m) n k b h;
+  }
+
+  numbers : (s : State) → run t (lent m) ≡ kept s → NumbersRead s
+  numbers s e =
+      let h : Ended t (lent m) s = subst (Ending t (lent m)) e (run-ends t (lent m)) in
+      let r = demand3 .accepted-reads t (lent m) _ _ (ap C.answerOf e) in
+      let k : EveryReading s = subst EveryReading (same-kept (sym (r .runs) ∙ e)) (r .reads) in
+      numbers-read t s (reached-fair t m (h .reaches) .0) (reached-typed t m (h .reaches)) k
+
+  demand-3 : Demand3 t m
+  demand-3 = record {
+    reads = λ n k b h. demand3 .accepted-reads t (lent m) n k (sym (h .answer));
+    numbers = numbers;
+    witness = λ p b h. demand3 .refused-has-value t (lent m) p (sym (h .answer));
+    refuses = λ s u j x y e o r b h.
+        let v = demand3 .value-refuses t (lent m) s u j x y e o in
+        (v .number, v .place, same-answer r (Refused (v .number) (v .place)) (h .answer ∙ v .answers), v .refuses, v .by);
+  }
+
+pub demands : Demands
+demands = record {
+  demand1 = demand-1;
+  demand2 = demand-2;
+  demand3 = demand-3;
+  ranked = units-ranked;
+  marked-hold = marked-hold;
+  distinct = all-distinct;
+  shut = shut;
+  parts = unpacks-name;
+}

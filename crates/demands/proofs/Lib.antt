@@ -1,0 +1,4 @@
+pub mod PackLaws
+pub mod FairLaws
+pub mod ReadLaws
+pub mod DemandLaws

@@ -1,0 +1,116 @@
+-- What is packed into one number can be taken out again: the answers of `check`, and the names that are shown.
+use mathlib.Core.Path.{_≡_, sym}
+use mathlib.Core.Bool.{Bool, true, false, cond}
+use mathlib.Core.List.{List, [], _∷_}
+use Prim.Native.Nat.{ℕ, zero, suc, _+_, _*_, _-_, _/_, _%_, _≤_, _<_}
+use native.Mathlib.Omega.{arith}
+use lib.ListN.{length, getD, take}
+use lib.Dec.{eqb, leb}
+use borrow.Author.Tests.{ne-eqb}
+use Rattle.rules.specs.All.{All}
+use Rattle.rules.specs.Book.{Record}
+use Rattle.rules.specs.Show.{sizeOf, recordsFrom, Part, noPart, read4, isNamed, nameIn, nameAt, showName}
+use Rattle.rules.specs.Check.{lent, accepting, refusing, check}
+use Rattle.rules.proofs.Tests.{never}
+use Rattle.claims.specs.Ranking.{isIn}
+use Rattle.claims.specs.Numbered.{table, Small}
+use Rattle.claims.proofs.NumberedLaws.{refused-numbered, accepted-small}
+use Rattle.auzuplens.specs.declared.Answer.{Answer}
+use Rattle.auzuplens.specs.declared.Answer.the-variants.{Accepted, Refused}
+use Rattle.auzuplens.specs.Promise.{answerOf}
+use Rattle.auzuplens.specs.Packing.{packed, packedPart, unpacked, unpackedPart}
+
+-- ---- answers
+-- the halves of a number, and what is above them
+high : (a b : ℕ) → b < 4294967296 → (a * 4294967296 + b) / 4294967296 ≡ a
+high a b h = omega arith
+
+over-high : (a b : ℕ) → a < 65536 → b < 4294967296 → (a * 4294967296 + b) / 281474976710656 ≡ 0
+over-high a b h k = omega arith
+
+low : (a b : ℕ) → b < 4294967296 → (a * 4294967296 + b) % 4294967296 ≡ b
+low a b h = omega arith
+
+unpacks-accepted : (n k : ℕ) → Small n k → unpacked (packed (accepting n k)) ≡ accepting n k
+unpacks-accepted n k h =
+    let e : k % 65536 ≡ k = omega (arith, h) in
+    let f : n % 4294967296 ≡ n = omega (arith, h) in
+    let x : k < 65536 = omega (arith, h) in
+    let y : n < 4294967296 = omega (arith, h) in
+    rw (e, f, over-high k n x y, low k n y, high k n y, e)
+
+-- 0 is no number of the table
+table-from-1 : (n : ℕ) → isIn n table ≡ true → 0 < n
+table-from-1 zero h = never h
+table-from-1 (suc n) h = omega arith
+
+unpacks-refused : (n p : ℕ) → 0 < n → p ≤ 65535 → unpacked (packed (refusing n p)) ≡ refusing n p
+unpacks-refused n p h k =
+    let e : (n * 281474976710656 + p % 4294967296) / 281474976710656 ≡ n = omega arith in
+    let f : (n * 281474976710656 + p % 4294967296) % 4294967296 ≡ p = omega arith in
+    rw (e, f, ne-eqb n 0 (omega arith))
+
+pub unpacks-answer : (t : List ℕ) (m : ℕ) (r : Answer) → answerOf r ≡ check t (lent m) .answer → unpacked (packed (answerOf r)) ≡ answerOf r
+unpacks-answer t m (Accepted n k) e = unpacks-accepted n k (accepted-small t (lent m) n k (sym e))
+unpacks-answer t m (Refused n p) e = let h = refused-numbered t (lent m) n p (sym e) in unpacks-refused n p (table-from-1 n (h .number)) (h .short)
+
+-- ---- parts
+unpacks-part : (p : Part) → p .start < 4294967296 → p .length < 256 → unpackedPart (packedPart p) ≡ p
+unpacks-part p h k =
+    let e : (p .start % 4294967296 * 256 + p .length % 256) / 256 ≡ p .start = omega arith in
+    let f : (p .start % 4294967296 * 256 + p .length % 256) % 256 ≡ p .length = omega arith in
+    λ i. record { start = e i; length = f i }
+
+-- what a book of bytes gives is small enough
+abbrev Byte : ℕ → Type 0
+Byte x = x < 256
+
+abbrev Bytes : List ℕ → Type 0
+Bytes l = All Byte l
+
+byte-at : (l : List ℕ) (i : ℕ) → Bytes l → getD l i 0 < 256
+byte-at [] i h = omega arith
+byte-at (x ∷ l) zero h = h .0
+byte-at (x ∷ l) (suc i) h = byte-at l i (h .1)
+
+bytes-front : (n : ℕ) (l : List ℕ) → Bytes l → Bytes (take n l)
+bytes-front zero l h = tt
+bytes-front (suc n) [] h = tt
+bytes-front (suc n) (x ∷ l) h = (h .0, bytes-front n l (h .1))
+
+records-bytes : (n : ℕ) (l : List ℕ) → Bytes l → All Bytes (recordsFrom n l)
+unfolding recordsFrom
+records-bytes n [] h = tt
+records-bytes (suc n) (b ∷ l) h = records-bytes n l (h .1)
+records-bytes zero (b ∷ l) h = go (eqb (sizeOf b) 0) (leb (sizeOf b) (length (b ∷ l))) (records-bytes (sizeOf b - 1) l (h .1))
+  where
+    go : (x y : Bool) → All Bytes (recordsFrom (sizeOf b - 1) l) → All Bytes (cond x [] (cond y (take (sizeOf b) (b ∷ l) ∷ recordsFrom (sizeOf b - 1) l) []))
+    go true y r = tt
+    go false true r = (bytes-front (sizeOf b) (b ∷ l) h, r)
+    go false false r = tt
+
+abbrev Unpacks : Part → Type 0
+Unpacks p = unpackedPart (packedPart p) ≡ p
+
+no-part : Unpacks noPart
+no-part = unpacks-part noPart (omega arith) (omega arith)
+
+name-unpacks : (t : List ℕ) (r : Record) → Bytes r → Unpacks (nameIn t r)
+name-unpacks t r h = go (isNamed (getD r 0 0)) (leb (read4 r 1 + getD r 5 0) (length t))
+  where
+    whole : Part
+    whole = record { start = read4 r 1; length = getD r 5 0 }
+
+    go : (x y : Bool) → Unpacks (cond x (cond y whole noPart) noPart)
+    go true true = unpacks-part whole (omega (arith, byte-at r 1 h, byte-at r 2 h, byte-at r 3 h, byte-at r 4 h)) (byte-at r 5 h)
+    go true false = no-part
+    go false y = no-part
+
+names-unpack : (t : List ℕ) (l : List Record) (k : ℕ) → All Bytes l → Unpacks (nameAt t l k)
+names-unpack t [] k h = no-part
+names-unpack t (r ∷ l) zero h = name-unpacks t r (h .0)
+names-unpack t (r ∷ l) (suc k) h = names-unpack t l k (h .1)
+
+pub unpacks-name : (t b : List ℕ) (k : ℕ) → Bytes b → Unpacks (showName t b k)
+unfolding showName
+unpacks-name t b k h = names-unpack t (recordsFrom 0 b) k (records-bytes 0 b h)

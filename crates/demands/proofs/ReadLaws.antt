@@ -1,0 +1,140 @@
+-- `read_number` reads every legal number of what an accepted text declares: its ranges are small, and so are the readings at their bases.
+use mathlib.Core.Path.{_≡_, refl, sym, _∙_, subst}
+use mathlib.Core.Logic.{inl, inr}
+use mathlib.Core.Bool.{true, false}
+use mathlib.Core.Option.{some}
+use mathlib.Core.List.{List, [], _∷_}
+use Prim.Native.Nat.{ℕ, _≤_, _<_, _^_}
+use native.Mathlib.Omega.{arith}
+use lib.ListN.{length}
+use lib.IntN.{ℤ, pos, negsuc, natAbs}
+use lib.Signed.{leZ}
+use lib.Dec.{eqb}
+use borrow.Author.Tests.{le-ltb, lt-leb, leb-true}
+use Rattle.rules.specs.Numbers as N
+use Rattle.rules.specs.Numbers.{Range, inRange, reads, readNumber}
+use Rattle.rules.specs.Types.{Ty, range, structure, Value, number, legal, reading}
+use Rattle.rules.specs.Declarations.{Link, Use, inline, ofDomain, ofStructure, tyOf, Attribute, Def, State, known, attributeAt}
+use Rattle.rules.specs.Book.{records}
+use Rattle.rules.specs.Judge.{isDomain}
+use Rattle.rules.specs.All.{All, In}
+use Rattle.rules.proofs.Tests.{never, split}
+use Rattle.rules.proofs.AllLaws.{apart, any-is, any-lookup, all-attribute, in-append, all-in}
+use Rattle.numbers.specs.declared.Reading.{Reading}
+use Rattle.numbers.specs.declared.Reading.the-variants as R
+use Rattle.numbers.specs.Answer.{Promised}
+use Rattle.numbers.proofs.ReadLaws.{one-answer}
+use Rattle.scope.specs.Scope.{Fair, FairUse, FairAttribute, FairDef, FairState}
+use Rattle.claims.specs.Steps as S
+use Rattle.claims.specs.Steps.{Declared, baseOf, firstOf, numbered, domainIn, Inherits, near, far, Nearest, Passes, through, straight, EveryReading}
+use Rattle.claims.proofs.StateLaws.{in-all}
+use Rattle.demands.specs.Demands.{ReadBy, NumbersRead}
+use Rattle.demands.proofs.FairLaws.{Typed}
+
+-- ---- numbers
+-- what lies between small bounds is small
+between-small : (l v h : ℤ) (k : ℕ) → natAbs l < k → natAbs h < k → leZ l v ≡ true → leZ v h ≡ true → natAbs v < k
+between-small l (pos v) (pos h) k a b p q = omega (arith, leb-true v h q)
+between-small l (pos v) (negsuc h) k a b p q = never q
+between-small (pos l) (negsuc v) h k a b p q = never p
+between-small (negsuc l) (negsuc v) h k a b p q = omega (arith, leb-true v l p)
+
+range-small : (t : List ℕ) (r : Range) (v : ℤ) → Fair t (range r) → legal (range r) (number (r .decimals) v) ≡ true → natAbs v < 10 ^ 18
+range-small t r v f e =
+    let i : inRange r v ≡ true = split {x = eqb (r .decimals) (r .decimals)} e .1 in
+    let (a, b) = split {x = leZ (r .low) v} i in
+    between-small (r .low) v (r .high) (10 ^ 18) (f .1) (f .2) a b
+
+-- neither 20 nor 21
+read-small : (v : ℤ) (d db : ℕ) → d ≤ 17 → db ≤ 17 → natAbs v < 10 ^ 18 → natAbs (N.reading d db v) < 10 ^ 18 → readNumber v d db ≡ reads (N.reading d db v)
+unfolding readNumber
+read-small v d db a b c e = rw (le-ltb 17 d a, le-ltb 17 db b, lt-leb (10 ^ 18) (natAbs v) c, lt-leb (10 ^ 18) (natAbs (N.reading d db v)) e)
+
+-- ---- types: what is small, and each of whose legal values has a legal reading at another
+abbrev Reads : Ty → Ty → Type 0
+Reads x y = (v : Value) → legal x v ≡ true → (w : Value) × (reading y v ≡ some w) × (legal y w ≡ true)
+
+range-reads : (t : List ℕ) (r q : Range) → Fair t (range r) → Fair t (range q) → Reads (range r) (range q) →
+    (v : ℤ) → legal (range r) (number (r .decimals) v) ≡ true → (a : Reading) → Promised v (r .decimals) (q .decimals) a →
+    (w : ℤ) × (a ≡ R.Value w) × (reading (range q) (number (r .decimals) v) ≡ some (number (q .decimals) w)) × (legal (range q) (number (q .decimals) w) ≡ true)
+range-reads t r q f g h v e a p =
+    let w = N.reading (r .decimals) (q .decimals) v in
+    let (x, i, j) = h (number (r .decimals) v) e in
+    let z : x ≡ number (q .decimals) w = cc in
+    let l : legal (range q) (number (q .decimals) w) ≡ true = subst (λ (x : Value). legal (range q) x ≡ true) z j in
+    let n = read-small v (r .decimals) (q .decimals) (f .0) (g .0) (range-small t r v f e) (range-small t q w g l) in
+    (w, one-answer v (r .decimals) (q .decimals) a (R.Value w) p (record { number = rw n; value = rw n }), refl, l)
+
+-- a range is fair
+abbrev Ranged : List ℕ → Ty → Type 0
+Ranged t x = (r : Range) → x ≡ range r → Fair t x
+
+read-by : (t : List ℕ) (x y : Ty) → Ranged t x → Ranged t y → Reads x y → ReadBy x y
+read-by t x y f g h r q i j =
+    let a : Fair t (range r) = subst (Fair t) i (f r i) in
+    let b : Fair t (range q) = subst (Fair t) j (g q j) in
+    let c : Reads (range r) (range q) = rw (i, j) at h in
+    rw (i, j) (range-reads t r q a b c)
+
+-- ---- what is declared: domains, and what types attributes
+not-range : {A : Type 0} (r : Range) → structure ≡ range r → A
+not-range r e = absurd (let z : _≡_ {A = ℕ} 0 1 = cc in omega arith)
+
+def-ranged : (t : List ℕ) (n : ℕ) (d : Def) → FairDef t n d → Typed d → Ranged t (d .type)
+def-ranged t n d f (inl e) r i = f .type e
+def-ranged t n d f (inr e) r i = not-range r (sym e ∙ i)
+
+use-ranged : (t : List ℕ) (u : Use) → FairUse t u → Ranged t (tyOf u)
+use-ranged t (inline x) f r e = f
+use-ranged t (ofDomain l bs) f r e = f
+use-ranged t (ofStructure l bs) f r e = not-range r e
+
+-- a base is declared, and a nearest inherited attribute is a declared class's own
+first-declared : (s : State) (l : List Link) (b : Def) → firstOf s l ≡ some b → Declared s b
+first-declared s [] b e = apart (sym e)
+first-declared s (l ∷ bs) b e = any-is (Declared s) (numbered s (l .number)) b (any-lookup (Declared s) _ (known (s .decls)) (all-in (known (s .decls)))) e
+
+own-in : (n : List ℕ) (l : List Attribute) (a : Attribute) → attributeAt n l ≡ some a → In a l
+own-in n l a e = all-attribute (λ (b : Attribute). In b l) n l a (all-in l) e
+
+inherits-own : (s : State) (n : List ℕ) (a : Attribute) (c : Def) → Inherits s n a c → (d : Def) × Declared s d × In a (d .own)
+inherits-own s n a c (near b e f) = (b, first-declared s (c .bases) b e, own-in n (b .own) a f)
+inherits-own s n a c (far b e f i) = inherits-own s n a b i
+
+-- where no domain is named, an attribute's step is the reading at the base's type
+passes-reads : (s : State) (a b : Attribute) (v w : Value) → isDomain (a .use-of) ≡ false → Passes s a b v w → reading (tyOf (b .use-of)) v ≡ some w
+passes-reads s a b v w h (straight i e) = e
+passes-reads s a b v w h (through d e i j c) = go (a .use-of) h i
+  where
+    go : {A : Type 0} (u : Use) → isDomain u ≡ false → domainIn s u ≡ some d → A
+    go (inline x) k i = apart (sym i)
+    go (ofDomain l bs) k i = never (sym k)
+    go (ofStructure l bs) k i = apart (sym i)
+
+-- ---- a state that is fair and reads legally
+module _ (t : List ℕ) (s : State) (h : FairState t s) (k : All Typed (known (s .decls))) (e : EveryReading s) where
+  fair-def : (d : Def) → Declared s d → FairDef t (length (records s)) d
+  fair-def d i = in-all (FairDef t (length (records s))) (h .defs) i
+
+  declared-ranged : (d : Def) → Declared s d → Ranged t (d .type)
+  declared-ranged d i = def-ranged t (length (records s)) d (fair-def d i) (in-all Typed k i)
+
+  own-ranged : (d : Def) → Declared s d → (a : Attribute) → In a (d .own) → Ranged t (tyOf (a .use-of))
+  own-ranged d i a j = use-ranged t (a .use-of) (in-all (FairAttribute t (length (records s))) (fair-def d i .attributes) (in-append (d .own) (d .inherited) j) .used)
+
+  read-domains : (d b : Def) → Declared s d → baseOf s d ≡ some b → ReadBy (d .type) (b .type)
+  read-domains d b i f =
+      read-by t (d .type) (b .type) (declared-ranged d i) (declared-ranged b (first-declared s (d .bases) b f)) (λ v l. e .domains d i v l d v S.Climbs.start .onward b f)
+
+  read-attributes : (a b : Attribute) → Nearest s a b → isDomain (a .use-of) ≡ false → ReadBy (tyOf (a .use-of)) (tyOf (b .use-of))
+  read-attributes a b n o =
+      let (d, i, j) = inherits-own s (a .name .bytes) b (n .class) (n .inherits) in
+      read-by t (tyOf (a .use-of)) (tyOf (b .use-of)) (own-ranged (n .class) (n .declared) a (n .own)) (own-ranged d i b j) straightly
+    where
+      straightly : Reads (tyOf (a .use-of)) (tyOf (b .use-of))
+      straightly v l =
+          let (w, p, q) = e .attributes (n .class) (n .declared) a (n .own) v l a v S.Rises.start .onward b n in
+          (w, passes-reads s a b v w o p, q)
+
+  pub numbers-read : NumbersRead s
+  numbers-read = record { domains = read-domains; attributes = read-attributes }
