@@ -16,13 +16,14 @@ use Rattle.rules.specs.Book.{Record, bytes, useRecords}
 use Rattle.rules.specs.Judge.{attributeUse, Judged, ok, refused, judge, orNoAttribute, isExtended, hasTwice, elementRule, referenceIn, resolved}
 use Rattle.rules.specs.Check.{lent, room}
 use Rattle.ground.specs.Parts.{splice}
-use Rattle.enumerations.specs.Merging.{sizeOf}
-use Rattle.enumerations.specs.declared.lists.Size.{Size}
+use Rattle.book.specs.Sizes.{headSize}
+use Rattle.enumerations.specs.Records.{sizeOf}
+use Rattle.enumerations.specs.declared.Size.{Size}
 use Rattle.names.specs.Index.{entry}
 use Rattle.members.specs.Held.{attributesIn, useFor}
 use Rattle.rules.specs.All.{AnyIs}
-use Rattle.scope.specs.Scope.{Begins}
-use Rattle.scope.proofs.KeepLaws.{judge-fair, found-there}
+use Rattle.wellformed.specs.Fairness.{Begins}
+use Rattle.wellformed.proofs.KeepLaws.{judge-fair, found-there}
 use Rattle.types.specs.Rulings.{rulingOf, judgedBy}
 use Rattle.types.specs.declared.Ruling.{Ruling}
 use Rattle.types.proofs.TypeLaws.{once-of}
@@ -32,15 +33,22 @@ use Rattle.state.specs.declared.State as code
 use Rattle.state.specs.declared.Judged as code-judged
 use Rattle.state.specs.Keeping.{Keeps, Comes, JudgedAs, verdict}
 use Rattle.state.proofs.KeepLaws.{plain-use}
-use Rattle.domains.specs.Written.{LaidWhen}
-use Rattle.domains.specs.declared.written.Laying.{Laying}
-use Rattle.domains.specs.declared.written.Laying.the-variants.{Whole, Broken}
-use Rattle.attributes.specs.Stages.{nameRules, referenceRules, headRules}
-use Rattle.attributes.specs.Facts.{Given, Refers, Early-is, Typings-are, Lays, LaidAs, Passes, useIn, afterAttribute}
-use Rattle.attributes.specs.declared.early.Early.{Early}
-use Rattle.attributes.specs.declared.uses.Typings.{Typings}
-use Rattle.attributes.proofs.NameLaws.{found-is}
-use Rattle.attributes.proofs.StageLaws.{given, class-there, ready, at-name, is-twice, at-type, is-meant, early-off, refers-is, earlies, heads, uses, judged-in-stages, stage-broken, stage-passed}
+use Rattle.written.specs.Written.{LaidWhen}
+use Rattle.written.specs.declared.Laying.{Laying}
+use Rattle.written.specs.declared.Laying.the-variants.{Whole, Broken}
+use Rattle.attribute_names.specs.Stages.{nameRules, referenceRules}
+use Rattle.attribute_names.specs.Facts.{Given, Refers, BondsAre}
+use Rattle.attribute_names.specs.declared.Bonds.{Bonds}
+use Rattle.attribute_names.proofs.NameLaws.{found-is}
+use Rattle.attribute_names.proofs.GivenLaws.{given, class-there, at-name, is-twice, at-type, is-meant}
+use Rattle.attribute_names.proofs.BondLaws.{to-11-off, refers-is}
+use Rattle.attribute_types.specs.Stages.{headRules}
+use Rattle.attribute_types.specs.Facts.{Binds, TypingsAre}
+use Rattle.attribute_types.specs.declared.Typings.{Typings}
+use Rattle.attribute_types.proofs.UseLaws.{ready}
+use Rattle.attribute_records.specs.Facts.{Lays, LaidAs}
+use Rattle.attributes.specs.Facts.{Passes, useIn, afterAttribute}
+use Rattle.attributes.proofs.StageLaws.{to-11, to-13, to-18, judged-in-stages, stage-broken, stage-passed}
 
 laid-refused : (b : Bool) (q : Ruling) (l : List Record) (i : ℕ) (o o₁ : List ℕ) (r : Ruling) → LaidWhen b q l i o o₁ (Broken r) → (b ≡ true) × (r ≡ q)
 laid-refused true q l i o o₁ r h = let e : r ≡ q = cc in (refl, e)
@@ -50,7 +58,7 @@ laid-accepted : (b : Bool) (q : Ruling) (l : List Record) (i : ℕ) (o o₁ : Li
 laid-accepted true q l i o o₁ s h = let z : _≡_ {A = ℕ} 0 1 = cc in absurd (omega arith)
 laid-accepted false q l i o o₁ s h = let e = h .0 in let k : s ≡ sizeOf l = cc in (refl, k, h .1)
 
-module _ (t : List ℕ) (s : State) (st : code.State) (o x z y ns ps : List ℕ) (n : R.Name) (p : List (List ℕ)) (w : G.Written) (a : AttributeUnit) (rs : List ℕ) (k : Keeps t s st o x z y ns ps) (m : Comes t s (U.attribute n p w) (V·Attribute a) rs) where
+module _ {t : List ℕ} {s : State} {st : code.State} {o x z y hs : List ℕ} {n : R.Name} {p : List (List ℕ)} {w : G.Written} {a : AttributeUnit} {rs : List ℕ} (k : Keeps t s st o x z y hs) (m : Comes t s (U.attribute n p w) (V·Attribute a) rs) where
   pub unit-is : Given t n p w rs a
   unit-is = given t s n p w a rs m
 
@@ -66,28 +74,28 @@ module _ (t : List ℕ) (s : State) (st : code.State) (o x z y ns ps : List ℕ)
   abbrev named· : Option Def
   named· = resolved s (referenceIn (w .type))
 
-  stages : judge s (U.attribute n p w) ≡ judgedBy (rulingOf (earlies s c· n p w)) (judgedBy (rulingOf (heads s c· n p w)) (judgedBy (rulingOf (uses s c· n p w)) (ok (afterAttribute s c· n p w))))
+  stages : judge s (U.attribute n p w) ≡ judgedBy (rulingOf (to-11 s c· n p w)) (judgedBy (rulingOf (to-13 s c· n p w)) (judgedBy (rulingOf (to-18 s c· n p w)) (ok (afterAttribute s c· n p w))))
   stages = judged-in-stages s c· n p w (class-is .1)
 
-  module _ (e : Early) (ei : Early-is s (class-is .0) n (isExtended p) (w .type) ns ps (st .«in_hand») e) where
+  module _ {e : Bonds} (ei : BondsAre s (class-is .0) n (isExtended p) (w .type) hs (st .context .«in_hand») e) where
     pub judged-first : 0 < e .ruling .number → judge s (U.attribute n p w) ≡ refused (e .ruling .number) (e .ruling .place)
-    judged-first h = stages ∙ ap (λ (r : Ruling). judgedBy r (judgedBy (rulingOf (heads s c· n p w)) (judgedBy (rulingOf (uses s c· n p w)) (ok (afterAttribute s c· n p w))))) (sym (ei .ruling)) ∙ stage-broken (e .ruling) _ h
+    judged-first h = stages ∙ ap (λ (r : Ruling). judgedBy r (judgedBy (rulingOf (to-13 s c· n p w)) (judgedBy (rulingOf (to-18 s c· n p w)) (ok (afterAttribute s c· n p w))))) (sym (ei .ruling)) ∙ stage-broken (e .ruling) _ h
 
     module _ (h : e .ruling .number ≤ 0) where
       first-off : e .ruling .number ≡ 0
       first-off = omega arith
 
-      past-first : judge s (U.attribute n p w) ≡ judgedBy (rulingOf (heads s c· n p w)) (judgedBy (rulingOf (uses s c· n p w)) (ok (afterAttribute s c· n p w)))
-      past-first = stages ∙ ap (λ (r : Ruling). judgedBy r (judgedBy (rulingOf (heads s c· n p w)) (judgedBy (rulingOf (uses s c· n p w)) (ok (afterAttribute s c· n p w))))) (sym (ei .ruling)) ∙ stage-passed (e .ruling) _ h
+      past-first : judge s (U.attribute n p w) ≡ judgedBy (rulingOf (to-13 s c· n p w)) (judgedBy (rulingOf (to-18 s c· n p w)) (ok (afterAttribute s c· n p w)))
+      past-first = stages ∙ ap (λ (r : Ruling). judgedBy r (judgedBy (rulingOf (to-13 s c· n p w)) (judgedBy (rulingOf (to-18 s c· n p w)) (ok (afterAttribute s c· n p w))))) (sym (ei .ruling)) ∙ stage-passed (e .ruling) _ h
 
       base-is : entry (attributesIn s) (e .base) ≡ base·
-      base-is = ei .base first-off
+      base-is = ei .reaches first-off .base
 
       named-is : entry (known (s .decls)) (e .named) ≡ named·
-      named-is = ei .named first-off
+      named-is = ei .reaches first-off .named
 
       offs : (rulingOf (nameRules c· n (isExtended p)) .number ≡ 0) × (rulingOf (elementRule (w .type) ∷ []) .number ≡ 0) × (rulingOf (referenceRules (n .offset) (isExtended p) (isFound base·) (referenceIn (w .type)) named·) .number ≡ 0)
-      offs = early-off c· n (isExtended p) (isFound base·) (w .type) named· (ap (λ (r : Ruling). r .number) (sym (ei .ruling)) ∙ first-off)
+      offs = to-11-off c· n (isExtended p) (isFound base·) (w .type) named· (ap (λ (r : Ruling). r .number) (sym (ei .ruling)) ∙ first-off)
 
       refer : Refers (referenceIn (w .type)) named· × ((isExtended p && not (isFound base·)) ≡ false)
       refer = refers-is (n .offset) (isExtended p) (isFound base·) (referenceIn (w .type)) named· (λ q. ap (resolved s) q) (offs .2)
@@ -98,9 +106,9 @@ module _ (t : List ℕ) (s : State) (st : code.State) (o x z y ns ps : List ℕ)
       alone : w .type ≡ none → isFound (entry (attributesIn s) (e .base)) ≡ true
       alone q = ap isFound base-is ∙ found-there (isExtended p) (isFound base·) (unit-is .fair .alone q) (refer .1)
 
-      module _ (r : Typings) (ri : Typings-are t (take (st .used) o) (known (s .decls)) (a .name .offset) (a .properties .twice) (w .type) (entry (known (s .decls)) (e .named)) (entry (attributesIn s) (e .base)) r) where
-        heads-are : r .ruling ≡ rulingOf (heads s c· n p w)
-        heads-are =
+      module _ {r : Typings} (bi : Binds e (st .listing .count) (r .uses)) (ri : TypingsAre t (take (st .extent .used) o) (known (s .decls)) (a .name .offset) (a .properties .twice) (w .type) (entry (known (s .decls)) (e .named)) (entry (attributesIn s) (e .base)) r) where
+        to-13-are : r .ruling ≡ rulingOf (to-13 s c· n p w)
+        to-13-are =
             ri .ruling
             ∙ ap (λ (i : ℕ). rulingOf (headRules i (orNoAttribute (entry (attributesIn s) (e .base)) .final) (a .properties .twice) (attributeUse (w .type) (entry (known (s .decls)) (e .named)) (orNoAttribute (entry (attributesIn s) (e .base)) .use-of)) (entry (known (s .decls)) (e .named)))) (at-name t n p w rs a unit-is)
             ∙ ap (λ (b : Bool). rulingOf (headRules (n .offset) (orNoAttribute (entry (attributesIn s) (e .base)) .final) b (attributeUse (w .type) (entry (known (s .decls)) (e .named)) (orNoAttribute (entry (attributesIn s) (e .base)) .use-of)) (entry (known (s .decls)) (e .named)))) (is-twice t n p w rs a unit-is)
@@ -108,63 +116,63 @@ module _ (t : List ℕ) (s : State) (st : code.State) (o x z y ns ps : List ℕ)
             ∙ ap (λ (d : Option Def). rulingOf (headRules (n .offset) (orNoAttribute base· .final) (hasTwice p) (attributeUse (w .type) d (orNoAttribute base· .use-of)) d)) named-is
 
         pub judged-second : 0 < r .ruling .number → judge s (U.attribute n p w) ≡ refused (r .ruling .number) (r .ruling .place)
-        judged-second h2 = past-first ∙ ap (λ (q : Ruling). judgedBy q (judgedBy (rulingOf (uses s c· n p w)) (ok (afterAttribute s c· n p w)))) (sym heads-are) ∙ stage-broken (r .ruling) _ h2
+        judged-second h2 = past-first ∙ ap (λ (q : Ruling). judgedBy q (judgedBy (rulingOf (to-18 s c· n p w)) (ok (afterAttribute s c· n p w)))) (sym to-13-are) ∙ stage-broken (r .ruling) _ h2
 
         module _ (h2 : r .ruling .number ≤ 0) where
-          past-second : judge s (U.attribute n p w) ≡ judgedBy (rulingOf (uses s c· n p w)) (ok (afterAttribute s c· n p w))
-          past-second = past-first ∙ ap (λ (q : Ruling). judgedBy q (judgedBy (rulingOf (uses s c· n p w)) (ok (afterAttribute s c· n p w)))) (sym heads-are) ∙ stage-passed (r .ruling) _ h2
+          past-second : judge s (U.attribute n p w) ≡ judgedBy (rulingOf (to-18 s c· n p w)) (ok (afterAttribute s c· n p w))
+          past-second = past-first ∙ ap (λ (q : Ruling). judgedBy q (judgedBy (rulingOf (to-18 s c· n p w)) (ok (afterAttribute s c· n p w)))) (sym to-13-are) ∙ stage-passed (r .ruling) _ h2
 
-          pub lays : e .base ≤ st .total → e .named ≤ st .count → Lays t (take (st .used) o) (known (s .decls)) (attributesIn s) x (st .count) y (st .total) rs (a .written) (e .base) (e .named) (r .used) (r .own) (r .base) (w .type)
-          lays hb hn = record {
-            ready = ready t s st o x z y ns ps k;
+          pub lays : e .base ≤ st .listing .total → e .named ≤ st .listing .count → Lays t (take (st .extent .used) o) (known (s .decls)) (attributesIn s) x (st .listing .count) y (st .listing .total) rs (a .written) (r .uses .base) (r .uses .named) (r .uses .kept) (r .uses .over) (w .type)
+          lays hb hn = rw (bi .base, bi .named) (record {
+            ready = ready t s st o x z y hs k;
             within = hb;
+            based = bi .based;
             meant = is-meant t n p w rs a unit-is;
             begins = subst (λ (i : ℕ). AnyIs (Begins i) (w .type)) (sym (at-type t n p w rs a unit-is)) (unit-is .fair .begins);
             scratched = unit-is .scratched;
             once = once-of (w .type) (offs .1);
             refers = refers-to;
             alone = alone;
-            used = ri .used;
+            used = ri .kept;
             typed = ri .base;
             valued = ri .own;
             typed-named = λ v. ri .named (found-is (known (s .decls)) (e .named) (let i = k .held .all-defs in omega arith) ∙ lt-ltb 0 (e .named) v);
-          }
+          })
 
-          module _ (l : Laying) (o₁ : List ℕ) (li : LaidAs (a .written .place) (w .type) (entry (known (s .decls)) (e .named)) (entry (attributesIn s) (e .base)) (st .used + 11) o o₁ l) where
-            laid : LaidAs (w .place) (w .type) named· base· (st .used + 11) o o₁ l
+          module _ (l : Laying) (o₁ : List ℕ) (li : LaidAs (a .written .place) (w .type) (entry (known (s .decls)) (r .uses .named)) (entry (attributesIn s) (r .uses .base)) (st .extent .used + headSize) o o₁ l) where
+            laid : LaidAs (w .place) (w .type) named· base· (st .extent .used + headSize) o o₁ l
             laid =
-                subst (λ (d : Option Def). LaidAs (w .place) (w .type) d base· (st .used + 11) o o₁ l) named-is
-                (subst (λ (i : Option Attribute). LaidAs (w .place) (w .type) (entry (known (s .decls)) (e .named)) i (st .used + 11) o o₁ l) base-is
-                (subst (λ (i : ℕ). LaidAs i (w .type) (entry (known (s .decls)) (e .named)) (entry (attributesIn s) (e .base)) (st .used + 11) o o₁ l) (at-type t n p w rs a unit-is) li))
+                subst (λ (d : Option Def). LaidAs (w .place) (w .type) d base· (st .extent .used + headSize) o o₁ l) (ap (entry (known (s .decls))) (bi .named) ∙ named-is)
+                (subst (λ (i : Option Attribute). LaidAs (w .place) (w .type) (entry (known (s .decls)) (r .uses .named)) i (st .extent .used + headSize) o o₁ l) (ap (entry (attributesIn s)) (bi .base) ∙ base-is)
+                (subst (λ (i : ℕ). LaidAs i (w .type) (entry (known (s .decls)) (r .uses .named)) (entry (attributesIn s) (r .uses .base)) (st .extent .used + headSize) o o₁ l) (at-type t n p w rs a unit-is) li))
 
             abbrev Is : Laying → Type 0
-            Is i = LaidWhen (ltb 0 (rulingOf (uses s c· n p w) .number)) (rulingOf (uses s c· n p w)) (useRecords (useIn s c· n w)) (st .used + 11) o o₁ i
+            Is i = LaidWhen (ltb 0 (rulingOf (to-18 s c· n p w) .number)) (rulingOf (to-18 s c· n p w)) (useRecords (useIn s c· n w)) (st .extent .used + headSize) o o₁ i
 
             pub judged-third : (q : Ruling) → l ≡ Broken q → judge s (U.attribute n p w) ≡ refused (q .number) (q .place)
             judged-third q f =
-                let (b, i) = laid-refused (ltb 0 (rulingOf (uses s c· n p w) .number)) (rulingOf (uses s c· n p w)) (useRecords (useIn s c· n w)) (st .used + 11) o o₁ q (subst Is f laid) in
-                past-second ∙ stage-broken (rulingOf (uses s c· n p w)) (ok (afterAttribute s c· n p w)) (ltb-true 0 (rulingOf (uses s c· n p w) .number) b) ∙ ap (λ (j : Ruling). refused (j .number) (j .place)) (sym i)
+                let (b, i) = laid-refused (ltb 0 (rulingOf (to-18 s c· n p w) .number)) (rulingOf (to-18 s c· n p w)) (useRecords (useIn s c· n w)) (st .extent .used + headSize) o o₁ q (subst Is f laid) in
+                past-second ∙ stage-broken (rulingOf (to-18 s c· n p w)) (ok (afterAttribute s c· n p w)) (ltb-true 0 (rulingOf (to-18 s c· n p w) .number) b) ∙ ap (λ (j : Ruling). refused (j .number) (j .place)) (sym i)
 
             module _ (size : Size) (f : l ≡ Whole size) where
-              accepted : (ltb 0 (rulingOf (uses s c· n p w) .number) ≡ false) × (size ≡ sizeOf (useRecords (useIn s c· n w))) × (st .used + 11 + length (bytes (useRecords (useIn s c· n w))) ≤ length o → o₁ ≡ splice o (st .used + 11) (bytes (useRecords (useIn s c· n w))))
-              accepted = laid-accepted (ltb 0 (rulingOf (uses s c· n p w) .number)) (rulingOf (uses s c· n p w)) (useRecords (useIn s c· n w)) (st .used + 11) o o₁ size (subst Is f laid)
+              accepted : (ltb 0 (rulingOf (to-18 s c· n p w) .number) ≡ false) × (size ≡ sizeOf (useRecords (useIn s c· n w))) × (st .extent .used + headSize + length (bytes (useRecords (useIn s c· n w))) ≤ length o → o₁ ≡ splice o (st .extent .used + headSize) (bytes (useRecords (useIn s c· n w))))
+              accepted = laid-accepted (ltb 0 (rulingOf (to-18 s c· n p w) .number)) (rulingOf (to-18 s c· n p w)) (useRecords (useIn s c· n w)) (st .extent .used + headSize) o o₁ size (subst Is f laid)
 
               pub judged-all : judge s (U.attribute n p w) ≡ ok (afterAttribute s c· n p w)
-              judged-all = past-second ∙ stage-passed (rulingOf (uses s c· n p w)) (ok (afterAttribute s c· n p w)) (ltb-false 0 (rulingOf (uses s c· n p w) .number) (accepted .0))
+              judged-all = past-second ∙ stage-passed (rulingOf (to-18 s c· n p w)) (ok (afterAttribute s c· n p w)) (ltb-false 0 (rulingOf (to-18 s c· n p w) .number) (accepted .0))
 
               pub size-solid : size .records ≤ size .bytes
               size-solid = let i = ap (λ (j : Size). j .records) (accepted .1) in let j = ap (λ (j : Size). j .bytes) (accepted .1) in let q = plain-use (useIn s c· n w) .solid in omega arith
 
               pub passes : (u : ℕ) → useFor (entry (known (s .decls)) u) (tyOf (attributeUse (w .type) (entry (known (s .decls)) (e .named)) (orNoAttribute (entry (attributesIn s) (e .base)) .use-of))) ≡ attributeUse (w .type) (entry (known (s .decls)) (e .named)) (orNoAttribute (entry (attributesIn s) (e .base)) .use-of)
-                  → Passes t s st o o₁ x z y ns ps rs c· n p w a (e .slot) (e .base) (e .named) u size
+                  → Passes t s st o o₁ x z y hs rs c· n p w a e u size
               passes u eu = record {
                 keeps = k;
                 open-is = class-is .1;
                 given = unit-is;
                 new = offs .0;
                 at-slot = ei .slot first-off;
-                inherits = base-is;
-                names = named-is;
+                reaches = ei .reaches first-off;
                 uses = rw (named-is, base-is) at eu;
                 sized = accepted .1;
                 laid = accepted .2;
@@ -172,5 +180,5 @@ module _ (t : List ℕ) (s : State) (st : code.State) (o x z y ns ps : List ℕ)
               }
 
               -- the end's answer is the whole answer
-              pub judged-end : (j : code-judged.Judged) (o₂ y′ ns′ ps′ : List ℕ) → JudgedAs t (room (lent (length o)) (n .offset) (ok (afterAttribute s c· n p w))) st j o₂ x z y′ ns′ ps′ → JudgedAs t (verdict s (U.attribute n p w) o) st j o₂ x z y′ ns′ ps′
-              judged-end j o₂ y′ ns′ ps′ q = subst (λ (i : Judged). JudgedAs t (room (lent (length o)) (n .offset) i) st j o₂ x z y′ ns′ ps′) (sym judged-all) q
+              pub judged-end : (j : code-judged.Judged) (o₂ x′ z′ y′ hs′ : List ℕ) → JudgedAs t (room (lent (length o)) (n .offset) (ok (afterAttribute s c· n p w))) st j o₂ x′ z′ y′ hs′ → JudgedAs t (verdict s (U.attribute n p w) o) st j o₂ x′ z′ y′ hs′
+              judged-end j o₂ x′ z′ y′ hs′ q = subst (λ (i : Judged). JudgedAs t (room (lent (length o)) (n .offset) i) st j o₂ x′ z′ y′ hs′) (sym judged-all) q

@@ -1,64 +1,48 @@
-// Judging an attribute: 4 by count, 9 to 19, and its records.
-mod early;
-mod laying;
-mod uses;
-
-use domains::written::Laying;
-use domains::written::has_room;
-use early::judge_early;
-use enumerations::lists::Size;
-use laying::lay_use;
-use laying::use_at;
+// Judging an attribute: what its name and its type break; 19; its head, its row and its place in the open class.
+use attribute_names::Bonds;
+use attribute_names::judge_name;
+use attribute_records::lay_use;
+use attribute_records::use_at;
+use attribute_types::judge_types;
+use enumerations::Size;
 use members::NewAttribute;
 use state::Judged;
+use state::NO_BASE;
 use state::State;
 use state::refused;
-use types::Ruling;
 use units::AttributeUnit;
-use uses::judge_types;
+use written::Laying;
+use written::has_room;
 ghost use mathlib.Core.Path.{_≡_};
-ghost use mathlib.Core.Bool.{false, _||_};
+ghost use mathlib.Core.Bool.{_||_};
 ghost use mathlib.Core.List.{List};
-ghost use Prim.Native.Nat.{ℕ, _+_, _*_, _≤_, _<_};
+ghost use Prim.Native.Nat.{ℕ, _+_, _≤_, _<_};
 ghost use lib.ListN.{length};
 ghost use Rattle.rules.specs.Names as R;
 ghost use Rattle.rules.specs.Grammar as G;
 ghost use Rattle.rules.specs.Units as U;
 ghost use Rattle.rules.specs.Declarations as D;
-ghost use Rattle.rules.specs.Declarations.{Def, Attribute};
+ghost use Rattle.rules.specs.Declarations.{Def, Attribute, attributeAt};
 ghost use Rattle.rules.specs.Book.{numberOr, headRecord};
 ghost use Rattle.rules.specs.Judge.{ok, orNoDef, orNoAttribute, baseOfAttribute};
 ghost use Rattle.rules.specs.Check.{lent, room};
 ghost use Rattle.ground.specs.Parts.{splice};
-ghost use Rattle.names.specs.Index.{entry};
+ghost use Rattle.book.specs.Sizes.{headSize};
+ghost use Rattle.names.specs.Index.{entry, Rows};
+ghost use Rattle.members.specs.Members.{AttributeRows, Filled, slotOf, most, Hand};
 ghost use Rattle.members.specs.Held.{Held};
+ghost use Rattle.tables.specs.Tables.{TablesFor};
 ghost use Rattle.units.specs.declared.Unit.the-variants.{Attribute as V·Attribute};
-ghost use Rattle.state.specs.Keeping.{Keeps, JudgedAs, Comes, verdict};
-ghost use Rattle.attributes.specs.Facts.{Given, Passes, afterAttribute, flagsIn};
-
-// ---- rulings
-fn fine() -> Ruling
-    ensures { λ r. ⌜ r ≡ record { number = 0; place = 0 } ⌝ }
-{
-    Ruling {
-        number: 0,
-        place: 0,
-    }
-}
-
-fn broken(number: u8, place: usize) -> Ruling
-    ensures { λ r. ⌜ r ≡ record { number = number; place = place } ⌝ }
-{
-    Ruling {
-        number: number,
-        place: place,
-    }
-}
+ghost use Rattle.state.specs.Keeping.{Kept, Answered, Comes, Small, verdict};
+ghost use Rattle.state.specs.Parts.{indexIn, rowsIn, Ample};
+ghost use Rattle.attribute_names.specs.Facts.{Given, Within};
+ghost use Rattle.attributes.specs.Facts.{PassesIn, afterAttribute, flagsIn};
 
 // ---- the head
 fn names_mandatory(index: &[u16], p: usize) -> bool
-    requires { ⌜ p * 10 + 10 ≤ length (now index) ⌝ }
-    ensures { λ r. ⌜ ((t b : List ℕ) (ks : List Def) (ms : List Attribute) (count : ℕ) (y : List ℕ) (total : ℕ) → Held t b ks ms (now (index .entry)) count y total → p ≤ count → r ≡ orNoDef (entry ks p) .mandatory) ⌝ }
+    requires { ⌜ Rows (now index) p ⌝ }
+    ensures { λ r. ⌜ ((t b : List ℕ) (ks : List Def) (ms : List Attribute) (count : ℕ) (y : List ℕ) (total : ℕ)
+        → Held t b ks ms (now (index .entry)) count y total → p ≤ count → r ≡ orNoDef (entry ks p) .mandatory) ⌝ }
 {
     if p == 0 {
         return false;
@@ -66,20 +50,22 @@ fn names_mandatory(index: &[u16], p: usize) -> bool
     names::is_mandatory(names::flags_of(index, p))
 }
 
-fn inherits_mandatory(members: &[u16], q: usize) -> bool
-    requires { ⌜ q * 6 + 6 ≤ length (now members) ⌝ }
-    ensures { λ r. ⌜ ((t b : List ℕ) (ks : List Def) (ms : List Attribute) (x : List ℕ) (count total : ℕ) → Held t b ks ms x count (now (members .entry)) total → q ≤ total → r ≡ orNoAttribute (entry ms q) .mandatory) ⌝ }
+fn inherits_mandatory(rows: &[u16], q: usize) -> bool
+    requires { ⌜ AttributeRows (now rows) q ⌝ }
+    ensures { λ r. ⌜ ((t b : List ℕ) (ks : List Def) (ms : List Attribute) (x : List ℕ) (count total : ℕ)
+        → Held t b ks ms x count (now (rows .entry)) total → q ≤ total → r ≡ orNoAttribute (entry ms q) .mandatory) ⌝ }
 {
     if q == 0 {
         return false;
     }
-    names::is_mandatory(members::member_flags(members, q))
+    names::is_mandatory(members::member_flags(rows, q))
 }
 
 // MANDATORY holds if written, if the named domain has it, or if the base has it.
-fn is_mandatory(index: &[u16], members: &[u16], written: bool, base: usize, named: usize) -> bool
-    requires { ⌜ (base * 6 + 6 ≤ length (now members)) × (named * 10 + 10 ≤ length (now index)) ⌝ }
-    ensures { λ r. ⌜ ((t b : List ℕ) (ks : List Def) (ms : List Attribute) (count total : ℕ) → Held t b ks ms (now (index .entry)) count (now (members .entry)) total → base ≤ total → named ≤ count
+fn is_mandatory(index: &[u16], rows: &[u16], written: bool, base: usize, named: usize) -> bool
+    requires { ⌜ AttributeRows (now rows) base × Rows (now index) named ⌝ }
+    ensures { λ r. ⌜ ((t b : List ℕ) (ks : List Def) (ms : List Attribute) (count total : ℕ)
+        → Held t b ks ms (now (index .entry)) count (now (rows .entry)) total → base ≤ total → named ≤ count
         → r ≡ (written || (orNoDef (entry ks named) .mandatory || orNoAttribute (entry ms base) .mandatory))) ⌝ }
 {
     if written {
@@ -88,83 +74,95 @@ fn is_mandatory(index: &[u16], members: &[u16], written: bool, base: usize, name
     if names_mandatory(index, named) {
         return true;
     }
-    inherits_mandatory(members, base)
+    inherits_mandatory(rows, base)
 }
 
-// The record number of the base, as the book writes it.
-fn base_number(members: &[u16], q: usize) -> usize
-    requires { ⌜ q * 6 + 6 ≤ length (now members) ⌝ }
-    ensures { λ r. ⌜ ((t b : List ℕ) (ks : List Def) (ms : List Attribute) (x : List ℕ) (count total : ℕ) → Held t b ks ms x count (now (members .entry)) total → q ≤ total → r ≡ numberOr (baseOfAttribute (entry ms q))) ⌝ }
+// The record number of the attribute in a slot, as the book writes it: that of a base.
+fn base_number(hand: &[u32], slot: usize) -> usize
+    requires { ⌜ (slot ≤ most) × Hand (now hand) ⌝ }
+    ensures { λ r. ⌜ ((ms h : List Attribute) (k : ℕ) (n : List ℕ) → Filled ms (now (hand .entry)) k h
+        → slot ≡ slotOf n h
+        → r ≡ numberOr (baseOfAttribute (attributeAt n h))) ⌝ }
 {
-    if q == 0 {
-        return 4294967295;
+    if slot == 0 {
+        return NO_BASE;
     }
-    members::member_number(members, q)
+    let i = slot - 1;
+    ground::wide4(hand[i])
 }
 
-// The head, behind the first `used` bytes; its flags are handed on.
+// The head, where the book ends; its flags are handed on.
 fn put_head(
     book: &mut [u8],
-    used: usize,
-    index: &[u16],
-    members: &[u16],
+    work: &[u16],
+    hand: &[u32],
+    st: State,
     a: AttributeUnit,
-    base: usize,
-    named: usize,
+    b: Bonds,
 ) -> u8
-    requires { ⌜ (used + 11 ≤ length (now book)) × (base * 6 + 6 ≤ length (now members)) × (named * 10 + 10 ≤ length (now index)) ⌝ }
-    ensures { λ r. ⌜ (r < 16) × ((t b : List ℕ) (ks : List Def) (ms : List Attribute) (count total : ℕ) (n : R.Name) (p : List (List ℕ)) (w : G.Written) (rs : List ℕ) → Held t b ks ms (now (index .entry)) count (now (members .entry)) total
-        → base ≤ total → named ≤ count → Given t n p w rs a → (r ≡ flagsIn p w (entry ks named) (entry ms base))
-        × (now (book .exit) ≡ splice (now (book .entry)) used (headRecord 6 n (flagsIn p w (entry ks named) (entry ms base)) (numberOr (baseOfAttribute (entry ms base)))))) ⌝ }
+    requires { ⌜ (st .extent .used + headSize ≤ length (now book)) × Ample st (length (now work)) × Within st b
+        × (b .slot ≤ most) × Hand (now hand) ⌝ }
+    ensures { λ r. ⌜ (r < 16) × ((t o : List ℕ) (ks : List Def) (ms h : List Attribute) (k : ℕ) (n : R.Name)
+        (p : List (List ℕ)) (w : G.Written) (rs : List ℕ)
+        → Held t o ks ms (indexIn (st .listing .layout) (now (work .entry))) (st .listing .count)
+        (rowsIn (st .listing .layout) (now (work .entry)))
+        (st .listing .total) → Given t n p w rs a → Filled ms (now (hand .entry)) k h → b .slot ≡ slotOf (n .bytes) h
+        → (r ≡ flagsIn p w (entry ks (b .named)) (entry ms (b .base)))
+        × (now (book .exit) ≡ splice (now (book .entry)) (st .extent .used)
+        (headRecord 6 n (flagsIn p w (entry ks (b .named)) (entry ms (b .base)))
+        (numberOr (baseOfAttribute (attributeAt (n .bytes) h)))))) ⌝ }
 {
     let name = a.name;
     let p = a.properties;
     let w = a.written;
-    let m = is_mandatory(index, members, w.mandatory, base, named);
+    let i = st.listing.layout.index;
+    let e = st.listing.layout.rows;
+    let c = st.listing.layout.chains;
+    let m = is_mandatory(&work[i..e], &work[e..c], w.mandatory, b.base, b.named);
     let f = state::flags(false, p.is_final, p.extended, m);
-    let head = book::head_record(6, name.offset, name.len, f, base_number(members, base));
-    ground::put(book, used, &head);
+    let head = book::head_record(6, name.offset, name.len, f, base_number(hand, b.slot));
+    ground::put(book, st.extent.used, &head);
     f
 }
 
 // ---- 19; the attribute is written, and becomes one of the open class
 fn end_attribute(
     book: &mut [u8],
-    index: &[u16],
-    members: &mut [u16],
-    numbers: &mut [u32],
-    positions: &mut [u16],
+    work: &mut [u16],
+    hand: &mut [u32],
     st: State,
     a: AttributeUnit,
-    slot: usize,
-    base: usize,
-    named: usize,
+    b: Bonds,
     use_of: usize,
     size: Size,
 ) -> Judged
-    requires { ⌜ (st .used ≤ length (now book)) × (length (now book) ≤ 65535) × (st .records ≤ st .used) × (st .definitions ≤ st .records) × (6 * st .count + 11 * st .total ≤ st .used) ⌝ }
-    requires { ⌜ (st .count * 10 + 10 ≤ length (now index)) × ((st .total + 2) * 6 ≤ length (now members)) × (base ≤ st .total) × (named ≤ st .count) × (use_of ≤ st .count) ⌝ }
-    requires { ⌜ (slot ≤ st .«in_hand») × (st .«in_hand» ≤ 256) × (slot ≡ 0 → st .«in_hand» < 256) × (length (now numbers) ≡ 256) × (length (now positions) ≡ 256) ⌝ }
+    requires { ⌜ (st .extent .used ≤ length (now book)) × (length (now book) ≤ 65535) × Small st
+        × Ample st (length (now work)) × Hand (now hand) ⌝ }
+    requires { ⌜ Within st b × (b .ruling .number ≡ 0) × (st .context .«in_hand» ≤ most)
+        × («use_of» ≤ st .listing .count) ⌝ }
     requires { ⌜ (a .name .offset + a .name .len ≤ 65535) × (size .records ≤ size .bytes) ⌝ }
-    ensures { λ r. ⌜ ((t : List ℕ) (s : D.State) (b z rs : List ℕ) (c : Def) (n : R.Name) (p : List (List ℕ)) (w : G.Written) → length b ≡ length (now (book .entry))
-        → Passes t s st b (now (book .entry)) (now (index .entry)) z (now (members .entry)) (now (numbers .entry)) (now (positions .entry)) rs c n p w a slot base named «use_of» size
-        → JudgedAs t (room (lent (length b)) (n .offset) (ok (afterAttribute s c n p w))) st r (now (book .exit)) (now (index .entry)) z (now (members .exit)) (now (numbers .exit)) (now (positions .exit))) ⌝ }
+    ensures { λ r. ⌜ ((t : List ℕ) (s : D.State) (o rs : List ℕ) (c : Def) (n : R.Name) (p : List (List ℕ))
+        (w : G.Written) → length o ≡ length (now (book .entry))
+        → PassesIn t s st o (now (book .entry)) (now (work .entry)) (now (hand .entry)) rs c n p w a b «use_of» size
+        → Answered t (room (lent (length o)) (n .offset) (ok (afterAttribute s c n p w))) st r (now (book .exit))
+        (now (work .exit)) (now (hand .exit))) ⌝ }
 {
     let name = a.name;
-    let used = st.used;
+    let used = st.extent.used;
     if has_room(book.len(), used, size.bytes) {
-        let f = put_head(book, used, index, members, a, base, named);
-        let q = st.total + 1;
+        let f = put_head(book, work, hand, st, a, b);
+        let number = st.extent.records;
         let new = NewAttribute {
-            name: name,
-            number: st.records,
+            name,
+            number,
             place: used,
             flags: ground::wide(f),
-            use_of: use_of,
+            use_of,
         };
-        members::enter_member(members, q, new);
-        let n = members::hold(numbers, positions, st.in_hand, slot, st.records, q);
-        return Judged::Fine(st.with_member(11 + size.bytes, 1 + size.records, n));
+        state::work::enter_member(work, st, new);
+        let q = st.listing.total + 1;
+        let n = members::hold(hand, st.context.in_hand, b.slot, number, q);
+        return Judged::Fine(st.with_member(book::HEAD_SIZE + size.bytes, 1 + size.records, n));
     }
     refused(19, name.offset)
 }
@@ -173,97 +171,40 @@ fn end_attribute(
 pub fn judge_attribute(
     text: &[u8],
     book: &mut [u8],
-    index: &[u16],
-    chains: &[u16],
-    members: &mut [u16],
-    numbers: &mut [u32],
-    positions: &mut [u16],
-    records: &[u8],
-    own_table: &mut [u32],
-    base_table: &mut [u32],
+    work: &mut [u16],
+    hand: &mut [u32],
+    scratch: &[u8],
+    tables: &mut [u32],
     st: State,
     a: AttributeUnit,
 ) -> Judged
-    requires { ⌜ (length (now text) ≤ 65535) × (length (now book) ≤ 65535) ⌝ }
-    requires { ⌜ ((st .count + 3) * 10 ≤ length (now index)) × (2051 + st .count ≤ length (now chains)) × ((st .total + 2) * 6 ≤ length (now members)) ⌝ }
-    requires { ⌜ (length (now numbers) ≡ 256) × (length (now positions) ≡ 256) ⌝ }
-    requires { ⌜ (3 * length (now text) ≤ length (now records)) × (length (now records) ≤ 262144) ⌝ }
-    requires { ⌜ (length (now records) + 6 ≤ 2 * length (now «own_table»)) × (length (now book) + 6 ≤ 2 * length (now «base_table»)) ⌝ }
-    requires { ⌜ ((s : D.State) × (n : R.Name) × (p : List (List ℕ)) × (w : G.Written) × Keeps (now text) s st (now book) (now index) (now chains) (now members) (now numbers) (now positions) × Comes (now text) s (U.attribute n p w) (V·Attribute a) (now records)) ⌝ }
-    ensures { λ r. ⌜ ((s : D.State) (n : R.Name) (p : List (List ℕ)) (w : G.Written) → Keeps (now (text .entry)) s st (now (book .entry)) (now (index .entry)) (now (chains .entry)) (now (members .entry)) (now (numbers .entry)) (now (positions .entry)) → Comes (now (text .entry)) s (U.attribute n p w) (V·Attribute a) (now (records .entry))
-        → JudgedAs (now (text .entry)) (verdict s (U.attribute n p w) (now (book .entry))) st r (now (book .exit)) (now (index .entry)) (now (chains .entry)) (now (members .exit)) (now (numbers .exit)) (now (positions .exit))) ⌝ }
+    requires { ⌜ (length (now text) ≤ 65535) × (length (now book) ≤ 65535) × (length (now scratch) ≤ 262144)
+        × Ample st (length (now work)) × Hand (now hand) ⌝ }
+    requires { ⌜ TablesFor (length (now scratch)) (length (now book)) (length (now tables)) ⌝ }
+    requires { ⌜ ((s : D.State) × (n : R.Name) × (p : List (List ℕ)) × (w : G.Written)
+        × Kept (now text) s st (now book) (now work) (now hand)
+        × Comes (now text) s (U.attribute n p w) (V·Attribute a) (now scratch)) ⌝ }
+    ensures { λ r. ⌜ ((s : D.State) (n : R.Name) (p : List (List ℕ)) (w : G.Written)
+        → Kept (now (text .entry)) s st (now (book .entry)) (now (work .entry)) (now (hand .entry))
+        → Comes (now (text .entry)) s (U.attribute n p w) (V·Attribute a) (now (scratch .entry))
+        → Answered (now (text .entry)) (verdict s (U.attribute n p w) (now (book .entry))) st r (now (book .exit))
+        (now (work .exit)) (now (hand .exit))) ⌝ }
 {
-    let e = judge_early(
-        text,
-        index,
-        chains,
-        members,
-        numbers,
-        positions,
-        records,
-        own_table,
-        st,
-        a,
-    );
-    let first = e.ruling;
-    if 0 < first.number {
-        return refused(first.number, first.place);
+    let b = judge_name(text, work, hand, scratch, tables, st, a);
+    if 0 < b.ruling.number {
+        return refused(b.ruling.number, b.ruling.place);
     }
-    let used = st.used;
-    let name = a.name;
-    let p = a.properties;
-    let w = a.written;
-    let m = w.meant;
-    let k = judge_types(
-        &book[..used],
-        index,
-        members,
-        st.count,
-        m,
-        e.base,
-        e.named,
-        p.twice,
-        name.offset,
-    );
-    let second = k.ruling;
-    if 0 < second.number {
-        return refused(second.number, second.place);
+    let k = judge_types(book, work, st, a, b);
+    if 0 < k.ruling.number {
+        return refused(k.ruling.number, k.ruling.place);
     }
-    let own = k.own;
-    let over = k.base;
-    let l = lay_use(
-        text,
-        book,
-        used,
-        index,
-        st.count,
-        records,
-        w,
-        e.base,
-        e.named,
-        k.used,
-        own,
-        over,
-        own_table,
-        base_table,
-    );
+    let u = k.uses;
+    let l = lay_use(text, book, work, scratch, tables, st, a, u);
     match l {
         Laying::Broken(r) => refused(r.number, r.place),
         Laying::Whole(size) => {
-            end_attribute(
-                book,
-                index,
-                members,
-                numbers,
-                positions,
-                st,
-                a,
-                e.slot,
-                e.base,
-                e.named,
-                use_at(m, e.named, k.used),
-                size,
-            )
+            let d = use_at(a, b.named, u.kept);
+            end_attribute(book, work, hand, st, a, b, d, size)
         }
     }
 }

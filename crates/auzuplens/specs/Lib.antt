@@ -1,3 +1,1 @@
-pub mod Promise
-pub mod Running
 pub mod Packing

@@ -1,4 +1,5 @@
+pub mod SizeLaws
 pub mod WalkLaws
 pub mod NameLaws
 pub mod FormLaws
-pub mod IndexLaws
+pub mod StandLaws

@@ -16,6 +16,7 @@ use Rattle.rules.proofs.Tests.{not-is}
 use Rattle.ground.specs.Parts.{part}
 use Rattle.ground.proofs.PartLaws.{getD-part, read4-part}
 use Rattle.ground.proofs.TableLaws.{on, implies}
+use Rattle.book.specs.Sizes.{nameSize}
 use Rattle.book.specs.Places.{recordsAt, sizeAt, startIn, recordStart}
 use Rattle.book.specs.Names.{partOf, Written, nameHere, nameFound, Shows}
 use Rattle.book.specs.declared.Part as code
@@ -28,9 +29,9 @@ no-name k h l = not-is (on (λ x. not (isNamed x)) 15 241 refl k h (omega arith)
 
 -- ---- at a place
 -- a record that has a name holds an offset and a length
-pub named-size : (k : ℕ) → k < 256 → isNamed k ≡ true → 6 ≤ sizeOf k
+pub named-size : (k : ℕ) → k < 256 → isNamed k ≡ true → nameSize ≤ sizeOf k
 unfolding isNamed sizeOf
-named-size k h e = leb-true 6 (sizeOf k) (implies (on (λ x. not (isNamed x) || leb 6 (sizeOf x)) 0 256 refl k (omega arith) (omega arith)) e)
+named-size k h e = leb-true nameSize (sizeOf k) (implies (on (λ x. not (isNamed x) || leb nameSize (sizeOf x)) 0 256 refl k (omega arith) (omega arith)) e)
 
 abbrev none : code.Part
 none = partOf noPart
@@ -51,13 +52,13 @@ module _ (t : List ℕ) {b : List ℕ} {i n : ℕ} (w : Whole b i n) where
   name-less z e = rw (here, kind z, e)
 
   -- a record that has a name is long enough for it
-  pub six : getD b i 0 < 256 → isNamed (getD b i 0) ≡ true → 6 ≤ n
-  six k e = rw (w .size) (named-size (getD b i 0) k e)
+  pub name-fits : getD b i 0 < 256 → isNamed (getD b i 0) ≡ true → nameSize ≤ n
+  name-fits k e = rw (w .size) (named-size (getD b i 0) k e)
 
   module _ (k : getD b i 0 < 256) (e : isNamed (getD b i 0) ≡ true) (p : code.Part) (f : Written b i p) where
     named : (q : Bool) → leb (p .start + p .len) (length t) ≡ q → nameHere t b i ≡ cond q (record { start = p .start; length = p .len }) noPart
     named q h =
-        let s : 6 ≤ n = six k e in
+        let s : nameSize ≤ n = name-fits k e in
         here ∙ rw (kind (omega arith), e, read4-part b i n 1 (omega arith), getD-part b i n 5 (omega arith), ← f .offset, ← f .length, h)
 
     -- the name lies in the text, or passes its end
@@ -73,7 +74,8 @@ unfolding nameHere
 show-from t b zero i = ⊎-elim (λ e. rw (none-at b i e)) (λ z. rw (start-here (whole-at b i _ refl z))) (eq-zero-or-pos (sizeAt b i))
 show-from t b (suc k) i = ⊎-elim (λ e. rw (none-at b i e)) (λ z. next (whole-at b i _ refl z) (show-from t b k)) (eq-zero-or-pos (sizeAt b i))
   where
-    next : {n : ℕ} → Whole b i n → ((j : ℕ) → nameAt t (recordsAt b j) k ≡ nameFound t b (startIn j (recordsAt b j) k)) → nameAt t (recordsAt b i) (suc k) ≡ nameFound t b (startIn i (recordsAt b i) (suc k))
+    next : {n : ℕ} → Whole b i n → ((j : ℕ) → nameAt t (recordsAt b j) k ≡ nameFound t b (startIn j (recordsAt b j) k)) →
+        nameAt t (recordsAt b i) (suc k) ≡ nameFound t b (startIn i (recordsAt b i) (suc k))
     next {n} w again = ap (λ (l : List Record). nameAt t l (suc k)) (w .first) ∙ again (i + n) ∙ ap (nameFound t b) (sym (start-suc k w))
 
 -- the record is found, and then shown
@@ -87,7 +89,10 @@ shown-by t b k f g ef eg = ap partOf (sym (show-found t b k ∙ ap (nameFound t 
 in-text : (t : List ℕ) (r : Record) → nameIn t r .start + nameIn t r .length ≤ length t
 in-text t r = pick (isNamed (getD r 0 0)) (leb (read4 r 1 + getD r 5 0) (length t)) refl
   where
-    pick : (p q : Bool) → leb (read4 r 1 + getD r 5 0) (length t) ≡ q → cond p (cond q (record { start = read4 r 1; length = getD r 5 0 }) noPart) noPart .start + cond p (cond q (record { start = read4 r 1; length = getD r 5 0 }) noPart) noPart .length ≤ length t
+    shown : Bool → Bool → Part
+    shown p q = cond p (cond q (record { start = read4 r 1; length = getD r 5 0 }) noPart) noPart
+
+    pick : (p q : Bool) → leb (read4 r 1 + getD r 5 0) (length t) ≡ q → shown p q .start + shown p q .length ≤ length t
     pick true true e = leb-true _ _ e
     pick true false e = omega arith
     pick false q e = omega arith

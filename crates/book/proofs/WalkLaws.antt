@@ -48,7 +48,8 @@ unfolding recordsFrom
 no-front [] h = refl
 no-front (x ∷ l) h = pick (eqb (sizeOf x) 0) refl
   where
-    pick : (q : Bool) → eqb (sizeOf x) 0 ≡ q → cond q [] (cond (leb (sizeOf x) (suc (length l))) (take (sizeOf x) (x ∷ l) ∷ recordsFrom (sizeOf x - 1) l) []) ≡ []
+    pick : (q : Bool) → eqb (sizeOf x) 0 ≡ q →
+        cond q [] (cond (leb (sizeOf x) (suc (length l))) (take (sizeOf x) (x ∷ l) ∷ recordsFrom (sizeOf x - 1) l) []) ≡ []
     pick true e = refl
     pick false e =
         let some : ¬ (sizeOf x ≡ 0) = eqb-false (sizeOf x) 0 e in
@@ -89,7 +90,8 @@ pub record Whole (b : List ℕ) (i n : ℕ) : Type 0 where
 look : (l : List ℕ) → (recordsFrom 0 l ≡ []) ⊎ ((0 < sizeOf (getD l 0 0)) × (sizeOf (getD l 0 0) ≤ length l))
 look l = pick (ltb 0 (sizeOf (getD l 0 0))) (leb (sizeOf (getD l 0 0)) (length l)) refl refl
   where
-    pick : (p q : Bool) → ltb 0 (sizeOf (getD l 0 0)) ≡ p → leb (sizeOf (getD l 0 0)) (length l) ≡ q → (recordsFrom 0 l ≡ []) ⊎ ((0 < sizeOf (getD l 0 0)) × (sizeOf (getD l 0 0) ≤ length l))
+    pick : (p q : Bool) → ltb 0 (sizeOf (getD l 0 0)) ≡ p → leb (sizeOf (getD l 0 0)) (length l) ≡ q →
+        (recordsFrom 0 l ≡ []) ⊎ ((0 < sizeOf (getD l 0 0)) × (sizeOf (getD l 0 0) ≤ length l))
     pick true true ep eq = inr (ltb-true _ _ ep, leb-true _ _ eq)
     pick true false ep eq = inl (no-front l (λ _ _. leb-false _ _ eq))
     pick false q ep eq = inl (no-front l (λ _ z. absurd (omega (arith, ltb-false 0 (sizeOf (getD l 0 0)) ep))))
@@ -108,7 +110,8 @@ whole-at b i n e h = ⊎-elim (λ p. absurd (omega (arith, e ∙ ap firstSize p)
   where
     some : (0 < sizeOf (getD (drop i b) 0 0)) × (sizeOf (getD (drop i b) 0 0) ≤ length (drop i b)) → Whole b i n
     some (z, s) =
-        let m : n ≡ sizeOf (getD (drop i b) 0 0) = e ∙ ap firstSize (front (drop i b) _ refl z s) ∙ length-take-le (sizeOf (getD (drop i b) 0 0)) (drop i b) s in
+        let f = ap firstSize (front (drop i b) _ refl z s) in
+        let m : n ≡ sizeOf (getD (drop i b) 0 0) = e ∙ f ∙ length-take-le (sizeOf (getD (drop i b) 0 0)) (drop i b) s in
         let l : n ≤ length (drop i b) = rw m s in
         record {
           size = m ∙ rw (getD-drop, add-zero);

@@ -1,3 +1,4 @@
+pub mod Sizes
 pub mod Places
 pub mod Names
 pub mod Forms

@@ -1,9 +1,9 @@
--- Where the records of a book begin. A book here is any list of bytes, and its records are those that the rules read from it.
+-- Where the records of a book begin and stand. A book here is any list of bytes, and its records are those that the rules read from it.
 use mathlib.Core.Path.{_≡_}
 use mathlib.Core.List.{List, [], _∷_, _++_}
-use Prim.Native.Nat.{ℕ, zero, suc, _+_}
-use lib.ListN.{length, take, drop}
-use Rattle.rules.specs.Book.{Record}
+use Prim.Native.Nat.{ℕ, zero, suc, _+_, _≤_}
+use lib.ListN.{length, drop}
+use Rattle.rules.specs.Book.{Record, bytes}
 use Rattle.rules.specs.Show.{recordsFrom}
 use Rattle.book.specs.declared.Found.{Found}
 use Rattle.book.specs.declared.Found.the-variants.{At, Nothing}
@@ -30,12 +30,8 @@ startIn i (r ∷ l) (suc k) = startIn (i + length r) l k
 unfoldable pub recordStart : List ℕ → ℕ → Found
 recordStart b k = startIn 0 (recordsFrom 0 b) k
 
--- the places of all of them
-abbrev pub starts : ℕ → List Record → List ℕ
-starts i [] = []
-starts i (r ∷ l) = i ∷ starts (i + length r) l
-
--- the places of these records, the first of which begins at i, stand behind the first n of an index; the rest of it is not said
-pub record Indexed (l : List Record) (i : ℕ) (old : List ℕ) (n : ℕ) (new : List ℕ) (m : ℕ) : Type 0 where
-  pub count : m ≡ n + length l
-  pub places : take m new ≡ take n old ++ starts i l
+-- the records stand in the book from a place on
+pub record Stands (b : List ℕ) (place : ℕ) (rs : List Record) : Type 0 where
+  pub within : place ≤ length b
+  pub behind : List ℕ
+  pub bytes-are : drop place b ≡ bytes rs ++ behind

@@ -1,16 +1,75 @@
-// The book: sizes of records, where a record begins, the name that it shows, the bytes of new records, an index of places.
+// The book: sizes of records, where a record begins, the name that it shows, the bytes of new records.
 ghost use mathlib.Core.Path.{_≡_};
-ghost use mathlib.Core.List.{List};
-ghost use Prim.Native.Nat.{ℕ, _+_, _≤_, _<_};
-ghost use lib.ListN.{length, take};
-ghost use Rattle.rules.specs.Show.{sizeOf, isNamed, recordsFrom, showName};
-ghost use Rattle.book.specs.Places.{recordsAt, sizeAt, recordStart, starts, Indexed};
+ghost use Prim.Native.Nat.{_+_, _≤_};
+ghost use lib.ListN.{length};
+ghost use Rattle.rules.specs.Show.{sizeOf, isNamed, showName};
+ghost use Rattle.book.specs.Sizes.{nameSize};
+ghost use Rattle.book.specs.Places.{sizeAt, recordStart};
 ghost use Rattle.book.specs.Forms.{nameForm, headForm, rangeForm, lengthForm};
 ghost use Rattle.book.specs.Names.{partOf, Written, nameHere, Shows};
 
 // ---- what the kind of a record fixes
-// The sizes of records of the kinds 0 to 17, the byte of kind with them.
-const SIZES: [usize; 18] = [0, 6, 6, 1, 11, 11, 11, 11, 5, 5, 18, 1, 5, 2, 6, 1, 1, 5];
+// Where the parts of a name stand in a record that has one.
+pub const OFFSET: usize = 1;
+
+pub const LENGTH: usize = 5;
+
+// The size of what a record with a name begins with: kind, offset, length.
+pub const NAME_SIZE: usize = LENGTH + 1;
+
+// The sizes of records, the byte of kind with them.
+pub const MODEL_SIZE: usize = NAME_SIZE;
+
+pub const TOPIC_SIZE: usize = NAME_SIZE;
+
+pub const TOPIC_END_SIZE: usize = 1;
+
+// A class, structure, attribute or domain.
+pub const HEAD_SIZE: usize = 11;
+
+// TEXT, MTEXT, a structure or domain that is named.
+pub const LENGTH_SIZE: usize = 5;
+
+pub const RANGE_SIZE: usize = 18;
+
+pub const NUMERIC_SIZE: usize = 1;
+
+// An enumeration opens, one of its elements, it closes.
+pub const LIST_SIZE: usize = 2;
+
+pub const ELEMENT_SIZE: usize = NAME_SIZE;
+
+pub const LIST_END_SIZE: usize = 1;
+
+// The end of a class or structure.
+pub const CLASS_END_SIZE: usize = 1;
+
+// By kind, 0 to 17; zero for kind 0, which ends the book.
+const SIZES: [usize; 18] = [
+    0,
+    // 1 model, 2 topic, 3 end of topic
+    MODEL_SIZE,
+    TOPIC_SIZE,
+    TOPIC_END_SIZE,
+    // 4 class, 5 structure, 6 attribute, 7 domain
+    HEAD_SIZE,
+    HEAD_SIZE,
+    HEAD_SIZE,
+    HEAD_SIZE,
+    // 8 TEXT, 9 MTEXT, 10 range, 11 NUMERIC, 12 structure named
+    LENGTH_SIZE,
+    LENGTH_SIZE,
+    RANGE_SIZE,
+    NUMERIC_SIZE,
+    LENGTH_SIZE,
+    // 13 opens an enumeration, 14 element, 15 closes
+    LIST_SIZE,
+    ELEMENT_SIZE,
+    LIST_END_SIZE,
+    // 16 end of class or structure, 17 domain named
+    CLASS_END_SIZE,
+    LENGTH_SIZE,
+];
 
 // The kinds 0 to 14 that have names.
 const NAMED: [bool; 15] = [
@@ -30,11 +89,6 @@ const NAMED: [bool; 15] = [
     false,
     true,
 ];
-
-// Where the parts of a name stand in a record that has one.
-pub const OFFSET: usize = 1;
-
-pub const LENGTH: usize = 5;
 
 // Zero for what is no kind.
 pub fn record_size(kind: u8) -> usize
@@ -96,7 +150,7 @@ pub struct Part {
 
 // The name that is written in the record at a place.
 pub fn written_name(book: &[u8], at: usize) -> Part
-    requires { ⌜ at + 6 ≤ length (now book) ⌝ }
+    requires { ⌜ at + nameSize ≤ length (now book) ⌝ }
     ensures { λ r. ⌜ Written (now (book .entry)) at r ⌝ }
 {
     let start = ground::wide4(ground::get4(book, at + OFFSET));
@@ -104,7 +158,7 @@ pub fn written_name(book: &[u8], at: usize) -> Part
     Part { start, len }
 }
 
-// The part of the text that is the name of the record at a place; the empty part at the text's start where there is none.
+// The part of the text that is the name of the record at a place; where there is none, the empty part at its start.
 pub fn name_at(text: &[u8], book: &[u8], at: usize) -> Part
     ensures { λ r. ⌜ r ≡ partOf (nameHere (now (text .entry)) (now (book .entry)) at) ⌝ }
 {
@@ -130,7 +184,8 @@ pub fn name_part(text: &[u8], book: &[u8], k: usize) -> Part
     }
 }
 
-// The part of the text that is the name of the record with this number; the empty part at the text's start where there is none.
+// The part of the text that is the name of the record with this number; where there is none, the empty part at its
+// start.
 pub fn show_name<'a>(text: &'a [u8], book: &[u8], k: usize) -> &'a [u8]
     ensures { λ r. ⌜ Shows (text .entry) (now (book .entry)) k r ⌝ }
 {
@@ -141,14 +196,14 @@ pub fn show_name<'a>(text: &'a [u8], book: &[u8], k: usize) -> &'a [u8]
 }
 
 // ---- the bytes of new records
-pub fn name_record(kind: u8, offset: usize, len: usize) -> [u8; 6]
+pub fn name_record(kind: u8, offset: usize, len: usize) -> [u8; NAME_SIZE]
     ensures { λ r. ⌜ r ≡ nameForm kind offset len ⌝ }
 {
     let o = ground::low4(offset);
     [kind, o[0], o[1], o[2], o[3], (len % 256) as u8]
 }
 
-pub fn head_record(kind: u8, offset: usize, len: usize, flags: u8, base: usize) -> [u8; 11]
+pub fn head_record(kind: u8, offset: usize, len: usize, flags: u8, base: usize) -> [u8; HEAD_SIZE]
     ensures { λ r. ⌜ r ≡ headForm kind offset len flags base ⌝ }
 {
     let o = ground::low4(offset);
@@ -170,7 +225,7 @@ pub fn head_record(kind: u8, offset: usize, len: usize, flags: u8, base: usize) 
 
 const RANGE: u8 = 10;
 
-pub fn range_record(decimals: u8, low: i64, high: i64) -> [u8; 18]
+pub fn range_record(decimals: u8, low: i64, high: i64) -> [u8; RANGE_SIZE]
     ensures { λ r. ⌜ r ≡ rangeForm decimals low high ⌝ }
 {
     let l = ground::low8(low);
@@ -197,41 +252,9 @@ pub fn range_record(decimals: u8, low: i64, high: i64) -> [u8; 18]
     ]
 }
 
-pub fn length_record(kind: u8, n: usize) -> [u8; 5]
+pub fn length_record(kind: u8, n: usize) -> [u8; LENGTH_SIZE]
     ensures { λ r. ⌜ r ≡ lengthForm kind n ⌝ }
 {
     let b = ground::low4(n);
     [kind, b[0], b[1], b[2], b[3]]
-}
-
-// ---- an index of places
-// The places of the records from a place on are added behind the first `count` places.
-pub fn index_more(book: &[u8], from: usize, index: &mut [u32], count: usize) -> usize
-    requires { ⌜ (from ≤ length (now book)) × (length (now book) < 4294967296) ⌝ }
-    requires { ⌜ count + length (recordsAt (now book) from) ≤ length (now index) ⌝ }
-    ensures { λ r. ⌜ Indexed (recordsAt (now (book .entry)) from) from (now (index .entry)) count (now (index .exit)) r ⌝ }
-{
-    let mut at = from;
-    let mut n = count;
-    loop {
-        let size = size_at(book, at);
-        if size == 0 {
-            return n;
-        }
-        index[n] = at as u32;
-        n += 1;
-        at += size;
-    }
-}
-
-// Where a record begins, by an index of the book's first `count` records.
-pub fn indexed_start(index: &[u32], count: usize, k: usize) -> Found
-    requires { ⌜ count ≤ length (now index) ⌝ }
-    ensures { λ r. ⌜ ((b : List ℕ) → take count (now (index .entry)) ≡ starts 0 (recordsFrom 0 b) → r ≡ recordStart b k) ⌝ }
-{
-    if k < count {
-        Found::At(ground::wide4(index[k]))
-    } else {
-        Found::Nothing
-    }
 }

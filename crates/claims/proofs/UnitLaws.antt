@@ -4,7 +4,7 @@ use mathlib.Core.Path.{_≡_, refl}
 use mathlib.Core.Bool.{Bool, true, false, _&&_}
 use mathlib.Core.Option.{Option, none, some}
 use mathlib.Core.List.{List, [], _∷_}
-use Prim.Native.Nat.{ℕ, zero, suc, _≤_}
+use Prim.Native.Nat.{ℕ, zero, suc, _-_, _≤_}
 use Prim.Native.Char.{Char}
 use native.Mathlib.Omega.{arith}
 use lib.ListN.{length}
@@ -17,7 +17,7 @@ use Rattle.rules.specs.Numbers.{digits}
 use Rattle.rules.specs.Enumerations.{Enum, end, elem}
 use Rattle.rules.specs.Readers.{Result, done, refused, Reader, andThen, _>>=_, _>>_, ret, refuse, expect, aName, ifNext, optional}
 use Rattle.rules.specs.Grammar as G
-use Rattle.rules.specs.Grammar.{enough, propertiesFrom, properties, Reference, reference, extends, closeFinal, Element, openingBracket, enumeration, elements, element, WrittenType, isLength, textLength, textType, rangeType, typeOf, typeOrReference, Written, placeOfNext, written}
+use Rattle.rules.specs.Grammar.{enough, propertiesFrom, properties, Reference, reference, extends, closeFinal, Element, deepest, openingBracket, enumeration, elements, element, WrittenType, isLength, textLength, textType, rangeType, typeOf, typeOrReference, Written, placeOfNext, written}
 use Rattle.rules.specs.Units as U
 use Rattle.rules.specs.Units.{Around, in-model, in-topic, isModel, ofDomains, isHead, domains, no-run, a-member, isGiven, classSort, Where, start, afterHeader, over, body, members, Step, step, headerUnit, modelUnit, topicUnit, classUnit, domainUnit, attributeUnit, endUnit, wordStep, bodyEnd, bodyUnit, memberUnit, lastStep, unitAt}
 use Rattle.rules.specs.Judge.{firstPlace}
@@ -171,7 +171,7 @@ module _ (t : List ℕ) where
   close-final = skip (isWord (ascii "FINAL")) (skip (isMark ")") (gives _ tt))
 
   the-bracket : {i : ℕ} (d : ℕ) → Reads i (SymbolIn i) (openingBracket d)
-  the-bracket d = bind (passes (isMark "(")) (λ y h. if-next (λ _. ltb d 8) (gives _ h) (refuses _ (h .1)))
+  the-bracket d = bind (passes (isMark "(")) (λ y h. if-next (λ _. ltb 0 d) (gives _ h) (refuses _ (h .1)))
 
   abbrev ElementIn : ℕ → Element → Type 0
   ElementIn i e = NameIn i (e .name) × EnumIn i (e .inner)
@@ -181,7 +181,7 @@ module _ (t : List ℕ) where
 
     the-enumeration : {i : ℕ} (f d : ℕ) → Reads i (EnumIn i) (enumeration f d)
     the-enumeration zero d = refuses _ (omega arith)
-    the-enumeration (suc f) d = bind (the-bracket d) (λ _ _. if-next (isWord (ascii "FINAL")) close-final (the-elements f d))
+    the-enumeration (suc f) d = bind (the-bracket d) (λ _ _. if-next (isWord (ascii "FINAL")) close-final (the-elements f (d - 1)))
 
     the-elements : {i : ℕ} (f d : ℕ) → Reads i (EnumIn i) (elements f d)
     the-elements zero d = refuses _ (omega arith)
@@ -192,7 +192,7 @@ module _ (t : List ℕ) where
     the-element : {i : ℕ} (f d : ℕ) → Reads i (ElementIn i) (element f d)
     the-element zero d = refuses _ (omega arith)
     the-element (suc f) d =
-        bind a-name (λ n h. bind (if-next {P = EnumIn _} (isMark "(") (the-enumeration f (suc d)) (gives _ tt)) (λ i k. gives _ (h, k)))
+        bind a-name (λ n h. bind (if-next {P = EnumIn _} (isMark "(") (the-enumeration f d) (gives _ tt)) (λ i k. gives _ (h, k)))
 
   the-length : {i : ℕ} → Reads i (SymbolIn i) textLength
   unfolding textLength
@@ -212,7 +212,7 @@ module _ (t : List ℕ) where
   the-type =
       if-next (isOneWord (ascii "TEXT" ∷ ascii "MTEXT" ∷ [])) the-text
       (if-next (isWord (ascii "NUMERIC")) (skip (isWord (ascii "NUMERIC")) (gives _ tt))
-      (if-next (isMark "(") (bind (by-text (λ u. enumeration (enough u) 0) (the-enumeration (enough t) 0)) (λ e h. gives _ h)) the-range))
+      (if-next (isMark "(") (bind (by-text (λ u. enumeration (enough u) deepest) (the-enumeration (enough t) deepest)) (λ e h. gives _ h)) the-range))
 
   type-or-reference : {i : ℕ} → Reads i (TypeIn i) typeOrReference
   unfolding typeOrReference

@@ -1,4 +1,4 @@
-// Texts cut into symbols: of each symbol a line with its code, place and length, and the number of its own fault, if it has one.
+// Texts cut into symbols: a line of each with its code, place and length, and its own fault's number, if it has one.
 use libc::STDOUT_FILENO;
 use symbols::Cursor;
 use symbols::Symbol;
@@ -13,16 +13,16 @@ fn show(y: Symbol) {
     io::print_decimal(STDOUT_FILENO, y.place as u64);
     io::write_all(STDOUT_FILENO, b" ");
     io::print_decimal(STDOUT_FILENO, y.len as u64);
-    if y.no != 5 {
+    if y.refusal != 5 {
         io::write_all(STDOUT_FILENO, b" fault ");
-        io::print_decimal(STDOUT_FILENO, y.no as u64);
+        io::print_decimal(STDOUT_FILENO, y.refusal as u64);
     }
     end_line();
 }
 
 // Up to the first symbol of no bytes; a blank line ends the text.
 fn cut(text: &[u8]) {
-    let mut c = Cursor { at: 0 };
+    let mut c = Cursor::start();
     let mut turns: u32 = 0;
     while turns < 40 {
         turns += 1;
@@ -64,7 +64,8 @@ fn strings() {
 fn words() {
     cut(b"OTHERS BAG SYMBOLGY SYMBOLOGY GENERICS END ENDS End END_ COORD2 COORD4");
     cut(
-        b"INTERLIS MODEL AT VERSION TOPIC CLASS STRUCTURE ABSTRACT FINAL EXTENDS DOMAIN ATTRIBUTE EXTENDED END MANDATORY TEXT MTEXT NUMERIC",
+        b"INTERLIS MODEL AT VERSION TOPIC CLASS STRUCTURE ABSTRACT FINAL EXTENDS DOMAIN ATTRIBUTE EXTENDED END \
+            MANDATORY TEXT MTEXT NUMERIC",
     );
     cut(b"NOINCREMENTALTRANSFER NOINCREMENTALTRANSFERS _a");
 }

@@ -16,9 +16,9 @@ use Rattle.claims.proofs.DistinctLaws.{all-distinct}
 use Rattle.claims.proofs.ShutLaws.{shut}
 use Rattle.claims.proofs.Demand3Laws.{demand3}
 use Rattle.claims.proofs.RunLaws.{Ending, Ended, run-ends}
-use Rattle.auzuplens.specs.declared.Answer.{Answer}
-use Rattle.auzuplens.specs.declared.Answer.the-variants.{Accepted, Refused}
-use Rattle.auzuplens.specs.Promise.{answerOf}
+use Rattle.running.specs.declared.Answer.{Answer}
+use Rattle.running.specs.declared.Answer.the-variants.{Accepted, Refused}
+use Rattle.trying.specs.Promise.{answerOf}
 use Rattle.demands.specs.Demands.{Gives, Demand1, Demand2, NumbersRead, Demand3, Demands}
 use Rattle.demands.proofs.PackLaws.{unpacks-answer, unpacks-name}
 use Rattle.demands.proofs.FairLaws.{reached-fair, reached-typed}

@@ -16,15 +16,15 @@ use Rattle.rules.specs.All.{All, AnyIs}
 use Rattle.rules.proofs.AllLaws.{all-append}
 use Rattle.rules.proofs.GrowLaws.{known-append}
 use Rattle.readers.proofs.StandLaws.{at-stands}
-use Rattle.scope.specs.Scope.{FairUnit, FairState, Placed, MayStand}
-use Rattle.scope.proofs.UseLaws.{fair-nothing}
-use Rattle.scope.proofs.ReadLaws.{unit-fair}
-use Rattle.scope.proofs.StandLaws.{may-stand}
-use Rattle.scope.proofs.KeepLaws.{judge-fair}
+use Rattle.wellformed.specs.Fairness.{FairUnit, FairState, Placed, MayStand}
+use Rattle.wellformed.proofs.UseLaws.{fair-nothing}
+use Rattle.wellformed.proofs.ReadLaws.{unit-fair}
+use Rattle.wellformed.proofs.StandLaws.{may-stand}
+use Rattle.wellformed.proofs.KeepLaws.{judge-fair}
 use Rattle.claims.specs.Reached.{Reaches, begin, pass}
 use Rattle.claims.proofs.RunLaws.{reached-place, reached-keeps}
 use Rattle.claims.proofs.NumberedLaws.{reached-short}
-use Rattle.auzuplens.proofs.RunLaws.{room-ok, placed-then}
+use Rattle.running.proofs.RunLaws.{room-ok, placed-then}
 
 -- ---- fair
 judged-fair : (t : List ℕ) (m : ℕ) (s x : State) (u : Option U.Unit) → FairState t s → AnyIs (FairUnit t) u → AnyIs (MayStand s) u → judged (lent m) s u ≡ ok x →

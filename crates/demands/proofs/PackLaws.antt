@@ -15,9 +15,9 @@ use Rattle.rules.proofs.Tests.{never}
 use Rattle.claims.specs.Ranking.{isIn}
 use Rattle.claims.specs.Numbered.{table, Small}
 use Rattle.claims.proofs.NumberedLaws.{refused-numbered, accepted-small}
-use Rattle.auzuplens.specs.declared.Answer.{Answer}
-use Rattle.auzuplens.specs.declared.Answer.the-variants.{Accepted, Refused}
-use Rattle.auzuplens.specs.Promise.{answerOf}
+use Rattle.running.specs.declared.Answer.{Answer}
+use Rattle.running.specs.declared.Answer.the-variants.{Accepted, Refused}
+use Rattle.trying.specs.Promise.{answerOf}
 use Rattle.auzuplens.specs.Packing.{packed, packedPart, unpacked, unpackedPart}
 
 -- ---- answers

@@ -24,7 +24,7 @@ use Rattle.numbers.specs.declared.Reading.{Reading}
 use Rattle.numbers.specs.declared.Reading.the-variants as R
 use Rattle.numbers.specs.Answer.{Promised}
 use Rattle.numbers.proofs.ReadLaws.{one-answer}
-use Rattle.scope.specs.Scope.{Fair, FairUse, FairAttribute, FairDef, FairState}
+use Rattle.wellformed.specs.Fairness.{Fair, FairUse, FairAttribute, FairDef, FairState}
 use Rattle.claims.specs.Steps as S
 use Rattle.claims.specs.Steps.{Declared, baseOf, firstOf, numbered, domainIn, Inherits, near, far, Nearest, Passes, through, straight, EveryReading}
 use Rattle.claims.proofs.StateLaws.{in-all}

@@ -1,6 +1,7 @@
--- The user's three demands, of what the program answers. `check_text` promises Gives: of a text t and a lent buffer of m bytes, r is its answer,
--- in the program's own type, and b is the buffer when it returns. It has no precondition: every text and every buffer gets an answer (`answer` in this crate's code has the promise in these words). `run` is
--- document 01 as a definition (crate rules): it keeps a state where no unit is refused.
+-- The user's three demands, of what the program answers. `check_text` promises Gives: of a text t and a lent buffer of m
+-- bytes, r is its answer, in the program's own type, and b is the buffer when it returns. It has no precondition: every
+-- text and every buffer gets an answer (`answer` in this crate's code has the promise in these words). `run` is document
+-- 01 as a definition (crate rules): it keeps a state where no unit is refused.
 use mathlib.Core.Path.{_≡_}
 use mathlib.Core.Logic.{_↔_}
 use mathlib.Core.Bool.{true, false}
@@ -33,9 +34,9 @@ use Rattle.claims.specs.Shut.{Shut}
 use Rattle.numbers.specs.declared.Reading.{Reading}
 use Rattle.numbers.specs.declared.Reading.the-variants.{Value}
 use Rattle.numbers.specs.Answer.{Promised}
-use Rattle.auzuplens.specs.declared.Answer.{Answer}
-use Rattle.auzuplens.specs.declared.Answer.the-variants.{Accepted, Refused}
-use Rattle.auzuplens.specs.Promise.{answerOf}
+use Rattle.running.specs.declared.Answer.{Answer}
+use Rattle.running.specs.declared.Answer.the-variants.{Accepted, Refused}
+use Rattle.trying.specs.Promise.{answerOf}
 use Rattle.auzuplens.specs.Packing.{packed, packedPart, unpacked, unpackedPart}
 
 abbrev pub Gives : List ℕ → ℕ → Answer → List ℕ → Type 0

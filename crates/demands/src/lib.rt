@@ -1,5 +1,5 @@
 // The promise of checking a text, in the words of the demands.
-use auzuplens::Answer;
+use running::Answer;
 ghost use lib.ListN.{length};
 ghost use Rattle.demands.specs.Demands.{Gives};
 

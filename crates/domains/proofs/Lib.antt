@@ -1,3 +1,2 @@
-pub mod WrittenLaws
 pub mod StageLaws
 pub mod RowLaws

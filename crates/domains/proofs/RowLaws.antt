@@ -1,5 +1,5 @@
 -- The row of a new domain, its records in the book, and what is then kept.
-use mathlib.Core.Path.{_≡_, refl, sym, ap, _∙_}
+use mathlib.Core.Path.{_≡_, refl, sym, ap, _∙_, subst}
 use mathlib.Core.Bool.{Bool, true, false, _||_}
 use mathlib.Core.Option.{Option, none}
 use mathlib.Core.List.{List, [], _∷_, _++_, append-nil}
@@ -17,18 +17,18 @@ use Rattle.rules.specs.Judge.{ok, orNoDef, resolved, basesOf, isAbstract, isFin
 use Rattle.rules.specs.Check as Check
 use Rattle.ground.specs.Parts.{splice}
 use Rattle.book.specs.Forms.{headForm}
-use Rattle.names.specs.Index.{entry, row}
+use Rattle.names.specs.Index.{entry, row, definitionWidth, Rows}
 use Rattle.names.specs.Chains.{Chains}
 use Rattle.names.specs.References.{bytesOf, Inside}
 use Rattle.names.specs.declared.NewDefinition.{NewDefinition}
 use Rattle.names.specs.Rows.{definitionRow}
-use Rattle.members.specs.Held.{DefRow, Stands, heading, attributesIn}
-use Rattle.members.proofs.HeldLaws.{agree-def, row-written, stands-new}
+use Rattle.members.specs.Held.{DefRow, heading, attributesIn}
+use Rattle.members.proofs.HeldLaws.{agree-def, row-written}
 use Rattle.members.proofs.StateLaws.{book-declared}
-use Rattle.enumerations.specs.declared.lists.Size.{Size}
-use Rattle.enumerations.specs.Merging.{sizeOf}
+use Rattle.enumerations.specs.declared.Size.{Size}
+use Rattle.enumerations.specs.Records.{sizeOf}
 use Rattle.units.specs.declared.DomainUnit.{DomainUnit}
-use Rattle.scope.specs.Scope.{FairState}
+use Rattle.wellformed.specs.Fairness.{FairState}
 use Rattle.types.proofs.TypeLaws.{laid-book}
 use Rattle.state.specs.declared.State as code
 use Rattle.state.specs.declared.Judged as code-judged
@@ -39,8 +39,11 @@ use Rattle.state.proofs.KeepLaws as keep
 use Rattle.state.proofs.KeepLaws.{keeps-declared, plain-type, domain-defined}
 use Rattle.state.proofs.RowLaws.{Tells, def-row}
 use Rattle.state.proofs.JudgeLaws.{small, home-number, room-over, room-within}
-use Rattle.domains.specs.Stages.{Extending}
+use Rattle.domains.specs.Stages.{Extending, domainDefinition}
 use Rattle.domains.proofs.StageLaws.{domainOf, unit-inside, is-unit, a-base, no-class}
+use Rattle.book.specs.Places.{Stands}
+use Rattle.book.proofs.StandLaws.{stands-new}
+use Rattle.book.specs.Sizes.{headSize}
 
 -- ---- the new definition
 module _ (s : State) (n : Name) (p : List (List ℕ)) (w : Written) (o : Option Def) where
@@ -66,11 +69,11 @@ module _ (s : State) (n : Name) (p : List (List ℕ)) (w : Written) (o : Option 
   unfolding newDomain head
   new-records = ap (λ (l : List Record). head ∷ l) (append-nil (typeRecords type))
 
-  head-length : length head ≡ 11
+  head-length : length head ≡ headSize
   unfolding head
   head-length = refl
 
-  new-length : length (bytes (declRecords (def new))) ≡ 11 + length (bytes (typeRecords type))
+  new-length : length (bytes (declRecords (def new))) ≡ headSize + length (bytes (typeRecords type))
   new-length = ap (λ (l : List Record). length (bytes l)) new-records ∙ length-append head (bytes (typeRecords type)) ∙ ap (λ (i : ℕ). i + length (bytes (typeRecords type))) head-length
 
   new-heading : heading (new .sort) new ≡ head ∷ typeRecords type
@@ -82,7 +85,7 @@ module _ (s : State) (n : Name) (p : List (List ℕ)) (w : Written) (o : Option 
       book-declared s (declare s (def new)) (def new) c refl refl
       ∙ ap (λ (l : List ℕ). book s ++ l) (ap bytes (new-records ∙ sym new-heading) ∙ sym (append-nil (bytes (heading (new .sort) new))))
 
-  length-book : s .open-class ≡ none → length (book (declare s (def new))) ≡ length (book s) + (11 + length (bytes (typeRecords type)))
+  length-book : s .open-class ≡ none → length (book (declare s (def new))) ≡ length (book s) + (headSize + length (bytes (typeRecords type)))
   length-book c =
       ap length (book-declared s (declare s (def new)) (def new) c refl refl) ∙ length-append (book s) (bytes (declRecords (def new))) ∙ ap (λ (i : ℕ). length (book s) + i) new-length
 
@@ -92,18 +95,18 @@ module _ (s : State) (n : Name) (p : List (List ℕ)) (w : Written) (o : Option 
 -- ---- what is small enough
 pub record Numbers (t : List ℕ) (st : code.State) (d : DomainUnit) (size : Size) : Type 0 where
   pub inside : Inside t (d .name)
-  pub home : st .home ≤ 65535
-  pub numbered : st .records ≤ 65535
-  pub place : st .used ≤ 65535
-  pub count : st .count < 65535
-  pub total : st .total ≤ 65535
-  pub bytes : 11 + size .bytes ≤ 65535
+  pub home : st .context .home ≤ 65535
+  pub numbered : st .extent .records ≤ 65535
+  pub place : st .extent .used ≤ 65535
+  pub count : st .listing .count < 65535
+  pub total : st .listing .total ≤ 65535
+  pub bytes : headSize + size .bytes ≤ 65535
   pub records : 1 + size .records ≤ 65535
-  pub used : st .used + (11 + size .bytes) ≤ 65535
-  pub recorded : st .records + (1 + size .records) ≤ 65535
-  pub defined : st .definitions + 1 ≤ 65535
+  pub used : st .extent .used + (headSize + size .bytes) ≤ 65535
+  pub recorded : st .extent .records + (1 + size .records) ≤ 65535
+  pub defined : st .extent .definitions + 1 ≤ 65535
 
-module _ {t : List ℕ} {s : State} {st : code.State} {n : Name} {p : List (List ℕ)} {b : Option Reference} {w : Written} {o x z y ns ps rs : List ℕ} {d : DomainUnit} {base : ℕ} (h : Extending t s st n p b w o x z y ns ps rs d base)
+module _ {t : List ℕ} {s : State} {st : code.State} {n : Name} {p : List (List ℕ)} {b : Option Reference} {w : Written} {o x z y hs rs : List ℕ} {d : DomainUnit} {base : ℕ} (h : Extending t s st n p b w o x z y hs rs d base)
     (o₁ : List ℕ) (len : length o ≡ length o₁) (short : length o₁ ≤ 65535)
     (size : Size) (counted : size ≡ sizeOf (typeRecords (domainType (w .type) (orNoDef (resolved s b) .type)))) where
   abbrev l : List ℕ
@@ -112,13 +115,13 @@ module _ {t : List ℕ} {s : State} {st : code.State} {n : Name} {p : List (List
   size-bytes : size .bytes ≡ length l
   size-bytes = ap (λ (i : Size). i .bytes) counted
 
-  long : length (book (declare s (def (newDomain s n p w (resolved s b))))) ≡ st .used + 11 + size .bytes
+  long : length (book (declare s (def (newDomain s n p w (resolved s b))))) ≡ st .extent .used + headSize + size .bytes
   long = let e = length-book s n p w (resolved s b) (no-class h) in let u = h .keeps .used in let v = size-bytes in omega arith
 
-  pub numbers : leb (st .used + 11 + size .bytes) (length o₁) ≡ true → Numbers t st d size
+  pub numbers : leb (st .extent .used + headSize + size .bytes) (length o₁) ≡ true → Numbers t st d size
   numbers e =
-      let f = leb-true (st .used + 11 + size .bytes) (length o₁) e in
-      let g = small t s st o x z y ns ps (h .keeps) in
+      let f = leb-true (st .extent .used + headSize + size .bytes) (length o₁) e in
+      let g = small t s st o x z y hs (h .keeps) in
       let g0 = g .fewer in let g1 = g .defined in let g2 = g .home in let g3 = g .rows in
       let v = size-bytes in
       let r = ap (λ (i : Size). i .records) counted in
@@ -137,23 +140,23 @@ module _ {t : List ℕ} {s : State} {st : code.State} {n : Name} {p : List (List
         defined = omega arith;
       }
 
-  pub refused-room : leb (st .used + 11 + size .bytes) (length o₁) ≡ false → (r : code-judged.Judged) → r ≡ Refused 19 (d .name .offset) → (o₂ x₂ z₂ : List ℕ)
-      → JudgedAs t (Check.room (Check.lent (length o)) (n .offset) (ok (declare s (def (newDomain s n p w (resolved s b)))))) st r o₂ x₂ z₂ y ns ps
+  pub refused-room : leb (st .extent .used + headSize + size .bytes) (length o₁) ≡ false → (r : code-judged.Judged) → r ≡ Refused 19 (d .name .offset) → (o₂ x₂ z₂ : List ℕ)
+      → JudgedAs t (Check.room (Check.lent (length o)) (n .offset) (ok (declare s (def (newDomain s n p w (resolved s b)))))) st r o₂ x₂ z₂ y hs
   refused-room e r g o₂ x₂ z₂ =
-      let f = leb-false (st .used + 11 + size .bytes) (length o₁) e in
+      let f = leb-false (st .extent .used + headSize + size .bytes) (length o₁) e in
       let v = long in
       rw (room-over (length o) (n .offset) (declare s (def (newDomain s n p w (resolved s b)))) (omega arith) (omega arith))
       (g ∙ ap (λ (i : ℕ). Refused 19 i) (ap (λ (u : DomainUnit). u .name .offset) (is-unit h)))
 
   -- the head is written behind the book, the row behind the last
-  module _ (room : leb (st .used + 11 + size .bytes) (length o₁) ≡ true) (there : st .used + 11 + length l ≤ length o → o₁ ≡ splice o (st .used + 11) l)
+  module _ (room : leb (st .extent .used + headSize + size .bytes) (length o₁) ≡ true) (there : st .extent .used + headSize + length l ≤ length o → o₁ ≡ splice o (st .extent .used + headSize) l)
       (mandatory : Bool) (em : mandatory ≡ (d .written .mandatory || orNoDef (entry (known (s .decls)) base) .mandatory))
       (f : ℕ) (ef : f ≡ flags (d .properties .«is_abstract») (d .properties .«is_final») false mandatory)
       (c : ℕ) (ec : c ≡ baseNumber (basesOf (entry (known (s .decls)) base)))
-      (hd o₂ x₂ z₂ : List ℕ) (eh : hd ≡ headForm 7 (d .name .offset) (d .name .len) f c) (eo : o₂ ≡ splice o₁ (st .used) hd) (len₂ : length o₂ ≡ length o₁)
-      (ex : x₂ ≡ splice x ((st .count + 1) * 10) (definitionRow (record { name = d .name; home = st .home; number = st .records; sort = 3; flags = f; place = st .used; base = base; first = st .total })))
-      (ez : (ks : List Def) (e : Def) → Chains ks z → st .count ≡ length ks → bytesOf t (d .name) ≡ e .name .bytes → Chains (ks ++ (e ∷ [])) z₂)
-      (wide : (st .count + 3) * 10 ≤ length x) (low : base ≤ st .count) where
+      (hd o₂ x₂ z₂ : List ℕ) (eh : hd ≡ headForm 7 (d .name .offset) (d .name .len) f c) (eo : o₂ ≡ splice o₁ (st .extent .used) hd) (len₂ : length o₂ ≡ length o₁)
+      (ex : x₂ ≡ splice x ((st .listing .count + 1) * definitionWidth) (definitionRow (domainDefinition st (d .name) f base)))
+      (ez : (ks : List Def) (e : Def) → Chains ks z → st .listing .count ≡ length ks → bytesOf t (d .name) ≡ e .name .bytes → Chains (ks ++ (e ∷ [])) z₂)
+      (wide : Rows x (st .listing .count + 2)) (low : base ≤ st .listing .count) where
     abbrev unit : d ≡ domainOf n p b w
     unit = is-unit h
 
@@ -161,7 +164,7 @@ module _ {t : List ℕ} {s : State} {st : code.State} {n : Name} {p : List (List
     none-open = no-class h
 
     abbrev entered : NewDefinition
-    entered = record { name = d .name; home = st .home; number = st .records; sort = 3; flags = f; place = st .used; base = base; first = st .total }
+    entered = domainDefinition st (d .name) f base
 
     abbrev new· : Def
     new· = newDomain s n p w (resolved s b)
@@ -175,22 +178,22 @@ module _ {t : List ℕ} {s : State} {st : code.State} {n : Name} {p : List (List
 
     book-is : keep.Written (book s) (bytes (declRecords (def new·))) o₂
     book-is =
-        let e = leb-true (st .used + 11 + size .bytes) (length o₁) room in
+        let e = leb-true (st .extent .used + headSize + size .bytes) (length o₁) room in
         let v = size-bytes in
         let u = h .keeps .used in
-        let g : st .used + 11 + length l ≤ length o = omega arith in
-        let k = laid-book o o₁ o₂ (book s) (head s n p w (resolved s b)) l (st .used) (h .keeps .written) u g (head-length s n p w (resolved s b)) (there g) (rw head-is at eo) in
+        let g : st .extent .used + headSize + length l ≤ length o = omega arith in
+        let k = laid-book o o₁ o₂ (book s) (head s n p w (resolved s b)) l (st .extent .used) (h .keeps .written) u g (head-length s n p w (resolved s b)) (there g) (rw head-is at eo) in
         let r : bytes (declRecords (def new·)) ≡ head s n p w (resolved s b) ++ l = ap bytes (new-records s n p w (resolved s b)) in
         let i = new-length s n p w (resolved s b) in
-        let j : length (book s) + length (bytes (declRecords (def new·))) ≡ st .used + 11 + length l = omega arith in
+        let j : length (book s) + length (bytes (declRecords (def new·))) ≡ st .extent .used + headSize + length l = omega arith in
         record { within = omega arith; whole = rw (j, r) k }
 
-    tells : Tells t (known (s .decls)) (attributesIn s) (st .count + 1) new· entered
+    tells : Tells t (known (s .decls)) (attributesIn s) (st .listing .count + 1) new· entered
     unfolding newDomain
     tells = record {
       in-text = h .comes .fair .0;
       named = ap (λ (u : DomainUnit). u .name) unit;
-      home = home-number t s st o x z y ns ps (h .keeps);
+      home = home-number t s st o x z y hs (h .keeps);
       number = h .keeps .numbered;
       sort = refl;
       flagged = flags-are;
@@ -202,28 +205,29 @@ module _ {t : List ℕ} {s : State} {st : code.State} {n : Name} {p : List (List
       few = omega arith;
     }
 
-    row-is : DefRow t (book (declare s (def new·))) (known (s .decls)) (attributesIn s) (st .count + 1) new· (row 10 x₂ (st .count + 1))
+    row-is : DefRow t (book (declare s (def new·))) (known (s .decls)) (attributesIn s) (st .listing .count + 1) new· (row definitionWidth x₂ (st .listing .count + 1))
     row-is =
-        let e : row 10 x₂ (st .count + 1) ≡ definitionRow entered = ap (λ (i : List ℕ). row 10 i (st .count + 1)) ex ∙ row-written 10 x (definitionRow entered) (st .count + 1) refl (omega arith) in
-        rw e (def-row t (book (declare s (def new·))) (known (s .decls)) (attributesIn s) (st .count + 1) new· entered tells (stands-next s n p w (resolved s b) (st .used) (h .keeps .used) none-open))
+        let e : row definitionWidth x₂ (st .listing .count + 1) ≡ definitionRow entered = ap (λ (i : List ℕ). row definitionWidth i (st .listing .count + 1)) ex ∙ row-written definitionWidth x (definitionRow entered) (st .listing .count + 1) refl (omega arith) in
+        rw e (def-row t (book (declare s (def new·))) (known (s .decls)) (attributesIn s) (st .listing .count + 1) new· entered tells (stands-next s n p w (resolved s b) (st .extent .used) (h .keeps .used) none-open))
 
     chains-are : Chains (known (s .decls) ++ (new· ∷ [])) z₂
     unfolding newDomain
     chains-are = ez (known (s .decls)) new· (h .keeps .chained) (h .keeps .held .all-defs) (rw unit (h .comes .fair .0 .there))
 
-    pub kept-domain : FairState t (declare s (def new·)) → (st' : code.State) → st' ≡ declaredBy st (11 + size .bytes) (1 + size .records) 1 → (r : code-judged.Judged) → r ≡ Fine st'
-        → JudgedAs t (Check.room (Check.lent (length o)) (n .offset) (ok (declare s (def new·)))) st r o₂ x₂ z₂ y ns ps
-    kept-domain fair st' es r er =
-        let e = leb-true (st .used + 11 + size .bytes) (length o₁) room in
+    pub kept-domain : FairState t (declare s (def new·)) → (st' : code.State) → st' ≡ declaredBy st (headSize + size .bytes) (1 + size .records) 1 → (r : code-judged.Judged) → r ≡ Fine st'
+        → (y₂ : List ℕ) → y₂ ≡ y → JudgedAs t (Check.room (Check.lent (length o)) (n .offset) (ok (declare s (def new·)))) st r o₂ x₂ z₂ y₂ hs
+    kept-domain fair st' es r er y₂ ey =
+        let e = leb-true (st .extent .used + headSize + size .bytes) (length o₁) room in
         let v = size-bytes in
         let q = ap (λ (i : Size). i .records) counted in
         let g = long in
         let i = new-length s n p w (resolved s b) in
         let j = ap length (new-records s n p w (resolved s b)) in
-        let k = keeps-declared t s st o x z y ns ps (h .keeps) new· o₂ x₂ z₂ (11 + size .bytes) (1 + size .records) 1 none-open (new-own s n p w (resolved s b)) (omega arith) (omega arith)
-        (sym (domain-defined new· (new-sort s n p w (resolved s b)))) book-is (rw ex (agree-def x _ (st .count) (omega arith))) row-is chains-are fair in
-        rw (room-within (length o) (n .offset) (declare s (def new·)) (omega arith) (omega arith)) (st', er, rw es k, rw es (omega arith))
+        let k = keeps-declared t s st o x z y hs (h .keeps) new· o₂ x₂ z₂ (headSize + size .bytes) (1 + size .records) 1 none-open (new-own s n p w (resolved s b)) (omega arith) (omega arith)
+        (sym (domain-defined new· (new-sort s n p w (resolved s b)))) book-is (rw ex (agree-def x _ (st .listing .count) (omega arith))) row-is chains-are fair in
+        subst (λ (i : List ℕ). JudgedAs t (Check.room (Check.lent (length o)) (n .offset) (ok (declare s (def new·)))) st r o₂ x₂ z₂ i hs) (sym ey)
+        (rw (room-within (length o) (n .offset) (declare s (def new·)) (omega arith) (omega arith)) (st', er, rw es k, rw es (record { by-one = omega arith; layout-stays = refl })))
 
--- the head is 11 bytes
-pub head-fits : (hd : List ℕ) (k i n f c u b m : ℕ) → hd ≡ headForm k i n f c → leb (u + 11 + b) m ≡ true → u + length hd ≤ m
-head-fits hd k i n f c u b m e h = let l : length hd ≡ 11 = ap length e in let g = leb-true (u + 11 + b) m h in omega arith
+-- the head is as long
+pub head-fits : (hd : List ℕ) (k i n f c u b m : ℕ) → hd ≡ headForm k i n f c → leb (u + headSize + b) m ≡ true → u + length hd ≤ m
+head-fits hd k i n f c u b m e h = let l : length hd ≡ headSize = ap length e in let g = leb-true (u + headSize + b) m h in omega arith

@@ -9,38 +9,37 @@ use lib.ListN.{length, getD, take}
 use lib.Dec.{ltb}
 use borrow.Author.Tests.{lt-ltb}
 use Rattle.rules.proofs.RuleLaws.{element-nine}
-use Rattle.scope.proofs.TypeLaws.{sort-domain}
+use Rattle.wellformed.proofs.TypeLaws.{sort-domain}
 use Rattle.state.proofs.SharedLaws.{extends-positive}
 use Rattle.rules.specs.Names.{Name}
 use Rattle.rules.specs.Grammar.{Reference, WrittenType, Written}
 use Rattle.rules.specs.Units as U
 use Rattle.rules.specs.Types.{Ty, text, range, numeric, structure, enum}
 use Rattle.rules.specs.Declarations.{Sort, domain, Def, Attribute, State, attributesOf, isFound, isSort, atHand, known, def}
-use Rattle.rules.specs.Book.{Record, bytes, records, flags, typeRecords}
+use Rattle.rules.specs.Book.{Record, bytes, records, flags, typeRecords, defRecord}
 use Rattle.rules.specs.Judge as J
 use Rattle.rules.specs.Judge.{Rule, rule, ok, firstBrokenOr, orNoDef, resolved, hasTwice, isAbstract, isFinal, isNumeric, referenceIn, domainType, elementRule, extendsRules, newDomain, domainTo16, domainRules, judge, declare}
 use Rattle.rules.specs.Check.{Given, lent, room}
 use Rattle.rules.proofs.Tests.{never, not-fails}
 use Rattle.ground.specs.Parts.{splice}
 use Rattle.ground.specs.declared.Name as ground
-use Rattle.names.specs.Index.{entry, row, Says, Known}
+use Rattle.names.specs.Index.{entry, row, Says, Known, definitionWidth}
 use Rattle.names.specs.References.{bytesOf, Inside}
 use Rattle.names.proofs.BaseLaws.{entry-there}
-use Rattle.members.specs.Held.{Held, Stands, heading, attributesIn}
-use Rattle.members.proofs.HeldLaws.{type-stands}
+use Rattle.members.specs.Held.{Held, heading, attributesIn}
 use Rattle.enumerations.specs.Standing.{InText}
-use Rattle.enumerations.specs.declared.lists.Size.{Size}
-use Rattle.enumerations.specs.Merging.{sizeOf}
+use Rattle.enumerations.specs.declared.Size.{Size}
+use Rattle.enumerations.specs.Records.{sizeOf}
 use Rattle.readers.specs.Reads.{nameCut}
 use Rattle.parts.specs.Forms.{anyOf, flagsOf, extendsOf, writtenOf}
 use Rattle.parts.specs.declared.Properties.{Properties}
 use Rattle.units.specs.declared.DomainUnit.{DomainUnit}
 use Rattle.units.specs.declared.Unit.the-variants.{Domain}
 use Rattle.rules.specs.All.{AnyIs}
-use Rattle.scope.specs.Scope.{Begins, Fair, FairDef, FairState}
+use Rattle.wellformed.specs.Fairness.{Begins, Fair, FairDef, FairState}
 use Rattle.rules.proofs.AllLaws.{any-resolved}
-use Rattle.scope.proofs.TypeLaws.{domain-fair}
-use Rattle.scope.proofs.KeepLaws.{judge-fair}
+use Rattle.wellformed.proofs.TypeLaws.{domain-fair}
+use Rattle.wellformed.proofs.KeepLaws.{judge-fair}
 use Rattle.types.specs.declared.Ruling.{Ruling}
 use Rattle.types.specs.declared.Typing.{Typing}
 use Rattle.types.specs.declared.Typing.the-variants.{Structure}
@@ -52,11 +51,13 @@ use Rattle.state.specs.declared.State as code
 use Rattle.state.specs.declared.Judged as code-judged
 use Rattle.state.specs.declared.Judged.the-variants.{Refused}
 use Rattle.state.specs.Keeping.{Keeps, JudgedAs, Comes, verdict}
-use Rattle.domains.specs.Written.{writtenRules, LaidWhen}
+use Rattle.written.specs.Written.{writtenRules, LaidWhen}
 use Rattle.domains.specs.Stages.{nameRules, rulesFrom13, Extending}
-use Rattle.domains.specs.declared.written.Laying as code-laying
-use Rattle.domains.specs.declared.written.Laying.the-variants.{Whole, Broken}
-use Rattle.domains.proofs.WrittenLaws.{written-positive}
+use Rattle.written.specs.declared.Laying as code-laying
+use Rattle.written.specs.declared.Laying.the-variants.{Whole, Broken}
+use Rattle.written.proofs.WrittenLaws.{written-positive}
+use Rattle.book.specs.Places.{Stands}
+use Rattle.book.specs.Sizes.{headSize}
 
 -- ---- MANDATORY in effect
 module _ (ks : List Def) (base : ℕ) (w : Bool) where
@@ -67,7 +68,7 @@ module _ (ks : List Def) (base : ℕ) (w : Bool) where
   mandatory-none e z = rw (e, z)
 
   pub mandatory-base : (t x : List ℕ) (count : ℕ) → base ≤ count → Known t ks x count → w ≡ false → 0 < base
-      → (f : ℕ) → ((t : List ℕ) (d : Def) → Says t d (row 10 x base) → f ≡ flags (d .abstract) (d .final) false (d .mandatory))
+      → (f : ℕ) → ((t : List ℕ) (d : Def) → Says t d (row definitionWidth x base) → f ≡ flags (d .abstract) (d .final) false (d .mandatory))
       → (r : Bool) → ((a f' e m : Bool) → f ≡ flags a f' e m → r ≡ m) → r ≡ (w || orNoDef (entry ks base) .mandatory)
   mandatory-base t x count l k e z f hf r hr =
       let n = k .all in
@@ -129,7 +130,7 @@ once-named s n w h = once-of w (go (isFound (atHand s (n .bytes))) h)
     go false e = e
 
 -- ---- 10 to 12
-middle : (q : ℕ) (x y z : Bool) → rulingOf (rule 10 q x ∷ rule 11 q y ∷ rule 12 q z ∷ []) .number ≡ 0 → y ≡ false
+middle : (q : ℕ) (x y z : Bool) → rulingOf (rule 10 q x ∷ rule headSize q y ∷ rule 12 q z ∷ []) .number ≡ 0 → y ≡ false
 middle q true y z e = absurd (omega arith)
 middle q false true z e = absurd (omega arith)
 middle q false false z e = refl
@@ -164,14 +165,14 @@ pub base-none : (t b : List ℕ) (ks : List Def) (base : ℕ) → base ≡ 0 →
 base-none t b ks base e = rw e
 
 pub base-there : (t b : List ℕ) (ks : List Def) (ms : List Attribute) (x : List ℕ) (count : ℕ) (y : List ℕ) (total base : ℕ) → 0 < base → base ≤ count → Held t b ks ms x count y total
-    → ((d : Def) → entry ks base ≡ some d → (d .sort ≡ domain) × Fair t (d .type)) → (at : ℕ) → at ≡ getD (row 10 x base) 6 0
-    → (r : Typing) → ((t : List ℕ) (x : Ty) → Fair t x → Stands b (at + 11) (typeRecords x) → Typed t b x r) → Typed t b (orNoDef (entry ks base) .type) r
+    → ((d : Def) → entry ks base ≡ some d → (d .sort ≡ domain) × Fair t (d .type)) → (at : ℕ) → at ≡ getD (row definitionWidth x base) 6 0
+    → (r : Typing) → ((t : List ℕ) (h : Record) (x : Ty) → length h ≡ headSize → Fair t x → Stands b at (h ∷ typeRecords x) → Typed t b x r) → Typed t b (orNoDef (entry ks base) .type) r
 base-there t b ks ms x count y total base z l h f at e r g =
     let n = h .all-defs in
     let (d, q) = entry-there ks base z (omega arith) in
     let (s, v) = f d q in
     let w : Stands b at (heading (d .sort) d) = rw e (h .def-rows base d q .stands) in
-    rw q (g t (d .type) v (type-stands b at d (subst (λ (c : Sort). Stands b at (heading c d)) s w)))
+    rw q (g t (defRecord 7 d) (d .type) refl v (subst (λ (c : Sort). Stands b at (heading c d)) s w))
 
 found-at : (ks : List Def) (base : ℕ) → base ≤ length ks → isFound (entry ks base) ≡ ltb 0 base
 found-at ks zero h = refl
@@ -212,17 +213,17 @@ module _ (s : State) (n : Name) (p : List (List ℕ)) (b : Option Reference) (w 
   passed-both : rulingOf (nameRules s n (w .type)) .number ≡ 0 → rulingOf (extendsRules domain b (resolved s b)) .number ≡ 0 → judge s (U.domain n p b w) ≡ firstBrokenOr (rulesFrom13 n p w (resolved s b)) next
   passed-both e f = judge-is ∙ rw (e, f)
 
-  module _ (t : List ℕ) (st : code.State) (r : code-judged.Judged) (o o₁ x₁ z₁ y ns ps : List ℕ) (q : Ruling) where
-    pub refused-name : q ≡ rulingOf (nameRules s n (w .type)) → 0 < q .number → r ≡ Refused (q .number) (q .place) → JudgedAs t (verdict s (U.domain n p b w) o) st r o₁ x₁ z₁ y ns ps
+  module _ (t : List ℕ) (st : code.State) (r : code-judged.Judged) (o o₁ x₁ z₁ y hs : List ℕ) (q : Ruling) where
+    pub refused-name : q ≡ rulingOf (nameRules s n (w .type)) → 0 < q .number → r ≡ Refused (q .number) (q .place) → JudgedAs t (verdict s (U.domain n p b w) o) st r o₁ x₁ z₁ y hs
     refused-name e h g = rw (judge-is, ← e, lt-ltb 0 (q .number) h) g
 
     pub refused-extends : rulingOf (nameRules s n (w .type)) .number ≡ 0 → q ≡ rulingOf (extendsRules domain b (resolved s b)) → 0 < q .number → r ≡ Refused (q .number) (q .place)
-        → JudgedAs t (verdict s (U.domain n p b w) o) st r o₁ x₁ z₁ y ns ps
+        → JudgedAs t (verdict s (U.domain n p b w) o) st r o₁ x₁ z₁ y hs
     refused-extends f e h g = rw (judge-is, f, ← e, lt-ltb 0 (q .number) h) g
 
-  pub judged-late : (t : List ℕ) (st : code.State) (r : code-judged.Judged) (o o₁ x₁ z₁ y ns ps : List ℕ) → rulingOf (nameRules s n (w .type)) .number ≡ 0 → rulingOf (extendsRules domain b (resolved s b)) .number ≡ 0
-      → JudgedAs t (room (lent (length o)) (n .offset) (firstBrokenOr (rulesFrom13 n p w (resolved s b)) next)) st r o₁ x₁ z₁ y ns ps → JudgedAs t (verdict s (U.domain n p b w) o) st r o₁ x₁ z₁ y ns ps
-  judged-late t st r o o₁ x₁ z₁ y ns ps e f g = rw (passed-both e f) g
+  pub judged-late : (t : List ℕ) (st : code.State) (r : code-judged.Judged) (o o₁ x₁ z₁ y hs : List ℕ) → rulingOf (nameRules s n (w .type)) .number ≡ 0 → rulingOf (extendsRules domain b (resolved s b)) .number ≡ 0
+      → JudgedAs t (room (lent (length o)) (n .offset) (firstBrokenOr (rulesFrom13 n p w (resolved s b)) next)) st r o₁ x₁ z₁ y hs → JudgedAs t (verdict s (U.domain n p b w) o) st r o₁ x₁ z₁ y hs
+  judged-late t st r o o₁ x₁ z₁ y hs e f g = rw (passed-both e f) g
 
 -- ---- 13 to 17
 pub whole-laid : (u : Bool) (v : Ruling) (l : List Record) (at : ℕ) (o o₂ : List ℕ) (a : code-laying.Laying) (z : Size) → LaidWhen u v l at o o₂ a → a ≡ Whole z
@@ -230,9 +231,9 @@ pub whole-laid : (u : Bool) (v : Ruling) (l : List Record) (at : ℕ) (o o₂ : 
 whole-laid true v l at o o₂ a z h e = let y : _≡_ {A = ℕ} 0 1 = cc in absurd (omega arith)
 whole-laid false v l at o o₂ a z h e = let i = h .0 in (cc, refl, h .1)
 
-module _ (t : List ℕ) (n : Name) (p : List (List ℕ)) (w : Written) (c : Option Def) (s' : State) (m : Given) (st : code.State) (r : code-judged.Judged) (o₁ x₁ z₁ y ns ps : List ℕ)
+module _ (t : List ℕ) (n : Name) (p : List (List ℕ)) (w : Written) (c : Option Def) (s' : State) (m : Given) (st : code.State) (r : code-judged.Judged) (o₁ x₁ z₁ y hs : List ℕ)
     (k : Bool) (i : k ≡ (hasTwice p || ((isAbstract p && isFinal p) || (isNumeric (domainType (w .type) (orNoDef c .type)) && not (isAbstract p))))) where
-  pub refused-head : k ≡ true → r ≡ Refused 13 (n .offset) → JudgedAs t (room m (n .offset) (firstBrokenOr (rulesFrom13 n p w c) s')) st r o₁ x₁ z₁ y ns ps
+  pub refused-head : k ≡ true → r ≡ Refused 13 (n .offset) → JudgedAs t (room m (n .offset) (firstBrokenOr (rulesFrom13 n p w c) s')) st r o₁ x₁ z₁ y hs
   refused-head j g = rw (← i, j) g
 
   module _ (j : k ≡ false) (l : List Record) (at : ℕ) (o o₂ : List ℕ) (a : code-laying.Laying)
@@ -240,10 +241,10 @@ module _ (t : List ℕ) (n : Name) (p : List (List ℕ)) (w : Written) (c : Opti
     behind-head : firstBrokenOr (rulesFrom13 n p w c) s' ≡ judgedBy (rulingOf (writtenRules (isFound c) (w .place) (w .type) (orNoDef c .type))) (ok s')
     behind-head = rw (← i, j) (first-broken-all (writtenRules (isFound c) (w .place) (w .type) (orNoDef c .type)) s' (written-positive (isFound c) (w .place) (w .type) (orNoDef c .type)))
 
-    pub refused-type : (q : Ruling) → a ≡ Broken q → r ≡ Refused (q .number) (q .place) → JudgedAs t (room m (n .offset) (firstBrokenOr (rulesFrom13 n p w c) s')) st r o₁ x₁ z₁ y ns ps
+    pub refused-type : (q : Ruling) → a ≡ Broken q → r ≡ Refused (q .number) (q .place) → JudgedAs t (room m (n .offset) (firstBrokenOr (rulesFrom13 n p w c) s')) st r o₁ x₁ z₁ y hs
     refused-type q e g = rw behind-head (go (rulingOf (writtenRules (isFound c) (w .place) (w .type) (orNoDef c .type))) (ltb 0 (rulingOf (writtenRules (isFound c) (w .place) (w .type) (orNoDef c .type)) .number)) refl h)
       where
-        go : (v : Ruling) (u : Bool) → ltb 0 (v .number) ≡ u → LaidWhen u v l at o o₂ a → JudgedAs t (room m (n .offset) (judgedBy v (ok s'))) st r o₁ x₁ z₁ y ns ps
+        go : (v : Ruling) (u : Bool) → ltb 0 (v .number) ≡ u → LaidWhen u v l at o o₂ a → JudgedAs t (room m (n .offset) (judgedBy v (ok s'))) st r o₁ x₁ z₁ y hs
         go v true f h = let i : q ≡ v = cc in rw f (g ∙ ap (λ (x : Ruling). Refused (x .number) (x .place)) i)
         go v false f h = let d = h .0 in let z : _≡_ {A = ℕ} 0 1 = cc in absurd (omega arith)
 
@@ -253,7 +254,7 @@ module _ (t : List ℕ) (n : Name) (p : List (List ℕ)) (w : Written) (c : Opti
         behind-head ∙ rw u
 
 -- ---- between the stages
-module _ {t : List ℕ} {s : State} {st : code.State} {n : Name} {p : List (List ℕ)} {b : Option Reference} {w : Written} {o x z y ns ps rs : List ℕ} {d : DomainUnit} {base : ℕ} (h : Extending t s st n p b w o x z y ns ps rs d base) where
+module _ {t : List ℕ} {s : State} {st : code.State} {n : Name} {p : List (List ℕ)} {b : Option Reference} {w : Written} {o x z y hs rs : List ℕ} {d : DomainUnit} {base : ℕ} (h : Extending t s st n p b w o x z y hs rs d base) where
   pub is-unit : d ≡ domainOf n p b w
   is-unit = domain-is (h .comes)
 
@@ -266,10 +267,10 @@ module _ {t : List ℕ} {s : State} {st : code.State} {n : Name} {p : List (List
   pub at-base : (e : Def) → entry (known (s .decls)) base ≡ some e → (e .sort ≡ domain) × Fair t (e .type)
   at-base e q = a-base .typed e (sym (h .names) ∙ q)
 
-  pub is-based : base ≤ st .count → isFound (resolved s b) ≡ ltb 0 base
+  pub is-based : base ≤ st .listing .count → isFound (resolved s b) ≡ ltb 0 base
   is-based l = ap isFound (sym (h .names)) ∙ found-at (known (s .decls)) base (let a = h .keeps .held .all-defs in omega arith)
 
-  pub unbased : base ≤ st .count → ltb 0 base ≡ false → orNoDef (resolved s b) .type ≡ structure
+  pub unbased : base ≤ st .listing .count → ltb 0 base ≡ false → orNoDef (resolved s b) .type ≡ structure
   unbased l e = go (resolved s b) (is-based l ∙ e)
     where
       go : (c : Option Def) → isFound c ≡ false → orNoDef c .type ≡ structure
@@ -288,9 +289,9 @@ module _ {t : List ℕ} {s : State} {st : code.State} {n : Name} {p : List (List
   next-fair e =
       judge-fair t s (declare s (def (newDomain s n p w (resolved s b)))) (U.domain n p b w) (h .comes .fair) (h .comes .stands) (h .keeps .fair) (passed-both s n p b w (h .named) (h .extends) ∙ e)
 
-pub based-of : {t : List ℕ} {s : State} {st : code.State} {n : Name} {p : List (List ℕ)} {b : Option Reference} {w : Written} {o x z y ns ps rs : List ℕ} {d : DomainUnit} {base : ℕ} → Keeps t s st o x z y ns ps → Comes t s (U.domain n p b w) (Domain d) rs
+pub based-of : {t : List ℕ} {s : State} {st : code.State} {n : Name} {p : List (List ℕ)} {b : Option Reference} {w : Written} {o x z y hs rs : List ℕ} {d : DomainUnit} {base : ℕ} → Keeps t s st o x z y hs → Comes t s (U.domain n p b w) (Domain d) rs
     → (q v : Ruling) → q ≡ rulingOf (nameRules s n (w .type)) → q .number ≡ 0 → v ≡ rulingOf (extendsRules domain b (resolved s b)) → v .number ≡ 0 → entry (known (s .decls)) base ≡ resolved s b
-    → Extending t s st n p b w o x z y ns ps rs d base
+    → Extending t s st n p b w o x z y hs rs d base
 based-of k h q v e f g i j = record {
   keeps = k;
   comes = h;
@@ -300,45 +301,45 @@ based-of k h q v e f g i j = record {
 }
 
 -- ---- the base's type and the own
-module _ {t : List ℕ} {s : State} {st : code.State} {n : Name} {p : List (List ℕ)} {b : Option Reference} {w : Written} {o x z y ns ps rs : List ℕ} {d : DomainUnit} {base : ℕ} (h : Extending t s st n p b w o x z y ns ps rs d base) (low : base ≤ st .count) where
+module _ {t : List ℕ} {s : State} {st : code.State} {n : Name} {p : List (List ℕ)} {b : Option Reference} {w : Written} {o x z y hs rs : List ℕ} {d : DomainUnit} {base : ℕ} (h : Extending t s st n p b w o x z y hs rs d base) (low : base ≤ st .listing .count) where
   abbrev unit : d ≡ domainOf n p b w
   unit = is-unit h
 
   abbrev kind : Ty
   kind = orNoDef (resolved s b) .type
 
-  pub base-typed : (r : Typing) → ((t : List ℕ) (ks : List Def) (ms : List Attribute) (count : ℕ) (y : List ℕ) (total : ℕ) → base ≤ count → Held t (take (st .used) o) ks ms x count y total
-      → ((d : Def) → entry ks base ≡ some d → (d .sort ≡ domain) × Fair t (d .type)) → Typed t (take (st .used) o) (orNoDef (entry ks base) .type) r) → Typed t (take (st .used) o) kind r
+  pub base-typed : (r : Typing) → ((t : List ℕ) (ks : List Def) (ms : List Attribute) (count : ℕ) (y : List ℕ) (total : ℕ) → base ≤ count → Held t (take (st .extent .used) o) ks ms x count y total
+      → ((d : Def) → entry ks base ≡ some d → (d .sort ≡ domain) × Fair t (d .type)) → Typed t (take (st .extent .used) o) (orNoDef (entry ks base) .type) r) → Typed t (take (st .extent .used) o) kind r
   base-typed r f =
-      let held = subst (λ (e : List ℕ). Held t e (known (s .decls)) (attributesIn s) x (st .count) y (st .total)) (sym (h .keeps .written)) (h .keeps .held) in
-      subst (λ (c : Option Def). Typed t (take (st .used) o) (orNoDef c .type) r) (h .names)
-      (f t (known (s .decls)) (attributesIn s) (st .count) y (st .total) low held (at-base h))
+      let held = subst (λ (e : List ℕ). Held t e (known (s .decls)) (attributesIn s) x (st .listing .count) y (st .listing .total)) (sym (h .keeps .written)) (h .keeps .held) in
+      subst (λ (c : Option Def). Typed t (take (st .extent .used) o) (orNoDef c .type) r) (h .names)
+      (f t (known (s .decls)) (attributesIn s) (st .listing .count) y (st .listing .total) low held (at-base h))
 
-  module _ (of own : Typing) (ty : Typed t (take (st .used) o) kind of) (f : (v : Option WrittenType) (k : Ty) → d .written .meant ≡ anyOf v → Valued k of → Valued (domainType v k) own) where
+  module _ (of own : Typing) (ty : Typed t (take (st .extent .used) o) kind of) (f : (v : Option WrittenType) (k : Ty) → d .written .meant ≡ anyOf v → Valued k of → Valued (domainType v k) own) where
     pub own-valued : Valued (domainType (w .type) kind) own
-    own-valued = f (w .type) kind (ap (λ (u : DomainUnit). u .written .meant) unit) (typed-valued t (take (st .used) o) kind of ty)
+    own-valued = f (w .type) kind (ap (λ (u : DomainUnit). u .written .meant) unit) (typed-valued t (take (st .extent .used) o) kind of ty)
 
     pub own-sized : Sized own × Sized of
     own-sized =
         let e = a-base h .fair in
-        (sized-meant t (w .type) kind own (h .comes .fair .2 .type) e own-valued, sized-base t kind of e (typed-valued t (take (st .used) o) kind of ty))
+        (sized-meant t (w .type) kind own (h .comes .fair .2 .type) e own-valued, sized-base t kind of e (typed-valued t (take (st .extent .used) o) kind of ty))
 
     -- what lay_written ensures of this domain
     pub laid : (o₂ : List ℕ) (a : code-laying.Laying) → ((v : Option WrittenType) (k : Ty) → d .written .meant ≡ anyOf v → referenceIn v ≡ none → AnyIs (Begins (d .written .place)) v → Scratched t rs v → Once v
-        → FairOrNone t k → (ltb 0 base ≡ false → k ≡ structure) → Valued (domainType v k) own → Typed t (take (st .used) o) k of
-        → LaidWhen (ltb 0 (rulingOf (writtenRules (ltb 0 base) (d .written .place) v k) .number)) (rulingOf (writtenRules (ltb 0 base) (d .written .place) v k)) (typeRecords (domainType v k)) (st .used + 11) o o₂ a)
-        → LaidWhen (ltb 0 (rulingOf (writtenRules (isFound (resolved s b)) (w .place) (w .type) kind) .number)) (rulingOf (writtenRules (isFound (resolved s b)) (w .place) (w .type) kind)) (typeRecords (domainType (w .type) kind)) (st .used + 11) o o₂ a
+        → FairOrNone t k → (ltb 0 base ≡ false → k ≡ structure) → Valued (domainType v k) own → Typed t (take (st .extent .used) o) k of
+        → LaidWhen (ltb 0 (rulingOf (writtenRules (ltb 0 base) (d .written .place) v k) .number)) (rulingOf (writtenRules (ltb 0 base) (d .written .place) v k)) (typeRecords (domainType v k)) (st .extent .used + headSize) o o₂ a)
+        → LaidWhen (ltb 0 (rulingOf (writtenRules (isFound (resolved s b)) (w .place) (w .type) kind) .number)) (rulingOf (writtenRules (isFound (resolved s b)) (w .place) (w .type) kind)) (typeRecords (domainType (w .type) kind)) (st .extent .used + headSize) o o₂ a
     laid o₂ a g =
         let i : d .written .place ≡ w .place = ap (λ (u : DomainUnit). u .written .place) unit in
         let r = g (w .type) kind (ap (λ (u : DomainUnit). u .written .meant) unit) (h .comes .fair .3) (rw i (h .comes .fair .2 .begins)) (unit-scratch (h .comes))
         (once h) (a-base h .fair) (unbased h low) own-valued ty in
-        subst (λ (u : Bool). LaidWhen (ltb 0 (rulingOf (writtenRules u (w .place) (w .type) kind) .number)) (rulingOf (writtenRules u (w .place) (w .type) kind)) (typeRecords (domainType (w .type) kind)) (st .used + 11) o o₂ a)
+        subst (λ (u : Bool). LaidWhen (ltb 0 (rulingOf (writtenRules u (w .place) (w .type) kind) .number)) (rulingOf (writtenRules u (w .place) (w .type) kind)) (typeRecords (domainType (w .type) kind)) (st .extent .used + headSize) o o₂ a)
         (sym (is-based h low)) (rw i at r)
 
     -- where no rule is broken
-    pub whole : (o₂ : List ℕ) (a : code-laying.Laying) → LaidWhen (ltb 0 (rulingOf (writtenRules (isFound (resolved s b)) (w .place) (w .type) kind) .number)) (rulingOf (writtenRules (isFound (resolved s b)) (w .place) (w .type) kind)) (typeRecords (domainType (w .type) kind)) (st .used + 11) o o₂ a
-        → (z : Size) → a ≡ Whole z → (z ≡ sizeOf (typeRecords (domainType (w .type) kind))) × (st .used + 11 + length (bytes (typeRecords (domainType (w .type) kind))) ≤ length o → o₂ ≡ splice o (st .used + 11) (bytes (typeRecords (domainType (w .type) kind))))
-    whole o₂ a l z e = let v = whole-laid (ltb 0 (rulingOf (writtenRules (isFound (resolved s b)) (w .place) (w .type) kind) .number)) (rulingOf (writtenRules (isFound (resolved s b)) (w .place) (w .type) kind)) (typeRecords (domainType (w .type) kind)) (st .used + 11) o o₂ a z l e in (v .0, v .2)
+    pub whole : (o₂ : List ℕ) (a : code-laying.Laying) → LaidWhen (ltb 0 (rulingOf (writtenRules (isFound (resolved s b)) (w .place) (w .type) kind) .number)) (rulingOf (writtenRules (isFound (resolved s b)) (w .place) (w .type) kind)) (typeRecords (domainType (w .type) kind)) (st .extent .used + headSize) o o₂ a
+        → (z : Size) → a ≡ Whole z → (z ≡ sizeOf (typeRecords (domainType (w .type) kind))) × (st .extent .used + headSize + length (bytes (typeRecords (domainType (w .type) kind))) ≤ length o → o₂ ≡ splice o (st .extent .used + headSize) (bytes (typeRecords (domainType (w .type) kind))))
+    whole o₂ a l z e = let v = whole-laid (ltb 0 (rulingOf (writtenRules (isFound (resolved s b)) (w .place) (w .type) kind) .number)) (rulingOf (writtenRules (isFound (resolved s b)) (w .place) (w .type) kind)) (typeRecords (domainType (w .type) kind)) (st .extent .used + headSize) o o₂ a z l e in (v .0, v .2)
 
 -- ---- a lent table or buffer keeps its length
 pub still : {n a b : ℕ} → a ≡ b → n ≤ 2 * b → n ≤ 2 * a

@@ -3,20 +3,29 @@ use mathlib.Core.Path.{_≡_}
 use mathlib.Core.Bool.{not, _&&_, _||_}
 use mathlib.Core.Option.{Option}
 use mathlib.Core.List.{List, [], _∷_}
-use Prim.Native.Nat.{ℕ}
+use Prim.Native.Nat.{ℕ, _+_, _≤_}
+use lib.ListN.{length}
 use Rattle.rules.specs.Names.{Name}
 use Rattle.rules.specs.Grammar.{Reference, WrittenType, Written}
 use Rattle.rules.specs.Units as U
 use Rattle.rules.specs.Types.{Ty}
-use Rattle.rules.specs.Declarations.{Def, State, domain, isFound, atHand, known}
-use Rattle.rules.specs.Judge.{Rule, rule, hasTwice, isAbstract, isFinal, isNumeric, orNoDef, resolved, domainType, elementRule, extendsRules}
+use Rattle.rules.specs.Declarations.{Def, State, domain, def, isFound, atHand, known}
+use Rattle.rules.specs.Judge.{Judged, Rule, rule, firstBrokenOr, declare, newDomain, hasTwice, isAbstract, isFinal, isNumeric, orNoDef, resolved, domainType, elementRule, extendsRules}
+use Rattle.rules.specs.Book.{Record, bytes, typeRecords}
+use Rattle.ground.specs.Parts.{splice}
+use Rattle.ground.specs.declared.Name as code-name
+use Rattle.book.specs.Sizes.{headSize}
+use Rattle.enumerations.specs.declared.Size.{Size}
+use Rattle.enumerations.specs.Records.{sizeOf}
 use Rattle.names.specs.Index.{entry}
+use Rattle.names.specs.declared.NewDefinition.{NewDefinition}
 use Rattle.units.specs.declared.DomainUnit.{DomainUnit}
 use Rattle.units.specs.declared.Unit.the-variants.{Domain}
 use Rattle.types.specs.Rulings.{rulingOf}
 use Rattle.state.specs.declared.State as code
+use Rattle.state.specs.Parts.{indexIn, chainsIn, rowsIn}
 use Rattle.state.specs.Keeping.{Keeps, Comes}
-use Rattle.domains.specs.Written.{writtenRules}
+use Rattle.written.specs.Written.{writtenRules}
 
 -- 9
 abbrev pub nameRules : State → Name → Option WrittenType → List Rule
@@ -30,10 +39,56 @@ headRule n p x = rule 13 (n .offset) (hasTwice p || ((isAbstract p && isFinal p)
 abbrev pub rulesFrom13 : Name → List (List ℕ) → Written → Option Def → List Rule
 rulesFrom13 n p w o = headRule n p (domainType (w .type) (orNoDef o .type)) ∷ writtenRules (isFound o) (w .place) (w .type) (orNoDef o .type)
 
+-- the first that is broken, or the domain declared
+abbrev pub fromRule13 : State → Name → List (List ℕ) → Option Reference → Written → Judged
+fromRule13 s n p b w = firstBrokenOr (rulesFrom13 n p w (resolved s b)) (declare s (def (newDomain s n p w (resolved s b))))
+
 -- a domain breaks none of 9 to 12, and its base is the definition at a position
-pub record Extending (t : List ℕ) (s : State) (st : code.State) (n : Name) (p : List (List ℕ)) (b : Option Reference) (w : Written) (o x z y ns ps rs : List ℕ) (d : DomainUnit) (base : ℕ) : Type 0 where
-  pub keeps : Keeps t s st o x z y ns ps
+pub record Extending (t : List ℕ) (s : State) (st : code.State) (n : Name) (p : List (List ℕ)) (b : Option Reference) (w : Written) (o x z y hs rs : List ℕ) (d : DomainUnit) (base : ℕ) : Type 0 where
+  pub keeps : Keeps t s st o x z y hs
   pub comes : Comes t s (U.domain n p b w) (Domain d) rs
   pub named : rulingOf (nameRules s n (w .type)) .number ≡ 0
   pub extends : rulingOf (extendsRules domain b (resolved s b)) .number ≡ 0
   pub names : entry (known (s .decls)) base ≡ resolved s b
+
+-- the records of its type
+abbrev pub recordsOf : State → Option Reference → Written → List Record
+recordsOf s b w = typeRecords (domainType (w .type) (orNoDef (resolved s b) .type))
+
+-- the state in which it is declared
+abbrev pub declaredIn : State → Name → List (List ℕ) → Option Reference → Written → State
+declaredIn s n p b w = declare s (def (newDomain s n p w (resolved s b)))
+
+-- Extending, with all rows and chains in the one slice v
+abbrev pub ExtendingIn : List ℕ → State → code.State → Name → List (List ℕ) → Option Reference → Written → List ℕ → List ℕ → List ℕ → List ℕ → DomainUnit → ℕ → Type 0
+ExtendingIn t s st n p b w o v hs rs d base =
+    let l = st .listing .layout in
+    Extending t s st n p b w o (indexIn l v) (chainsIn l v) (rowsIn l v) hs rs d base
+
+-- the row of a domain
+abbrev pub domainDefinition : code.State → code-name.Name → ℕ → ℕ → NewDefinition
+domainDefinition st n f base = record {
+  name = n;
+  home = st .context .home;
+  number = st .extent .records;
+  sort = 3;
+  flags = f;
+  place = st .extent .used;
+  base = base;
+  first = st .listing .total;
+}
+
+-- the records rs stand behind room for a head, if they fit
+pub record LaidBehind (rs : List Record) (st : code.State) (o o′ : List ℕ) (size : Size) : Type 0 where
+  pub sized : size ≡ sizeOf rs
+  pub laid : st .extent .used + headSize + length (bytes rs) ≤ length o → o′ ≡ splice o (st .extent .used + headSize) (bytes rs)
+
+-- some domain is Extending; and the records of its type are of that size
+abbrev pub SomeExtending : List ℕ → code.State → List ℕ → List ℕ → List ℕ → DomainUnit → ℕ → Type 0
+SomeExtending t st o v rs d base =
+    (s : State) × (n : Name) × (p : List (List ℕ)) × (b : Option Reference) × (w : Written) × (hs : List ℕ) × ExtendingIn t s st n p b w o v hs rs d base
+
+abbrev pub SomeSized : List ℕ → code.State → ℕ → List ℕ → DomainUnit → ℕ → Size → Type 0
+SomeSized t st m v d base size =
+    (s : State) × (n : Name) × (p : List (List ℕ)) × (b : Option Reference) × (w : Written) × (o : List ℕ) × (hs : List ℕ) × (rs : List ℕ)
+    × ExtendingIn t s st n p b w o v hs rs d base × (length o ≡ m) × (size ≡ sizeOf (recordsOf s b w))

@@ -2,10 +2,10 @@
 use mathlib.Core.Path.{_≡_, refl, sym, ap, _∙_, subst}
 use mathlib.Core.Bool.{true, false}
 use mathlib.Core.List.{List, [], _∷_, _++_, append-assoc}
-use Prim.Native.Nat.{ℕ, zero, suc, _≤_, _<_}
+use Prim.Native.Nat.{ℕ, zero, suc, _-_, _≤_, _<_}
 use native.Mathlib.Omega.{arith}
 use lib.ListN.{length}
-use borrow.Author.Tests.{lt-ltb, le-ltb, eq-eqb}
+use borrow.Author.Tests.{lt-ltb, eq-eqb}
 use Rattle.rules.specs.Bytes.{ascii}
 use Rattle.rules.specs.Names.{Name}
 use Rattle.rules.specs.Symbols as rules
@@ -33,7 +33,7 @@ use Rattle.elements.proofs.PutLaws.{put-put, put-closed}
 -- ---- at a symbol of the text, one more of the fuel changes nothing
 module _ (t : List ℕ) (d : ℕ) where
   pub enumeration-reads : {P : Enum → Type 0} {y n : Symbol} →
-      Reads t (openingBracket d >> ifNext (isWord (ascii "FINAL")) closeFinal (elements (enough t) d)) P y n → Reads t (enumeration (enough t) d) P y n
+      Reads t (openingBracket d >> ifNext (isWord (ascii "FINAL")) closeFinal (elements (enough t) (d - 1))) P y n → Reads t (enumeration (enough t) d) P y n
   unfolding enumeration
   enumeration-reads r =
       record {
@@ -42,7 +42,7 @@ module _ (t : List ℕ) (d : ℕ) where
       }
 
   pub element-reads : {P : Element → Type 0} {y n : Symbol} →
-      Reads t (aName >>= λ a. ifNext (isMark "(") (enumeration (enough t) (suc d)) (ret (end false)) >>= λ i. ret (record { name = a; inner = i })) P y n →
+      Reads t (aName >>= λ a. ifNext (isMark "(") (enumeration (enough t) d) (ret (end false)) >>= λ i. ret (record { name = a; inner = i })) P y n →
       Reads t (element (enough t) d) P y n
   unfolding enumeration
   element-reads r =
@@ -63,15 +63,15 @@ module _ (t : List ℕ) (d : ℕ) where
 
 -- ---- the bracket
 module _ {t : List ℕ} {d : ℕ} {y n : Symbol} where
-  pub opened : d < 8 → n ≡ passed t y 40 → Reads t (openingBracket d) (λ _. Unit {0}) y n
+  pub opened : 0 < d → n ≡ passed t y 40 → Reads t (openingBracket d) (λ _. Unit {0}) y n
   opened h e =
       bind (expected (is-mark "(" (omega arith) (omega arith)) e)
-      (λ a q. record { reads = λ z c. rw (lt-ltb d 8 h) (record { next = c; value = tt }); passes = λ f p c. c }) (λ f p c. c)
+      (λ a q. record { reads = λ z c. rw (lt-ltb 0 d h) (record { next = c; value = tt }); passes = λ f p c. c }) (λ f p c. c)
 
-  pub too-deep : {A : Type 0} {P : A → Type 0} (k : Reader A) → 8 ≤ d → y .code ≡ 40 → n ≡ made 5 4 (y .place) 0 → Reads t (openingBracket d >> k) P y n
+  pub too-deep : {A : Type 0} {P : A → Type 0} (k : Reader A) → d ≡ 0 → y .code ≡ 40 → n ≡ made 5 4 (y .place) 0 → Reads t (openingBracket d >> k) P y n
   too-deep k h o e =
       record {
-        reads = λ z c. rw (is-yes (is-mark "(" (omega arith) (omega arith)) o z c, le-ltb d 8 h)
+        reads = λ z c. rw (is-yes (is-mark "(" (omega arith) (omega arith)) o z c, h)
             (record { next = record { cuts = e ∙ rw (c .cuts); stands = fault-stands t too-large (z .place) (let l = c .stands .ends in omega arith) }; value = tt });
         passes = λ f p c. absurd (let q : 5 ≡ 40 = rw (c .cuts) at o in omega arith);
       }
@@ -212,8 +212,8 @@ listed : (f d : ℕ) (t : List ℕ) (z : rules.Symbol) → On Listed (enumeratio
 unfolding enumeration
 listed zero d t z = tt
 listed (suc f) d t z =
-    on-then Listed t (openingBracket d t z) (λ a. ifNext (isWord (ascii "FINAL")) closeFinal (elements f d))
-    (λ a v. either (On Listed) (isWord (ascii "FINAL") v) (λ _. final-listed t v) (λ _. elements-listed f d t v))
+    on-then Listed t (openingBracket d t z) (λ a. ifNext (isWord (ascii "FINAL")) closeFinal (elements f (d - 1)))
+    (λ a v. either (On Listed) (isWord (ascii "FINAL") v) (λ _. final-listed t v) (λ _. elements-listed f (d - 1) t v))
 
 pub also : {A : Type 0} {t : List ℕ} {R : Reader A} {P Q : A → Type 0} {y n : Symbol} → Reads t R P y n → ((z : rules.Symbol) → On Q (R t z)) →
     Reads t R (λ a. P a × Q a) y n
@@ -233,10 +233,10 @@ module _ (t : List ℕ) (d : ℕ) {y z : Symbol} (e : z ≡ passed t y 1) (o p :
       (if-false (isMark "(") _ _ (is-no (is-mark "(" (omega arith) (omega arith)) k) (stay {P = λ x. x ≡ end false} (end false) refl))
       (λ x f. rw f (subst (λ (l : List ℕ). Put o p i l j) (named-record y a q) h))) (λ f p c. c))
 
-  pub branch : (q : List ℕ) (r : ℕ) {n : Symbol} → length p ≡ length o → z .code ≡ 40 → Reads t (enumeration (enough t) (suc d)) (λ x. Put p q j (listBytes x) r) z n →
+  pub branch : (q : List ℕ) (r : ℕ) {n : Symbol} → length p ≡ length o → z .code ≡ 40 → Reads t (enumeration (enough t) d) (λ x. Put p q j (listBytes x) r) z n →
       Reads t (element (enough t) d) (λ x. Put o q i (elementBytes x) r) y n
   branch q r l k g =
       element-reads t d (bind (a-name e) (λ a u. mapped (λ x. record { name = a; inner = x })
-      (if-true (isMark "(") _ _ (is-yes (is-mark "(" (omega arith) (omega arith)) k) (also g (λ w. listed (enough t) (suc d) t w)))
+      (if-true (isMark "(") _ _ (is-yes (is-mark "(" (omega arith) (omega arith)) k) (also g (λ w. listed (enough t) d t w)))
       (λ x f. rw (f .1 (openRecord x ∷ elementRecords x)) (put-put o p q i j r (nameRecord 14 a) (listBytes x) l (subst (λ (v : List ℕ). Put o p i v j) (named-record y a u) h) (f .0))))
       (g .passes))

@@ -2,7 +2,7 @@
 use mathlib.Core.Path.{ap}
 use mathlib.Core.Bool.{true, false}
 use mathlib.Core.List.{List, _∷_}
-use Prim.Native.Nat.{ℕ, zero, suc, _+_, _*_, _≤_}
+use Prim.Native.Nat.{ℕ, zero, suc, _+_, _-_, _*_, _≤_}
 use native.Mathlib.Nat.{le-refl}
 use native.Mathlib.Omega.{arith}
 use lib.ListN.{length, length-append}
@@ -10,7 +10,7 @@ use Rattle.rules.specs.Bytes.{ascii}
 use Rattle.rules.specs.Symbols.{Symbol, isMark, isWord}
 use Rattle.rules.specs.Readers.{Result, done, refused, Reader, andThen, _>>=_, _>>_, ret, aName, theMark, theWord, ifNext}
 use Rattle.rules.specs.Enumerations.{Enum, end, elem}
-use Rattle.rules.specs.Grammar.{enough, closeFinal, openingBracket, enumeration, elements, element}
+use Rattle.rules.specs.Grammar.{enough, closeFinal, deepest, openingBracket, enumeration, elements, element}
 use Rattle.rules.specs.Book.{innerRecords, openRecord, elementRecords, bytes}
 use Rattle.rules.proofs.SymbolLaws.{either, Lies, lies-from}
 use Rattle.rules.proofs.ForwardLaws.{Ends, Forward, the-mark, the-word, a-name, opening-forward}
@@ -69,9 +69,9 @@ module _ (t : List ℕ) where
     enumeration-spent : (f d i : ℕ) (z : Symbol) → Lies 0 (length t) z → i ≤ z .place → Spent (λ e. length (listBytes e)) 0 t i (enumeration f d t z)
     enumeration-spent zero d i z l s = tt
     enumeration-spent (suc f) d i z l s =
-        then-spent (λ _. 3) 0 i (λ e. length (listBytes e)) 0 i t (openingBracket d t z) (λ _. ifNext (isWord (ascii "FINAL")) closeFinal (elements f d)) (paid t i z (opening-forward d) l s)
-        (λ a w h k. less-spent sizeOf 1 (suc i) (λ e. length (listBytes e)) 0 i t (ifNext (isWord (ascii "FINAL")) closeFinal (elements f d) t w)
-        (either (Spent sizeOf 1 t (suc i)) (isWord (ascii "FINAL") w) (λ _. final-spent i w k (omega arith)) (λ _. elements-spent f d (suc i) w k (omega arith))) (λ e n g. omega arith))
+        then-spent (λ _. 3) 0 i (λ e. length (listBytes e)) 0 i t (openingBracket d t z) (λ _. ifNext (isWord (ascii "FINAL")) closeFinal (elements f (d - 1))) (paid t i z (opening-forward d) l s)
+        (λ a w h k. less-spent sizeOf 1 (suc i) (λ e. length (listBytes e)) 0 i t (ifNext (isWord (ascii "FINAL")) closeFinal (elements f (d - 1)) t w)
+        (either (Spent sizeOf 1 t (suc i)) (isWord (ascii "FINAL") w) (λ _. final-spent i w k (omega arith)) (λ _. elements-spent f (d - 1) (suc i) w k (omega arith))) (λ e n g. omega arith))
 
     elements-spent : (f d i : ℕ) (z : Symbol) → Lies 0 (length t) z → i ≤ z .place → Spent sizeOf 1 t i (elements f d t z)
     elements-spent zero d i z l s = tt
@@ -88,12 +88,12 @@ module _ (t : List ℕ) where
     element-spent : (f d i : ℕ) (z : Symbol) → Lies 0 (length t) z → i ≤ z .place → Spent (λ e. length (elementBytes e)) 3 t i (element f d t z)
     element-spent zero d i z l s = tt
     element-spent (suc f) d i z l s =
-        let inner = ifNext (isMark "(") (enumeration f (suc d)) (ret (end false)) in
+        let inner = ifNext (isMark "(") (enumeration f d) (ret (end false)) in
         let size : Enum → ℕ = λ x. length (bytes (innerRecords x (openRecord x ∷ elementRecords x))) in
         then-spent (λ _. 3) 0 i (λ e. length (elementBytes e)) 3 i t (aName t z) (λ n. inner >>= λ x. ret (record { name = n; inner = x })) (paid t i z a-name l s)
         (λ a w h k. then-spent size 0 (w .place) (λ e. length (elementBytes e)) 3 i t (inner t w) (λ x. ret (record { name = a; inner = x }))
         (either (Spent size 0 t (w .place)) (isMark "(" w)
-        (λ _. less-spent (λ e. length (listBytes e)) 0 (w .place) size 0 (w .place) t (enumeration f (suc d) t w) (enumeration-spent f (suc d) (w .place) w k (omega arith))
+        (λ _. less-spent (λ e. length (listBytes e)) 0 (w .place) size 0 (w .place) t (enumeration f d t w) (enumeration-spent f d (w .place) w k (omega arith))
         (λ e n g. let q = inner-size e in omega arith)) (λ _. (omega arith, k)))
         (λ x v g m. (omega arith, m)))
 
@@ -104,9 +104,9 @@ enumeration-size t d z s = go (enumeration (enough t) d t z) (enumeration-spent 
     go (done e w) (h, l) = let q = l .ends in omega arith
     go (refused f p) h = tt
 
-pub fits-whole : (t o p : List ℕ) (r : ℕ) {y n : code.Symbol} → Held t y → 3 * length t ≤ length o → Reads t (enumeration (enough t) 0) (λ e. Put o p 0 (listBytes e) r) y n →
-    Reads t (enumeration (enough t) 0) (Whole o p r) y n
-fits-whole t o p r {y} {n} h l g = record { reads = λ z c. go (enumeration (enough t) 0 t z) (g .reads z c) (enumeration-size t 0 z (c .stands)); passes = g .passes }
+pub fits-whole : (t o p : List ℕ) (r : ℕ) {y n : code.Symbol} → Held t y → 3 * length t ≤ length o → Reads t (enumeration (enough t) deepest) (λ e. Put o p 0 (listBytes e) r) y n →
+    Reads t (enumeration (enough t) deepest) (Whole o p r) y n
+fits-whole t o p r {y} {n} h l g = record { reads = λ z c. go (enumeration (enough t) deepest t z) (g .reads z c) (enumeration-size t deepest z (c .stands)); passes = g .passes }
   where
     go : (m : Result Enum) → Gives t m (λ e. Put o p 0 (listBytes e) r) n → On (λ e. length (listBytes e) ≤ 3 * length t) m → Gives t m (Whole o p r) n
     go (done e w) k s = let (a, b) = k .value (omega arith) in record { next = k .next; value = (omega arith, b) }

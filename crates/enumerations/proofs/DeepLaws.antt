@@ -1,13 +1,23 @@
 -- Nested at most 8 deep: inside an element one less, and merging goes no deeper.
 use mathlib.Core.Path.{_≡_, refl, _∙_}
-use mathlib.Core.Bool.{Bool, true, false, cond, _&&_, true≢false}
+use mathlib.Core.Bool.{Bool, true, false, cond, not, _&&_, _||_, true≢false}
 use mathlib.Core.Option.{some}
 use mathlib.Core.List.{List}
 use Prim.Native.Nat.{ℕ, _-_, _<_}
 use Rattle.rules.specs.Bytes.{same}
 use Rattle.rules.specs.Enumerations.{Enum, end, elem, at, inner, has, news, mergeFrom, merge, orEmpty}
 use Rattle.enumerations.specs.Standing.{plain, DeepIn, Deep}
-use Rattle.enumerations.proofs.FrameLaws.{merge-plain}
+
+-- a merged one has no records where neither has
+or-plain : (f g : Bool) → not (f || g) ≡ (not f && not g)
+or-plain true g = refl
+or-plain false g = refl
+
+pub merge-plain : (i j : Enum) → plain (merge i j) ≡ (plain i && plain j)
+merge-plain (end f) (end g) = or-plain f g
+merge-plain (end true) (elem m j r) = refl
+merge-plain (end false) (elem m j r) = refl
+merge-plain (elem n i r) x = refl
 
 -- what is inside an element
 pub deep-of : (k : ℕ) (i : Enum) → DeepIn (plain i) k (Deep (k - 1) i) → Deep (k - 1) i

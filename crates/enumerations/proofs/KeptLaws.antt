@@ -12,7 +12,7 @@ use Rattle.rules.specs.Book.{bytes}
 use Rattle.rules.proofs.MergeLaws.{distinct-merge, once-distinct, distinct-once}
 use Rattle.ground.specs.Parts.{part, splice}
 use Rattle.enumerations.specs.Standing.{Named, Kept, Stands}
-use Rattle.enumerations.specs.Merging.{records}
+use Rattle.enumerations.specs.Records.{records}
 use Rattle.enumerations.proofs.DeepLaws.{deep-merge}
 
 named-inner : (t : List ℕ) (n : List ℕ) (x : Enum) → Named t x → Named t (inner n x)

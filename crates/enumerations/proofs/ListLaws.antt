@@ -14,35 +14,36 @@ use Rattle.ground.specs.Parts.{part}
 use Rattle.enumerations.specs.Lists.{nowhere, isElement, isOpening, endFrom, pastInner, written, sameNames, findFrom}
 use Rattle.book.specs.Names.{Written}
 use Rattle.book.specs.declared.Part.{Part}
+use Rattle.book.specs.Sizes.{elementSize, listSize}
 
 -- ---- the first byte of a record
-pub element-in : (s : List ℕ) (p : ℕ) → isElement s p ≡ true → (p + 6 ≤ length s) × (getD s p 0 ≡ 14)
+pub element-in : (s : List ℕ) (p : ℕ) → isElement s p ≡ true → (p + elementSize ≤ length s) × (getD s p 0 ≡ 14)
 unfolding isElement
 element-in s p h =
-    let q : (leb (p + 6) (length s) ≡ true) × (eqb (getD s p 0) 14 ≡ true) = split h in
+    let q : (leb (p + elementSize) (length s) ≡ true) × (eqb (getD s p 0) 14 ≡ true) = split h in
     (leb-true _ _ (q .0), eqb-true _ _ (q .1))
 
-pub element-short : (s : List ℕ) (p : ℕ) → length s < p + 6 → isElement s p ≡ false
+pub element-short : (s : List ℕ) (p : ℕ) → length s < p + elementSize → isElement s p ≡ false
 unfolding isElement
-element-short s p h = rw (lt-leb (p + 6) (length s) h)
+element-short s p h = rw (lt-leb (p + elementSize) (length s) h)
 
-pub element-byte : (s : List ℕ) (p : ℕ) → p + 6 ≤ length s → isElement s p ≡ eqb (getD s p 0) 14
+pub element-byte : (s : List ℕ) (p : ℕ) → p + elementSize ≤ length s → isElement s p ≡ eqb (getD s p 0) 14
 unfolding isElement
-element-byte s p h = rw (le-leb (p + 6) (length s) h)
+element-byte s p h = rw (le-leb (p + elementSize) (length s) h)
 
-pub opening-in : (s : List ℕ) (p : ℕ) → isOpening s p ≡ true → (p + 2 ≤ length s) × (getD s p 0 ≡ 13)
+pub opening-in : (s : List ℕ) (p : ℕ) → isOpening s p ≡ true → (p + listSize ≤ length s) × (getD s p 0 ≡ 13)
 unfolding isOpening
 opening-in s p h =
-    let q : (leb (p + 2) (length s) ≡ true) × (eqb (getD s p 0) 13 ≡ true) = split h in
+    let q : (leb (p + listSize) (length s) ≡ true) × (eqb (getD s p 0) 13 ≡ true) = split h in
     (leb-true _ _ (q .0), eqb-true _ _ (q .1))
 
-pub opening-short : (s : List ℕ) (p : ℕ) → length s < p + 2 → isOpening s p ≡ false
+pub opening-short : (s : List ℕ) (p : ℕ) → length s < p + listSize → isOpening s p ≡ false
 unfolding isOpening
-opening-short s p h = rw (lt-leb (p + 2) (length s) h)
+opening-short s p h = rw (lt-leb (p + listSize) (length s) h)
 
-pub opening-byte : (s : List ℕ) (p : ℕ) → p + 2 ≤ length s → isOpening s p ≡ eqb (getD s p 0) 13
+pub opening-byte : (s : List ℕ) (p : ℕ) → p + listSize ≤ length s → isOpening s p ≡ eqb (getD s p 0) 13
 unfolding isOpening
-opening-byte s p h = rw (le-leb (p + 2) (length s) h)
+opening-byte s p h = rw (le-leb (p + listSize) (length s) h)
 
 -- the flag of an opening, read again
 pub bit-one : (f : Bool) → eqb (bit f 1) 1 ≡ f
@@ -56,11 +57,11 @@ end-out zero s p k c h = refl
 end-out (suc f) s p k c h = rw (le-leb (length s) p h)
 
 module _ (f : ℕ) (s : List ℕ) (p k c : ℕ) (h : p < length s) where
-  pub end-element : getD s p 0 ≡ 14 → endFrom (suc f) s p k c ≡ endFrom f s (p + 6) k (c + 1)
+  pub end-element : getD s p 0 ≡ 14 → endFrom (suc f) s p k c ≡ endFrom f s (p + elementSize) k (c + 1)
   unfolding endFrom
   end-element e = rw (lt-leb (length s) p h, e)
 
-  pub end-opening : getD s p 0 ≡ 13 → endFrom (suc f) s p k c ≡ endFrom f s (p + 2) (k + 1) (c + 1)
+  pub end-opening : getD s p 0 ≡ 13 → endFrom (suc f) s p k c ≡ endFrom f s (p + listSize) (k + 1) (c + 1)
   unfolding endFrom
   end-opening e = rw (lt-leb (length s) p h, e)
 
@@ -94,12 +95,12 @@ unfolding sameNames
 names-out-b t a b p = fail-r (leb (a .start + a .len) (length t)) (rw p)
 
 -- ---- a step of the search
-pub find-here : (f : ℕ) (t s : List ℕ) (p : ℕ) (n : Part) → isElement s p ≡ true → sameNames t n (written s p) ≡ true → findFrom (suc f) t s p n ≡ p + 6
+pub find-here : (f : ℕ) (t s : List ℕ) (p : ℕ) (n : Part) → isElement s p ≡ true → sameNames t n (written s p) ≡ true → findFrom (suc f) t s p n ≡ p + elementSize
 unfolding findFrom
 find-here f t s p n e h = rw (e, h)
 
 pub find-next : (f : ℕ) (t s : List ℕ) (p : ℕ) (n : Part) → isElement s p ≡ true → sameNames t n (written s p) ≡ false →
-    findFrom (suc f) t s p n ≡ findFrom f t s (pastInner s (p + 6)) n
+    findFrom (suc f) t s p n ≡ findFrom f t s (pastInner s (p + elementSize)) n
 unfolding findFrom
 find-next f t s p n e h = rw (e, h)
 

@@ -16,12 +16,13 @@ use Rattle.rules.proofs.Tests.{fail-r}
 use Rattle.enumerations.specs.Lists.{nowhere, isElement, isOpening, endFrom, pastInner, innerAt, written, sameNames, findFrom}
 use Rattle.enumerations.specs.Standing.{InText, plain, partOf, endOf, InsideBy, ListAt, InsideAt, ElementsAt}
 use Rattle.enumerations.proofs.ListLaws.{bit-one, element-in, element-short, opening-in, opening-short, end-element, end-opening, end-last, end-close, names-in, find-here, find-next, find-none}
-use Rattle.enumerations.specs.declared.lists.End.{End}
-use Rattle.enumerations.specs.declared.lists.Inner.{Inner}
+use Rattle.enumerations.specs.declared.End.{End}
+use Rattle.enumerations.specs.declared.Inner.{Inner}
+use Rattle.book.specs.Sizes.{elementSize, listSize}
 
 -- behind an element
 abbrev pub nextOf : Enum → ℕ → ℕ
-nextOf i p = cond (plain i) (p + 6) (endOf i (p + 6 + 2))
+nextOf i p = cond (plain i) (p + elementSize) (endOf i (p + elementSize + listSize))
 
 -- how many records the list has, its close with them
 abbrev pub count : Enum → ℕ
@@ -30,7 +31,7 @@ count (elem n i r) = suc (cond (plain i) 0 (suc (count i)) + count r)
 
 close-no-element : (s : List ℕ) (p : ℕ) → getD s p 0 ≡ 15 → isElement s p ≡ false
 unfolding isElement
-close-no-element s p e = rw e (fail-r (leb (p + 6) (length s)) refl)
+close-no-element s p e = rw e (fail-r (leb (p + elementSize) (length s)) refl)
 
 pub list-elements : (t s : List ℕ) (e : Enum) (p : ℕ) → ListAt t s e p → ElementsAt t s e p
 list-elements t s (end f) p h = close-no-element s p (h .1)
@@ -38,16 +39,16 @@ list-elements t s (elem n i r) p h = (h .0, h .1, list-elements t s r _ (h .2))
 
 pub end-gt : (e : Enum) (p : ℕ) → p < endOf e p
 end-gt (end f) p = omega arith
-end-gt (elem n i r) p = go (plain i) (end-gt i (p + 6 + 2)) (λ q. end-gt r q)
+end-gt (elem n i r) p = go (plain i) (end-gt i (p + elementSize + listSize)) (λ q. end-gt r q)
   where
-    go : (b : Bool) → p + 6 + 2 < endOf i (p + 6 + 2) → ((q : ℕ) → q < endOf r q) → p < endOf r (cond b (p + 6) (endOf i (p + 6 + 2)))
-    go true g h = omega (arith, h (p + 6))
-    go false g h = omega (arith, h (endOf i (p + 6 + 2)))
+    go : (b : Bool) → p + elementSize + listSize < endOf i (p + elementSize + listSize) → ((q : ℕ) → q < endOf r q) → p < endOf r (cond b (p + elementSize) (endOf i (p + elementSize + listSize)))
+    go true g h = omega (arith, h (p + elementSize))
+    go false g h = omega (arith, h (endOf i (p + elementSize + listSize)))
 
-pub next-gt : (i : Enum) (p : ℕ) → p + 6 ≤ nextOf i p
-next-gt i p = go (plain i) (end-gt i (p + 6 + 2))
+pub next-gt : (i : Enum) (p : ℕ) → p + elementSize ≤ nextOf i p
+next-gt i p = go (plain i) (end-gt i (p + elementSize + listSize))
   where
-    go : (b : Bool) → p + 6 + 2 < endOf i (p + 6 + 2) → p + 6 ≤ cond b (p + 6) (endOf i (p + 6 + 2))
+    go : (b : Bool) → p + elementSize + listSize < endOf i (p + elementSize + listSize) → p + elementSize ≤ cond b (p + elementSize) (endOf i (p + elementSize + listSize))
     go true h = omega arith
     go false h = omega arith
 
@@ -85,11 +86,11 @@ module _ (t s : List ℕ) where
       let u = element-in s p (h .0 .there) in
       end-element f s p k c (omega arith) (u .1) ∙ go (plain i) (h .1) (h .2) q
     where
-      go : (b : Bool) → InsideBy b s (final i) (p + 6) (ListAt t s i (p + 6 + 2)) → ListAt t s e (cond b (p + 6) (endOf i (p + 6 + 2))) →
-          ((g d : ℕ) → d ≡ c + suc (cond b 0 (suc (count i)) + count e) → length s - endOf e (cond b (p + 6) (endOf i (p + 6 + 2))) < g →
-          endTo g s (endOf e (cond b (p + 6) (endOf i (p + 6 + 2)))) k d ≡ r) → endFrom f s (p + 6) k (c + 1) ≡ r
-      go true a b q = let u = element-in s p (h .0 .there) in jh (p + 6) b k (c + 1) r (λ g d v y. q g d (omega arith) y) f (omega arith)
-      go false a b q = let u = element-in s p (h .0 .there) in inner-passes i e ih jh (p + 6) a b k (c + 1) r (λ g d v y. q g d (omega arith) y) f (omega arith)
+      go : (b : Bool) → InsideBy b s (final i) (p + elementSize) (ListAt t s i (p + elementSize + listSize)) → ListAt t s e (cond b (p + elementSize) (endOf i (p + elementSize + listSize))) →
+          ((g d : ℕ) → d ≡ c + suc (cond b 0 (suc (count i)) + count e) → length s - endOf e (cond b (p + elementSize) (endOf i (p + elementSize + listSize))) < g →
+          endTo g s (endOf e (cond b (p + elementSize) (endOf i (p + elementSize + listSize)))) k d ≡ r) → endFrom f s (p + elementSize) k (c + 1) ≡ r
+      go true a b q = let u = element-in s p (h .0 .there) in jh (p + elementSize) b k (c + 1) r (λ g d v y. q g d (omega arith) y) f (omega arith)
+      go false a b q = let u = element-in s p (h .0 .there) in inner-passes i e ih jh (p + elementSize) a b k (c + 1) r (λ g d v y. q g d (omega arith) y) f (omega arith)
 
   passes : (e : Enum) → Passes e
   passes (end b) = close-passes b
@@ -114,7 +115,7 @@ module _ (t s : List ℕ) where
   -- past the name of the element n of the list that stands at p
   abbrev pub found : List ℕ → Enum → ℕ → ℕ
   found n (end f) p = nowhere
-  found n (elem m i r) p = cond (same n (m .bytes)) (p + 6) (found n r (nextOf i p))
+  found n (elem m i r) p = cond (same n (m .bytes)) (p + elementSize) (found n r (nextOf i p))
 
   pub find-elements : (n : Name) → InText t n → (e : Enum) (p : ℕ) → ElementsAt t s e p → (f : ℕ) → length s - p < f →
       findFrom f t s p (partOf n) ≡ found (n .bytes) e p
@@ -126,9 +127,9 @@ module _ (t s : List ℕ) where
       go (same (n .bytes) (m .bytes)) (rw (h .0 .name) (same-names n m a (h .0 .in-text))) (find-elements n a r (nextOf i p) (h .2) g (omega arith))
     where
       go : (c : Bool) → sameNames t (partOf n) (written s p) ≡ c → findFrom g t s (nextOf i p) (partOf n) ≡ found (n .bytes) r (nextOf i p) →
-          findFrom (suc g) t s p (partOf n) ≡ cond c (p + 6) (found (n .bytes) r (nextOf i p))
+          findFrom (suc g) t s p (partOf n) ≡ cond c (p + elementSize) (found (n .bytes) r (nextOf i p))
       go true e k = find-here g t s p _ (h .0 .there) e
-      go false e k = find-next g t s p _ (h .0 .there) e ∙ rw (past-inside i (p + 6) (h .1)) k
+      go false e k = find-next g t s p _ (h .0 .there) e ∙ rw (past-inside i (p + elementSize) (h .1)) k
 
   module _ (short : length s < nowhere) where
     -- behind the name that is found stands what is inside the element
@@ -137,7 +138,7 @@ module _ (t s : List ℕ) where
     found-inside n (elem m i r) p h = go (same n (m .bytes)) (found-inside n r _ (h .2))
       where
         go : (c : Bool) → InsideAt t s (inner n r) (found n r (nextOf i p)) →
-            InsideAt t s (orEmpty (cond c (some i) (at n r))) (cond c (p + 6) (found n r (nextOf i p)))
+            InsideAt t s (orEmpty (cond c (some i) (at n r))) (cond c (p + elementSize) (found n r (nextOf i p)))
         go true k = h .1
         go false k = k
 
@@ -146,19 +147,24 @@ module _ (t s : List ℕ) where
     found-has n (elem m i r) p h = go (same n (m .bytes)) (found-has n r _ (h .2))
       where
         go : (c : Bool) → ltb (found n r (nextOf i p)) nowhere ≡ has n r →
-            ltb (cond c (p + 6) (found n r (nextOf i p))) nowhere ≡ isThere (cond c (some i) (at n r))
-        go true k = lt-ltb (p + 6) nowhere (let u = element-in s p (h .0 .there) in omega arith)
+            ltb (cond c (p + elementSize) (found n r (nextOf i p))) nowhere ≡ isThere (cond c (some i) (at n r))
+        go true k = lt-ltb (p + elementSize) nowhere (let u = element-in s p (h .0 .there) in omega arith)
         go false k = k
 
     -- ---- what is inside an element
     pub record Inside (i : Enum) (v : Inner) : Type 0 where
       pub there : v .there ≡ not (plain i)
-      pub last : v .last ≡ final i
+      pub «is_final» : v .«is_final» ≡ final i
       pub list : ElementsAt t s i (v .list)
 
     pub inside-is : (i : Enum) (m : ℕ) → InsideAt t s i m → Inside i (innerAt s m)
     unfolding innerAt
-    inside-is (end true) m h = rw (h .0) (record { there = refl; last = rw (h .1); list = list-elements t s (end true) (m + 2) (h .2) })
-    inside-is (end false) m h = rw h (record { there = refl; last = refl; list = element-short s nowhere (omega arith) })
+    inside-is (end true) m h = rw (h .0) (record { there = refl; «is_final» = rw (h .1); list = list-elements t s (end true) (m + 2) (h .2) })
+    inside-is (end false) m h = rw h (record { there = refl; «is_final» = refl; list = element-short s nowhere (omega arith) })
     inside-is (elem n i r) m h =
-        rw (h .0) (record { there = refl; last = rw (h .1) (bit-one (final r)); list = list-elements t s (elem n i r) (m + 2) (h .2) })
+        rw (h .0) (record { there = refl; «is_final» = rw (h .1) (bit-one (final r)); list = list-elements t s (elem n i r) (m + 2) (h .2) })
+
+-- a list ends within the bytes that it stands in
+pub end-in : (t s : List ℕ) (e : Enum) (p : ℕ) → ListAt t s e p → endOf e p ≤ length s
+end-in t s (end f) p h = omega (arith, h .0)
+end-in t s (elem n i r) p h = end-in t s r (nextOf i p) (h .2)

@@ -12,13 +12,16 @@ use borrow.Author.Tests.{le-leb}
 use Rattle.rules.specs.Names.{Name}
 use Rattle.rules.specs.Enumerations.{Enum, end, elem, final}
 use Rattle.rules.specs.Book.{Record, bit, nameRecord, openRecord, innerRecords, elementRecords, bytes}
-use Rattle.rules.proofs.Tests.{fail-r}
-use Rattle.enumerations.specs.Lists.{isElement, isOpening}
+use Rattle.rules.proofs.Tests.{fail-r, not-both}
+use Rattle.enumerations.specs.Lists.{isElement, isOpening, endFrom, innerAt}
 use Rattle.enumerations.specs.Standing.{InText, Named, plain, Stands, ElementAt, endOf, InsideBy, ListAt}
-use Rattle.enumerations.proofs.ListLaws.{part-is}
+use Rattle.enumerations.proofs.ListLaws.{part-is, bit-one}
 use Rattle.rules.proofs.GrowLaws.{bytes-append}
-use Rattle.enumerations.proofs.FrameLaws.{inner-records}
-use Rattle.enumerations.proofs.StandLaws.{count}
+use Rattle.enumerations.proofs.StandLaws.{count, list-end}
+use Rattle.enumerations.specs.Records.{records, sizeOf}
+use Rattle.enumerations.specs.declared.End.{End}
+use Rattle.enumerations.specs.declared.Size.{Size}
+use Rattle.book.specs.Sizes.{elementSize, listSize}
 
 -- l stands in s at p
 pub record Begins (l s : List ℕ) (p : ℕ) : Type 0 where
@@ -52,6 +55,12 @@ low4 v h =
     let f : v / 256 / 256 / 256 % 256 ≡ v / 256 / 256 / 256 = omega arith in
     omega arith
 
+-- ---- the records of what is inside an element
+pub inner-records : (e : Enum) (l : List Record) → innerRecords e l ≡ cond (plain e) [] l
+inner-records (end true) l = refl
+inner-records (end false) l = refl
+inner-records (elem n i r) l = refl
+
 -- the bytes of a list, as the places in it are counted
 abbrev listBytes : Enum → List ℕ
 listBytes (end f) = 15 ∷ []
@@ -75,9 +84,9 @@ end-length (end f) p = refl
 end-length (elem n i r) p = go (plain i) (λ q. end-length i q) (λ q. end-length r q)
   where
     go : (c : Bool) → ((q : ℕ) → endOf i q ≡ q + length (listBytes i)) → ((q : ℕ) → endOf r q ≡ q + length (listBytes r)) →
-        endOf r (cond c (p + 6) (endOf i (p + 6 + 2))) ≡ p + length (nameRecord 14 n ++ (cond c [] (openRecord i ++ listBytes i) ++ listBytes r))
-    go true f g = omega (arith, g (p + 6))
-    go false f g = omega (arith, f (p + 6 + 2), g (endOf i (p + 6 + 2)), length-append (listBytes i) (listBytes r))
+        endOf r (cond c (p + elementSize) (endOf i (p + elementSize + listSize))) ≡ p + length (nameRecord 14 n ++ (cond c [] (openRecord i ++ listBytes i) ++ listBytes r))
+    go true f g = omega (arith, g (p + elementSize))
+    go false f g = omega (arith, f (p + elementSize + listSize), g (endOf i (p + elementSize + listSize)), length-append (listBytes i) (listBytes r))
 
 -- a list's end is past its bytes, and its records are counted
 pub end-bytes : (e : Enum) (p : ℕ) → endOf e p ≡ p + length (bytes (elementRecords e))
@@ -99,14 +108,14 @@ module _ (t s : List ℕ) where
   element-stands : (n : Name) (p : ℕ) → InText t n → Begins (nameRecord 14 n) s p → ElementAt t s n p
   unfolding isElement
   element-stands n p h b =
-      let l : p + 6 ≤ length s = b .size in
+      let l : p + elementSize ≤ length s = b .size in
       let k : getD s p 0 ≡ 14 = rw add-zero at (b .byte 0 (omega arith)) in
-      let e1 : p + 1 + 1 ≡ p + 2 = omega arith in
+      let e1 : p + 1 + 1 ≡ p + listSize = omega arith in
       let e2 : p + 1 + 2 ≡ p + 3 = omega arith in
       let e3 : p + 1 + 3 ≡ p + 4 = omega arith in
       let z : length (n .bytes) % 256 ≡ length (n .bytes) = omega (arith, h .short) in
       record {
-        there = rw (le-leb (p + 6) (length s) l, k);
+        there = rw (le-leb (p + elementSize) (length s) l, k);
         name = part-is (rw (e1, e2, e3, b .byte 1 (omega arith), b .byte 2 (omega arith), b .byte 3 (omega arith), b .byte 4 (omega arith)) (low4 (n .offset) (h .low)))
             (b .byte 5 (omega arith) ∙ z);
         in-text = h;
@@ -132,28 +141,52 @@ module _ (t s : List ℕ) where
       let br = begins-right (nameRecord 14 n) _ s p b in
       go (plain i) (element-stands n p (h .0) bn) br (λ q. list-stands i q (h .1)) (λ q. list-stands r q (h .2))
     where
-      go : (c : Bool) → ElementAt t s n p → Begins (cond c [] (openRecord i ++ listBytes i) ++ listBytes r) s (p + 6) →
+      go : (c : Bool) → ElementAt t s n p → Begins (cond c [] (openRecord i ++ listBytes i) ++ listBytes r) s (p + elementSize) →
           ((q : ℕ) → Begins (listBytes i) s q → ListAt t s i q) → ((q : ℕ) → Begins (listBytes r) s q → ListAt t s r q) →
-          ElementAt t s n p × InsideBy c s (final i) (p + 6) (ListAt t s i (p + 6 + 2)) × ListAt t s r (cond c (p + 6) (endOf i (p + 6 + 2)))
-      go true E b f g = (E, not-open r (p + 6) b, g (p + 6) b)
+          ElementAt t s n p × InsideBy c s (final i) (p + elementSize) (ListAt t s i (p + elementSize + listSize)) × ListAt t s r (cond c (p + elementSize) (endOf i (p + elementSize + listSize)))
+      go true E b f g = (E, not-open r (p + elementSize) b, g (p + elementSize) b)
       go false E b f g =
-          let bo = begins-left (openRecord i ++ listBytes i) (listBytes r) s (p + 6) b in
-          let o = opening-stands (final i) (p + 6) (begins-left (openRecord i) (listBytes i) s (p + 6) bo) in
-          let bi = begins-right (openRecord i) (listBytes i) s (p + 6) bo in
-          let br = begins-right (openRecord i ++ listBytes i) (listBytes r) s (p + 6) b in
-          let z : p + 6 + length (openRecord i ++ listBytes i) ≡ endOf i (p + 6 + 2) = omega (arith, end-length i (p + 6 + 2)) in
-          (E, (o .0, o .1, f (p + 6 + 2) bi), g (endOf i (p + 6 + 2)) (rw z at br))
+          let bo = begins-left (openRecord i ++ listBytes i) (listBytes r) s (p + elementSize) b in
+          let o = opening-stands (final i) (p + elementSize) (begins-left (openRecord i) (listBytes i) s (p + elementSize) bo) in
+          let bi = begins-right (openRecord i) (listBytes i) s (p + elementSize) bo in
+          let br = begins-right (openRecord i ++ listBytes i) (listBytes r) s (p + elementSize) b in
+          let z : p + elementSize + length (openRecord i ++ listBytes i) ≡ endOf i (p + elementSize + listSize) = omega (arith, end-length i (p + elementSize + listSize)) in
+          (E, (o .0, o .1, f (p + elementSize + listSize) bi), g (endOf i (p + elementSize + listSize)) (rw z at br))
 
   -- ---- the whole enumeration: its opening, and its list behind that
   pub record Whole (e : Enum) (p : ℕ) : Type 0 where
     pub opening : isOpening s p ≡ true
     pub flag : getD s (p + 1) 0 ≡ bit (final e) 1
-    pub list : ListAt t s e (p + 2)
-    pub size : p + 2 + length (bytes (elementRecords e)) ≤ length s
+    pub list : ListAt t s e (p + listSize)
+    pub size : p + listSize + length (bytes (elementRecords e)) ≤ length s
 
   pub stands-whole : (e : Enum) (p : ℕ) → Stands t s e p → Whole e p
   stands-whole e p h =
       let b : Begins (openRecord e ++ listBytes e) s p = begins _ (h .more) s p (omega arith) (h .here ∙ rw (list-bytes e)) in
       let o = opening-stands (final e) p (begins-left (openRecord e) (listBytes e) s p b) in
       let r = begins-right (openRecord e) (listBytes e) s p b in
-      record { opening = o .0; flag = o .1; list = list-stands e (p + 2) (h .named) r; size = rw (list-bytes e) (r .size) }
+      record { opening = o .0; flag = o .1; list = list-stands e (p + listSize) (h .named) r; size = rw (list-bytes e) (r .size) }
+
+-- ---- what the code reads there
+-- what is read where an enumeration stands
+pub inner-stands : (t s : List ℕ) (e : Enum) (p : ℕ) → Stands t s e p → innerAt s p ≡ record { list = p + listSize; there = true; «is_final» = final e }
+unfolding innerAt
+inner-stands t s e p h =
+    let w = stands-whole t s e p h in
+    rw (w .opening, w .flag, bit-one (final e))
+
+-- how much it takes
+pub size-is : {a b c d : ℕ} → a ≡ c → b ≡ d → _≡_ {A = Size} (record { bytes = a; records = b }) (record { bytes = c; records = d })
+size-is p q = rw (p, q)
+
+pub size-stands : (t s : List ℕ) (e : Enum) (p : ℕ) → Stands t s e p → (v : End) → v ≡ endFrom (length s + 1) s (p + listSize) 0 0 →
+    _≡_ {A = Size} (record { bytes = v .at - p; records = v .records + 1 }) (sizeOf (records e))
+size-stands t s e p h v q =
+    let w = stands-whole t s e p h in
+    let l = q ∙ list-end t s e (p + listSize) (w .list) (length s + 1) (omega arith) in
+    let a : v .at ≡ p + listSize + length (bytes (elementRecords e)) = ap (λ (y : End). y .at) l ∙ end-bytes e (p + listSize) in
+    let c : v .records ≡ length (elementRecords e) = ap (λ (y : End). y .records) l ∙ count-records e in
+    size-is (omega arith) (omega arith)
+
+pub not-stands : {A : Type 0} (t s : List ℕ) (e : Enum) (p : ℕ) → Stands t s e p → isOpening s p ≡ false → A
+not-stands t s e p h q = not-both (stands-whole t s e p h .opening) q

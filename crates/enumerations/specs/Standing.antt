@@ -12,6 +12,7 @@ use Rattle.rules.specs.Book.{bit, openRecord, elementRecords, bytes}
 use Rattle.ground.specs.Parts.{part}
 use Rattle.book.specs.declared.Part.{Part}
 use Rattle.enumerations.specs.Lists.{isElement, isOpening, written}
+use Rattle.book.specs.Sizes.{elementSize, listSize}
 
 -- ---- what is said of an enumeration
 -- a name is a part of the text, as a record holds it, and a word that is no reserved word
@@ -65,7 +66,7 @@ pub record ElementAt (t s : List ℕ) (n : Name) (p : ℕ) : Type 0 where
 -- where a list that stands at p ends, past its close
 abbrev pub endOf : Enum → ℕ → ℕ
 endOf (end f) p = p + 1
-endOf (elem n i r) p = endOf r (cond (plain i) (p + 6) (endOf i (p + 6 + 2)))
+endOf (elem n i r) p = endOf r (cond (plain i) (p + elementSize) (endOf i (p + elementSize + listSize)))
 
 abbrev pub InsideBy : Bool → List ℕ → Bool → ℕ → Type 0 → Type 0
 InsideBy true s f m l = isOpening s m ≡ false
@@ -75,7 +76,7 @@ InsideBy false s f m l = (isOpening s m ≡ true) × (getD s (m + 1) 0 ≡ bit f
 abbrev pub ListAt : List ℕ → List ℕ → Enum → ℕ → Type 0
 ListAt t s (end f) p = (p < length s) × (getD s p 0 ≡ 15)
 ListAt t s (elem n i r) p =
-    ElementAt t s n p × InsideBy (plain i) s (final i) (p + 6) (ListAt t s i (p + 6 + 2)) × ListAt t s r (cond (plain i) (p + 6) (endOf i (p + 6 + 2)))
+    ElementAt t s n p × InsideBy (plain i) s (final i) (p + elementSize) (ListAt t s i (p + elementSize + listSize)) × ListAt t s r (cond (plain i) (p + elementSize) (endOf i (p + elementSize + listSize)))
 
 -- what is inside an element stands at m
 abbrev pub InsideAt : List ℕ → List ℕ → Enum → ℕ → Type 0
@@ -85,4 +86,4 @@ InsideAt t s i m = InsideBy (plain i) s (final i) m (ListAt t s i (m + 2))
 abbrev pub ElementsAt : List ℕ → List ℕ → Enum → ℕ → Type 0
 ElementsAt t s (end f) p = isElement s p ≡ false
 ElementsAt t s (elem n i r) p =
-    ElementAt t s n p × InsideAt t s i (p + 6) × ElementsAt t s r (cond (plain i) (p + 6) (endOf i (p + 6 + 2)))
+    ElementAt t s n p × InsideAt t s i (p + elementSize) × ElementsAt t s r (cond (plain i) (p + elementSize) (endOf i (p + elementSize + listSize)))

@@ -1,12 +1,14 @@
 // What every floor uses: parts of a text, lent buffers, numbers as bytes.
 ghost use mathlib.Core.Path.{_≡_};
+ghost use mathlib.Core.Bool.{_&&_, _||_};
 ghost use mathlib.Core.List.{[]};
 ghost use Prim.Native.Nat.{_+_, _≤_, _<_};
 ghost use lib.ListN.{length};
-ghost use Rattle.rules.specs.Bytes.{same};
-ghost use Rattle.rules.specs.Book.{lowFirst, twos, padded};
+ghost use lib.Dec.{leb};
+ghost use Rattle.rules.specs.Bytes.{same, isDigit};
+ghost use Rattle.rules.specs.Book.{bit, lowFirst, twos, padded};
 ghost use Rattle.rules.specs.Show.{read4};
-ghost use Rattle.ground.specs.Parts.{part, splice};
+ghost use Rattle.ground.specs.Parts.{part, splice, putAt};
 
 // A name, or another part of the text: its place and its length.
 pub struct Name {
@@ -21,11 +23,46 @@ pub enum Reference {
     InTopic(Name, Name, Name),
 }
 
+// ---- tests
+pub fn either(a: bool, b: bool) -> bool
+    ensures { λ r. ⌜ r ≡ (a || b) ⌝ }
+{
+    if a { true } else { b }
+}
+
+// A flag as a byte.
+pub fn flag(b: bool) -> u8
+    ensures { λ r. ⌜ r ≡ bit b 1 ⌝ }
+{
+    if b { 1 } else { 0 }
+}
+
+pub fn between(lo: u8, hi: u8, b: u8) -> bool
+    ensures { λ r. ⌜ r ≡ (leb lo b && leb b hi) ⌝ }
+{
+    if lo <= b {
+        return b <= hi;
+    }
+    false
+}
+
+pub fn is_digit(b: u8) -> bool
+    ensures { λ r. ⌜ r ≡ isDigit b ⌝ }
+{
+    between(b'0', b'9', b)
+}
+
 // ---- bytes and places as wider numbers
 pub fn wide(b: u8) -> usize
     ensures { λ r. ⌜ (r ≡ b) × (r < 256) ⌝ }
 {
     b as usize
+}
+
+pub fn wide2(n: u16) -> usize
+    ensures { λ r. ⌜ (r ≡ n) × (r < 65536) ⌝ }
+{
+    n as usize
 }
 
 pub fn wide4(n: u32) -> usize
@@ -35,6 +72,21 @@ pub fn wide4(n: u32) -> usize
 }
 
 // ---- parts
+// The same n bytes stand at i in s and at j in t.
+pub fn same_bytes(s: &[u8], i: usize, t: &[u8], j: usize, n: usize) -> bool
+    requires { ⌜ (i + n ≤ length (now s)) × (j + n ≤ length (now t)) ⌝ }
+    ensures { λ r. ⌜ r ≡ same (part (now (s .entry)) i n) (part (now (t .entry)) j n) ⌝ }
+{
+    let mut k = 0;
+    while k < n {
+        if s[i + k] != t[j + k] {
+            return false;
+        }
+        k += 1;
+    }
+    true
+}
+
 // Two parts of a text have the same bytes.
 pub fn same_part(text: &[u8], a: usize, m: usize, b: usize, n: usize) -> bool
     requires { ⌜ (a + m ≤ length (now text)) × (b + n ≤ length (now text)) ⌝ }
@@ -43,14 +95,7 @@ pub fn same_part(text: &[u8], a: usize, m: usize, b: usize, n: usize) -> bool
     if m != n {
         return false;
     }
-    let mut i = 0;
-    while i < m {
-        if text[a + i] != text[b + i] {
-            return false;
-        }
-        i += 1;
-    }
-    true
+    same_bytes(text, a, text, b, m)
 }
 
 // ---- lent buffers
@@ -67,6 +112,28 @@ pub fn clear(out: &mut [u8])
 
 // The bytes of src, from a place on.
 pub fn put(out: &mut [u8], at: usize, src: &[u8])
+    requires { ⌜ at + length (now src) ≤ length (now out) ⌝ }
+    ensures { λ _. ⌜ now (out .exit) ≡ splice (now (out .entry)) at (now (src .entry)) ⌝ }
+{
+    let mut i = 0;
+    while i < src.len() {
+        out[at + i] = src[i];
+        i += 1;
+    }
+}
+
+// The same, if they fit.
+pub fn put_if(out: &mut [u8], at: usize, src: &[u8])
+    requires { ⌜ at + length (now src) < 18446744073709551616 ⌝ }
+    ensures { λ _. ⌜ now (out .exit) ≡ putAt (now (out .entry)) at (now (src .entry)) ⌝ }
+{
+    if at + src.len() <= out.len() {
+        put(out, at, src);
+    }
+}
+
+// The numbers of src, from a place on.
+pub fn put2(out: &mut [u16], at: usize, src: &[u16])
     requires { ⌜ at + length (now src) ≤ length (now out) ⌝ }
     ensures { λ _. ⌜ now (out .exit) ≡ splice (now (out .entry)) at (now (src .entry)) ⌝ }
 {

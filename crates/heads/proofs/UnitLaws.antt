@@ -17,7 +17,7 @@ use Rattle.rules.specs.Declarations as D
 use Rattle.rules.specs.Declarations.{Def, State, isFound, atHand, known}
 use Rattle.rules.specs.Book.{bytes, nameRecord, declRecords, book}
 use Rattle.rules.specs.Judge as J
-use Rattle.rules.specs.Judge.{ok, refused, judge, declare, inTopic, begun, newTopic}
+use Rattle.rules.specs.Judge.{ok, refused, judge, declare, begun, newTopic, afterTopic}
 use Rattle.rules.specs.Check.{lent, capacity}
 use Rattle.rules.proofs.Tests.{is-false}
 use Rattle.rules.proofs.ByteLaws.{same-eq}
@@ -25,29 +25,32 @@ use Rattle.ground.specs.Parts.{part, splice}
 use Rattle.ground.specs.declared.Name.{Name}
 use Rattle.rules.proofs.PartLaws.{part-cons, length-part}
 use Rattle.book.specs.Forms.{nameForm}
+use Rattle.book.specs.Sizes.{modelSize, topicSize}
 use Rattle.enumerations.specs.Standing.{InText}
 use Rattle.names.specs.declared.NewDefinition.{NewDefinition}
-use Rattle.names.specs.Index.{row}
+use Rattle.names.specs.Index.{row, definitionWidth, Rows}
 use Rattle.names.specs.Chains.{Chains}
 use Rattle.names.specs.References.{bytesOf, Inside}
-use Rattle.names.specs.Rows.{definitionRow}
+use Rattle.names.specs.Rows.{definitionRow, Narrow}
 use Rattle.members.specs.Held.{attributesIn, DefRow}
-use Rattle.members.proofs.HeldLaws.{stands-new, agree-def, row-written}
+use Rattle.members.proofs.HeldLaws.{agree-def, row-written}
 use Rattle.members.proofs.StateLaws.{book-declared}
 use Rattle.readers.specs.Reads.{nameCut}
 use Rattle.units.specs.declared.ModelHead.{ModelHead}
 use Rattle.units.specs.declared.Unit.the-variants.{Header, Model, Topic}
 use Rattle.units.specs.Steps.{partOf}
-use Rattle.scope.specs.Scope.{FairState}
-use Rattle.scope.proofs.KeepLaws.{judge-fair}
+use Rattle.wellformed.specs.Fairness.{FairState}
+use Rattle.wellformed.proofs.KeepLaws.{judge-fair}
 use Rattle.state.specs.declared.State as code
 use Rattle.state.specs.declared.Judged as code-judged
 use Rattle.state.specs.declared.Judged.the-variants.{Fine, Refused}
-use Rattle.state.specs.Keeping.{Keeps, JudgedAs, Comes, verdict}
-use Rattle.state.specs.Next.{begunBy, declaredBy, inTopicBy}
+use Rattle.state.specs.Keeping.{Keeps, JudgedAs, Comes, verdict, Small}
+use Rattle.state.specs.Next.{begunBy, declaredBy}
 use Rattle.state.proofs.KeepLaws.{Written, written-splice, book-grown, records-declared, keeps-begun, keeps-declared, keeps-in}
 use Rattle.state.proofs.JudgeLaws.{calls-cut, judged-refused, judged-over, judged-fine}
 use Rattle.state.proofs.RowLaws.{Tells, def-row}
+use Rattle.book.proofs.StandLaws.{stands-new}
+use Rattle.heads.specs.Topics.{topicBy}
 
 -- ---- 7: the three bytes of the edition
 module _ (t : List ℕ) (n : Name) (h : Inside t n) where
@@ -76,7 +79,7 @@ module _ (t : List ℕ) (n : Name) (h : Inside t n) where
         with-true false = refl
 
 -- ---- the header
-module _ (t : List ℕ) (s : State) (v : S.Symbol) (st : code.State) (o x z y ns ps rs : List ℕ) (name : Name) (k : Keeps t s st o x z y ns ps) (c : Comes t s (U.header v) (Header name) rs) where
+module _ (t : List ℕ) (s : State) (v : S.Symbol) (st : code.State) (o x z y hs rs : List ℕ) (name : Name) (k : Keeps t s st o x z y hs) (c : Comes t s (U.header v) (Header name) rs) where
   header-is : name ≡ partOf v
   header-is = let e = c .is in cc
 
@@ -86,23 +89,23 @@ module _ (t : List ℕ) (s : State) (v : S.Symbol) (st : code.State) (o x z y ns
   header-bytes : bytesOf t name ≡ v .bytes
   header-bytes = ap (bytesOf t) header-is ∙ c .fair .there
 
-  pub header-fine : (r : code-judged.Judged) → r ≡ Fine st → true ≡ same (bytesOf t name) (ascii "2.4") → JudgedAs t (verdict s (U.header v) o) st r o x z y ns ps
+  pub header-fine : (r : code-judged.Judged) → r ≡ Fine st → true ≡ same (bytesOf t name) (ascii "2.4") → JudgedAs t (verdict s (U.header v) o) st r o x z y hs
   unfolding judge
   header-fine r er e =
       let q : same (v .bytes) (ascii "2.4") ≡ true = rw (← header-bytes) (sym e) in
       let b : length (book s) ≡ 0 = rw (c .stands .decls, c .stands .open-class) in
       let g : verdict s (U.header v) o ≡ ok s = rw (q, le-ltb (capacity (lent (length o))) (length (book s)) (omega arith)) in
-      subst (λ (j : J.Judged). JudgedAs t j st r o x z y ns ps) (sym g) (st, er, k, omega arith)
+      subst (λ (j : J.Judged). JudgedAs t j st r o x z y hs) (sym g) (st, er, k, record { by-one = omega arith; layout-stays = refl })
 
-  pub header-other : (r : code-judged.Judged) → r ≡ Refused 7 (name .offset) → false ≡ same (bytesOf t name) (ascii "2.4") → JudgedAs t (verdict s (U.header v) o) st r o x z y ns ps
+  pub header-other : (r : code-judged.Judged) → r ≡ Refused 7 (name .offset) → false ≡ same (bytesOf t name) (ascii "2.4") → JudgedAs t (verdict s (U.header v) o) st r o x z y hs
   unfolding judge
   header-other r er e =
       let q : same (v .bytes) (ascii "2.4") ≡ false = rw (← header-bytes) (sym e) in
       let j : judge s (U.header v) ≡ refused 7 (v .place) = rw q in
-      judged-refused t s (U.header v) o st r o x z y ns ps 7 (v .place) j (er ∙ ap (λ (n : Name). Refused 7 (n .offset)) header-is)
+      judged-refused t s (U.header v) o st r o x z y hs 7 (v .place) j (er ∙ ap (λ (n : Name). Refused 7 (n .offset)) header-is)
 
 -- ---- the model
-module _ (t : List ℕ) (s : State) (n : R.Name) (q : Strings) (st : code.State) (o x z y ns ps rs : List ℕ) (head : ModelHead) (k : Keeps t s st o x z y ns ps) (c : Comes t s (U.model n q) (Model head) rs) (m : length o ≤ 65535) where
+module _ (t : List ℕ) (s : State) (n : R.Name) (q : Strings) (st : code.State) (o x z y hs rs : List ℕ) (head : ModelHead) (k : Keeps t s st o x z y hs) (c : Comes t s (U.model n q) (Model head) rs) (m : length o ≤ 65535) where
   model-is : head .name ≡ nameCut n
   model-is = let (h, e, f, a, v) = c .is in let g : head ≡ h = cc in ap (λ (x : ModelHead). x .name) g ∙ f
 
@@ -116,18 +119,18 @@ module _ (t : List ℕ) (s : State) (n : R.Name) (q : Strings) (st : code.State)
   empty : book s ≡ []
   empty = rw (c .stands .decls, c .stands .open-class)
 
-  pub model-fine : (v o' : List ℕ) (st' : code.State) (r : code-judged.Judged) → st .used + 6 ≤ length o → v ≡ nameForm 1 (head .name .offset) (head .name .len) → o' ≡ splice o (st .used) v → st' ≡ begunBy st (head .name) → r ≡ Fine st'
-      → JudgedAs t (verdict s (U.model n q) o) st r o' x z y ns ps
+  pub model-fine : (v o' : List ℕ) (st' : code.State) (r : code-judged.Judged) → st .extent .used + modelSize ≤ length o → v ≡ nameForm 1 (head .name .offset) (head .name .len) → o' ≡ splice o (st .extent .used) v → st' ≡ begunBy st (head .name) → r ≡ Fine st'
+      → JudgedAs t (verdict s (U.model n q) o) st r o' x z y hs
   model-fine v o' st' r w ev eo es er =
       let a : v ≡ nameRecord 1 n = ev ∙ ap (λ (q : Name). nameForm 1 (q .offset) (q .len)) model-is in
-      let b : Written [] (nameRecord 1 n) o' = rw (eo, a) (written-splice [] (nameRecord 1 n) o (st .used) (k .used ∙ ap length empty) (k .written ∙ empty) w) in
-      let g : Keeps t (begun n q) (begunBy st (head .name)) o' x z y ns ps = keeps-begun t s st o x z y ns ps k (c .stands) n q (head .name) o' (rw model-is (calls-cut t n (c .fair .0))) b model-fair in
-      judged-fine t s (U.model n q) o st r o' x z y ns ps (begun n q) st' model-judged m (rw es w) er (rw es g) (rw es (omega arith))
+      let b : Written [] (nameRecord 1 n) o' = rw (eo, a) (written-splice [] (nameRecord 1 n) o (st .extent .used) (k .used ∙ ap length empty) (k .written ∙ empty) w) in
+      let g : Keeps t (begun n q) (begunBy st (head .name)) o' x z y hs = keeps-begun t s st o x z y hs k (c .stands) n q (head .name) o' (rw model-is (calls-cut t n (c .fair .0))) b model-fair in
+      judged-fine t s (U.model n q) o st r o' x z y hs (begun n q) st' model-judged m (rw es w) er (rw es g) (rw es (record { by-one = omega arith; layout-stays = refl }))
 
-  pub model-over : (r : code-judged.Judged) (o' : List ℕ) → length o < st .used + 6 → r ≡ Refused 19 (head .name .offset) → JudgedAs t (verdict s (U.model n q) o) st r o' x z y ns ps
+  pub model-over : (r : code-judged.Judged) (o' : List ℕ) → length o < st .extent .used + modelSize → r ≡ Refused 19 (head .name .offset) → JudgedAs t (verdict s (U.model n q) o) st r o' x z y hs
   model-over r o' w er =
       let u = k .used ∙ ap length empty in
-      judged-over t s (U.model n q) o st r o' x z y ns ps (begun n q) model-judged m (omega arith) (er ∙ ap (λ (q : Name). Refused 19 (q .offset)) model-is)
+      judged-over t s (U.model n q) o st r o' x z y hs (begun n q) model-judged m (omega arith) (er ∙ ap (λ (q : Name). Refused 19 (q .offset)) model-is)
 
 -- ---- heads of topics
 pub none-open : (s : State) → isFound (s .open-class) ≡ false → s .open-class ≡ none
@@ -139,20 +142,37 @@ none-open s e = go (s .open-class) e
 
 -- what is written of a topic
 abbrev pub topicDefinition : code.State → Name → NewDefinition
-topicDefinition st m = record { name = m; home = 0; number = st .records; sort = 0; flags = 0; place = st .used; base = 0; first = st .total }
+topicDefinition st m = record { name = m; home = 0; number = st .extent .records; sort = 0; flags = 0; place = st .extent .used; base = 0; first = st .listing .total }
 
-pub topic-declared : (t : List ℕ) (s : State) (st : code.State) (o x z y ns ps : List ℕ) → Keeps t s st o x z y ns ps → (n : R.Name) (m : Name) → m ≡ nameCut n → InText t n → s .open-class ≡ none
-    → (st' : code.State) → st' ≡ inTopicBy (declaredBy st 6 1 0) m (st .records + 1) → (v o' : List ℕ) → v ≡ nameForm 2 (m .offset) (m .len) → o' ≡ splice o (st .used) v → st .used + 6 ≤ length o
-    → (x' : List ℕ) → x' ≡ splice x ((st .count + 1) * 10) (definitionRow (topicDefinition st m)) → (st .count + 3) * 10 ≤ length x → (z' : List ℕ) → Chains (known (s .decls) ++ (newTopic s n ∷ [])) z'
-    → FairState t (inTopic (declare s (D.def (newTopic s n))) (some (newTopic s n))) → Keeps t (inTopic (declare s (D.def (newTopic s n))) (some (newTopic s n))) st' o' x' z' y ns ps
+-- its numbers fit their 16 bits
+pub topic-narrow : (t : List ℕ) (st : code.State) (m : Name) (n : ℕ) → Inside t m → length t ≤ 65535 → st .extent .used + topicSize ≤ n → n ≤ 65535 → Small st → Narrow (topicDefinition st m)
+topic-narrow t st m n i wt w wn a =
+    let f = a .fewer in
+    let r = a .rows in
+    record {
+      offset = omega arith;
+      size = omega arith;
+      home = omega arith;
+      number = omega arith;
+      sort = omega arith;
+      flags = omega arith;
+      place = omega arith;
+      base = omega arith;
+      first = omega arith;
+    }
+
+pub topic-declared : (t : List ℕ) (s : State) (st : code.State) (o x z y hs : List ℕ) → Keeps t s st o x z y hs → (n : R.Name) (m : Name) → m ≡ nameCut n → InText t n → s .open-class ≡ none
+    → (v o' : List ℕ) → v ≡ nameForm 2 (m .offset) (m .len) → o' ≡ splice o (st .extent .used) v → st .extent .used + topicSize ≤ length o
+    → (x' : List ℕ) → x' ≡ splice x ((st .listing .count + 1) * definitionWidth) (definitionRow (topicDefinition st m)) → Rows x (st .listing .count + 2) → (y' : List ℕ) → y' ≡ y → (z' : List ℕ) → Chains (known (s .decls) ++ (newTopic s n ∷ [])) z'
+    → FairState t (afterTopic s n) → Keeps t (afterTopic s n) (topicBy st m) o' x' z' y' hs
 unfolding newTopic
-topic-declared t s st o x z y ns ps k n m em h c st' es v o' ev eo w x' ex wx z' ch f =
+topic-declared t s st o x z y hs k n m em h c v o' ev eo w x' ex wx y' ey z' ch f =
     let d : Def = newTopic s n in
     let s' : State = declare s (D.def d) in
     let a : v ≡ nameRecord 2 n = ev ∙ ap (λ (q : Name). nameForm 2 (q .offset) (q .len)) em in
-    let b : Written (book s) (bytes (declRecords (D.def d))) o' = rw (eo, a) (written-splice (book s) (nameRecord 2 n) o (st .used) (k .used) (k .written) w) in
+    let b : Written (book s) (bytes (declRecords (D.def d))) o' = rw (eo, a) (written-splice (book s) (nameRecord 2 n) o (st .extent .used) (k .used) (k .written) w) in
     let bk : book s' ≡ book s ++ nameRecord 2 n = book-declared s s' (D.def d) c refl refl in
-    let tl : Tells t (known (s .decls)) (attributesIn s) (st .count + 1) d (topicDefinition st m) = record {
+    let tl : Tells t (known (s .decls)) (attributesIn s) (st .listing .count + 1) d (topicDefinition st m) = record {
       in-text = h;
       named = em;
       home = refl;
@@ -166,16 +186,16 @@ topic-declared t s st o x z y ns ps k n m em h c st' es v o' ev eo w x' ex wx z'
       own = refl;
       few = omega arith;
     } in
-    let dr : DefRow t (book s') (known (s .decls)) (attributesIn s) (st .count + 1) d (definitionRow (topicDefinition st m)) =
-    def-row t (book s') (known (s .decls)) (attributesIn s) (st .count + 1) d (topicDefinition st m) tl (rw (bk, k .used) (stands-new (book s) (nameRecord 2 n ∷ []) [])) in
-    let rw' : row 10 x' (st .count + 1) ≡ definitionRow (topicDefinition st m) = rw ex (row-written 10 x (definitionRow (topicDefinition st m)) (st .count + 1) refl (omega arith)) in
-    let g : Keeps t s' (declaredBy st 6 1 0) o' x' z' y ns ps =
-    keeps-declared t s st o x z y ns ps k d o' x' z' 6 1 0 c refl refl refl refl b (rw ex (agree-def x (definitionRow (topicDefinition st m)) (st .count) (omega arith))) (rw rw' dr) ch (record { defs = f .defs; open-class = tt; names = f .names; open-names = tt; decls = f .decls; topic = k .fair .topic }) in
+    let dr : DefRow t (book s') (known (s .decls)) (attributesIn s) (st .listing .count + 1) d (definitionRow (topicDefinition st m)) =
+    def-row t (book s') (known (s .decls)) (attributesIn s) (st .listing .count + 1) d (topicDefinition st m) tl (rw (bk, k .used) (stands-new (book s) (nameRecord 2 n ∷ []) [])) in
+    let rw' : row definitionWidth x' (st .listing .count + 1) ≡ definitionRow (topicDefinition st m) = rw ex (row-written definitionWidth x (definitionRow (topicDefinition st m)) (st .listing .count + 1) refl (omega arith)) in
+    let g : Keeps t s' (declaredBy st topicSize 1 0) o' x' z' y hs =
+    keeps-declared t s st o x z y hs k d o' x' z' topicSize 1 0 c refl refl refl refl b (rw ex (agree-def x (definitionRow (topicDefinition st m)) (st .listing .count) (omega arith))) (rw rw' dr) ch (record { defs = f .defs; open-class = tt; names = f .names; open-names = tt; decls = f .decls; topic = k .fair .topic }) in
     let nu = k .numbered in
-    let i = keeps-in t s' (declaredBy st 6 1 0) o' x' z' y ns ps g (some d) m (st .records + 1) refl (omega arith, rw em (calls-cut t n h), omega arith) f in
-    rw es i
+    let i = keeps-in t s' (declaredBy st topicSize 1 0) o' x' z' y hs g (some d) m (st .extent .records + 1) refl (omega arith, rw em (calls-cut t n h), omega arith) f in
+    rw ey i
 
-module _ (t : List ℕ) (s : State) (n : R.Name) (st : code.State) (o x z y ns ps rs : List ℕ) (name : Name) (k : Keeps t s st o x z y ns ps) (c : Comes t s (U.topic n) (Topic name) rs) where
+module _ (t : List ℕ) (s : State) (n : R.Name) (st : code.State) (o x z y hs rs : List ℕ) (name : Name) (k : Keeps t s st o x z y hs) (c : Comes t s (U.topic n) (Topic name) rs) where
   pub topic-is : name ≡ nameCut n
   topic-is = let e = c .is in cc
 
@@ -191,28 +211,28 @@ module _ (t : List ℕ) (s : State) (n : R.Name) (st : code.State) (o x z y ns p
   topic-place : {A : Type 0} (r : A) (f : ℕ → A) → r ≡ f (name .offset) → r ≡ f (n .offset)
   topic-place r f e = e ∙ ap (λ (q : Name). f (q .offset)) topic-is
 
-  pub topic-taken : (r : code-judged.Judged) (o' x' z' : List ℕ) → r ≡ Refused 9 (name .offset) → true ≡ isFound (atHand s (bytesOf t name)) → JudgedAs t (verdict s (U.topic n) o) st r o' x' z' y ns ps
+  pub topic-taken : (r : code-judged.Judged) (o' x' z' y' : List ℕ) → r ≡ Refused 9 (name .offset) → true ≡ isFound (atHand s (bytesOf t name)) → JudgedAs t (verdict s (U.topic n) o) st r o' x' z' y' hs
   unfolding judge
-  topic-taken r o' x' z' er e =
+  topic-taken r o' x' z' y' er e =
       let q : isFound (atHand s (n .bytes)) ≡ true = rw (← topic-bytes) (sym e) in
       let j : judge s (U.topic n) ≡ refused 9 (n .offset) = rw q in
-      judged-refused t s (U.topic n) o st r o' x' z' y ns ps 9 (n .offset) j (topic-place r (Refused 9) er)
+      judged-refused t s (U.topic n) o st r o' x' z' y' hs 9 (n .offset) j (topic-place r (Refused 9) er)
 
   module _ (m : length o ≤ 65535) (e : false ≡ isFound (atHand s (bytesOf t name))) where
-    topic-judged : judge s (U.topic n) ≡ ok (inTopic (declare s (D.def (newTopic s n))) (some (newTopic s n)))
+    topic-judged : judge s (U.topic n) ≡ ok (afterTopic s n)
     unfolding judge
     topic-judged = let q : isFound (atHand s (n .bytes)) ≡ false = rw (← topic-bytes) (sym e) in rw q
 
-    pub topic-over : (r : code-judged.Judged) (o' x' z' : List ℕ) → length o < st .used + 6 → r ≡ Refused 19 (name .offset) → JudgedAs t (verdict s (U.topic n) o) st r o' x' z' y ns ps
+    pub topic-over : (r : code-judged.Judged) (o' x' z' y' : List ℕ) → length o < st .extent .used + topicSize → r ≡ Refused 19 (name .offset) → JudgedAs t (verdict s (U.topic n) o) st r o' x' z' y' hs
     unfolding newTopic
-    topic-over r o' x' z' w er =
+    topic-over r o' x' z' y' w er =
         let u = k .used in
-        let l : length (book (declare s (D.def (newTopic s n)))) ≡ length (book s) + 6 = book-grown s (declare s (D.def (newTopic s n))) (nameRecord 2 n ∷ []) (records-declared s (D.def (newTopic s n)) topic-open) in
-        judged-over t s (U.topic n) o st r o' x' z' y ns ps (inTopic (declare s (D.def (newTopic s n))) (some (newTopic s n))) topic-judged m (omega arith) (topic-place r (Refused 19) er)
+        let l : length (book (declare s (D.def (newTopic s n)))) ≡ length (book s) + topicSize = book-grown s (declare s (D.def (newTopic s n))) (nameRecord 2 n ∷ []) (records-declared s (D.def (newTopic s n)) topic-open) in
+        judged-over t s (U.topic n) o st r o' x' z' y' hs (afterTopic s n) topic-judged m (omega arith) (topic-place r (Refused 19) er)
 
-    pub topic-fine : (r : code-judged.Judged) (o' x' z' : List ℕ) (st' : code.State) → st .used + 6 ≤ length o → r ≡ Fine st' → st' ≡ inTopicBy (declaredBy st 6 1 0) name (st .records + 1)
-        → (FairState t (inTopic (declare s (D.def (newTopic s n))) (some (newTopic s n))) → Keeps t (inTopic (declare s (D.def (newTopic s n))) (some (newTopic s n))) st' o' x' z' y ns ps)
-        → JudgedAs t (verdict s (U.topic n) o) st r o' x' z' y ns ps
-    topic-fine r o' x' z' st' w er es g =
-        let f = judge-fair t s (inTopic (declare s (D.def (newTopic s n))) (some (newTopic s n))) (U.topic n) (c .fair) (c .stands) (k .fair) topic-judged in
-        judged-fine t s (U.topic n) o st r o' x' z' y ns ps (inTopic (declare s (D.def (newTopic s n))) (some (newTopic s n))) st' topic-judged m (rw es w) er (g f) (rw es (omega arith))
+    pub topic-fine : (r : code-judged.Judged) (o' x' z' y' : List ℕ) (st' : code.State) → st .extent .used + topicSize ≤ length o → r ≡ Fine st' → st' ≡ topicBy st name
+        → (FairState t (afterTopic s n) → Keeps t (afterTopic s n) (topicBy st name) o' x' z' y' hs)
+        → JudgedAs t (verdict s (U.topic n) o) st r o' x' z' y' hs
+    topic-fine r o' x' z' y' st' w er es g =
+        let f = judge-fair t s (afterTopic s n) (U.topic n) (c .fair) (c .stands) (k .fair) topic-judged in
+        judged-fine t s (U.topic n) o st r o' x' z' y' hs (afterTopic s n) st' topic-judged m (rw es w) er (rw es (g f)) (rw es (record { by-one = omega arith; layout-stays = refl }))

@@ -35,13 +35,13 @@ headOf k n p b = record { structure = k; name = nameCut n; properties = flagsOf 
 abbrev pub classDefinition : code.State → ClassHead → ℕ → NewDefinition
 classDefinition st h base = record {
   name = h .name;
-  home = st .home;
-  number = st .records;
+  home = st .context .home;
+  number = st .extent .records;
   sort = sortNumber (classSort (h .structure));
   flags = flags (h .properties .«is_abstract») (h .properties .«is_final») false false;
-  place = st .used;
+  place = st .extent .used;
   base = base;
-  first = st .total;
+  first = st .listing .total;
 }
 
 abbrev pub classBytes : ClassHead → Option Def → List ℕ

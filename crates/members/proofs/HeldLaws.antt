@@ -7,18 +7,21 @@ use mathlib.Core.List.{List, [], _∷_, _++_, append-assoc, append-nil}
 use Prim.Native.Nat.{ℕ, zero, suc, _+_, _*_, _≤_, _<_}
 use native.Mathlib.Omega.{arith}
 use lib.ListN.{length, length-append, length-drop, getD, set, take, drop, take-append-drop}
-use lib.Seq.{drop-drop, drop-append-seam, drop-append-le, take-append-le, take-at, drop-at, length-take-le, set-split, drop-set-add, take-set-lt}
+use lib.Seq.{drop-append-le, take-append-le, take-at, drop-at, length-take-le, set-split, drop-set-add, take-set-lt}
 use lib.Dec.{leb}
 use borrow.Author.Tests.{leb-true, leb-false}
 use Rattle.rules.specs.Declarations.{Attribute, Def, inline, tyOf, domain}
-use Rattle.rules.specs.Book.{Record, bytes, flags, numberOr, headRecord, defRecord, typeRecords, useRecords}
+use Rattle.rules.specs.Book.{flags, numberOr, headRecord, defRecord, typeRecords, useRecords}
 use Rattle.rules.specs.Judge.{naming}
 use Rattle.ground.specs.Parts.{part, splice}
-use Rattle.names.specs.Index.{entry, row, Based}
-use Rattle.members.specs.Members.{Owns, Indexed}
-use Rattle.members.specs.Held.{Stands, heading, useFor, DefRow, AttributeRow, Held}
+use Rattle.names.specs.Index.{entry, row, Based, definitionWidth}
+use Rattle.members.specs.Members.{Owns, Indexed, attributeWidth}
+use Rattle.members.specs.Held.{heading, useFor, DefRow, AttributeRow, Held}
 use Rattle.names.proofs.IndexLaws.{nth-within, nth-last, entry-keep, entry-within}
 use Rattle.names.proofs.BaseLaws.{entry-there}
+use Rattle.book.specs.Places.{Stands}
+use Rattle.book.proofs.StandLaws.{stands-more, stands-behind}
+use Rattle.book.specs.Sizes.{headSize}
 
 -- ---- what lookups and filling need
 pub indexed : {t b : List ℕ} {ks : List Def} {ms : List Attribute} {x : List ℕ} {count : ℕ} {y : List ℕ} {total : ℕ} → Held t b ks ms x count y total → Indexed t ks ms x count y total
@@ -30,21 +33,6 @@ indexed h = record {
 }
 
 -- ---- facts that grow
-pub stands-more : (b v : List ℕ) (p : ℕ) (rs : List Record) → Stands b p rs → Stands (b ++ v) p rs
-stands-more b v p rs h = record {
-  within = let l = length-append b v in let w = h .within in omega arith;
-  behind = h .behind ++ v;
-  bytes-are = drop-append-le p b v (h .within) ∙ ap (λ (l : List ℕ). l ++ v) (h .bytes-are) ∙ append-assoc (bytes rs) (h .behind) v;
-}
-
--- what is written at the book's end stands there
-pub stands-new : (b : List ℕ) (rs : List Record) (v : List ℕ) → Stands (b ++ (bytes rs ++ v)) (length b) rs
-stands-new b rs v = record {
-  within = let l = length-append b (bytes rs ++ v) in omega arith;
-  behind = v;
-  bytes-are = drop-append-seam b (bytes rs ++ v);
-}
-
 module _ (ks es : List Def) (ms ns : List Attribute) where
   pub based-more : (p : ℕ) (d : Def) (r : List ℕ) → p ≤ length ks + 1 → Based ks p d r → Based (ks ++ es) p d r
   based-more p d r w h =
@@ -94,14 +82,14 @@ part-keep x z i j n h w =
     rw (e, u, take-append-le n (drop j (take i x)) z k, take-append-le n (drop j (take i x)) (drop i x) k)
 
 module _ (x r : List ℕ) (count : ℕ) where
-  pub agree-def : count * 10 + 10 ≤ length x → Agree 10 x (splice x ((count + 1) * 10) r) count
-  agree-def h p w = rw append-assoc (part-keep x (r ++ drop ((count + 1) * 10 + length r) x) ((count + 1) * 10) (p * 10) 10 (omega arith) (omega arith))
+  pub agree-def : count * definitionWidth + 10 ≤ length x → Agree definitionWidth x (splice x ((count + 1) * definitionWidth) r) count
+  agree-def h p w = rw append-assoc (part-keep x (r ++ drop ((count + 1) * definitionWidth + length r) x) ((count + 1) * definitionWidth) (p * definitionWidth) 10 (omega arith) (omega arith))
 
-  pub agree-attribute : count * 6 + 6 ≤ length x → Agree 6 x (splice x ((count + 1) * 6) r) count
-  agree-attribute h p w = rw append-assoc (part-keep x (r ++ drop ((count + 1) * 6 + length r) x) ((count + 1) * 6) (p * 6) 6 (omega arith) (omega arith))
+  pub agree-attribute : count * attributeWidth + 6 ≤ length x → Agree attributeWidth x (splice x ((count + 1) * attributeWidth) r) count
+  agree-attribute h p w = rw append-assoc (part-keep x (r ++ drop ((count + 1) * attributeWidth + length r) x) ((count + 1) * attributeWidth) (p * attributeWidth) 6 (omega arith) (omega arith))
 
-  pub agree-last : (v : ℕ) → count * 10 + 20 ≤ length x → Agree 10 x (set x ((count + 1) * 10 + 9) v) count
-  agree-last v h p w = rw (set-split x ((count + 1) * 10 + 9) v (omega arith)) (part-keep x (v ∷ drop (suc ((count + 1) * 10 + 9)) x) ((count + 1) * 10 + 9) (p * 10) 10 (omega arith) (omega arith))
+  pub agree-last : (v : ℕ) → count * definitionWidth + 20 ≤ length x → Agree definitionWidth x (set x ((count + 1) * definitionWidth + 9) v) count
+  agree-last v h p w = rw (set-split x ((count + 1) * definitionWidth + 9) v (omega arith)) (part-keep x (v ∷ drop (suc ((count + 1) * definitionWidth + 9)) x) ((count + 1) * definitionWidth + 9) (p * definitionWidth) 10 (omega arith) (omega arith))
 
 pub row-written : (w : ℕ) (x r : List ℕ) (p : ℕ) → length r ≡ w → p * w ≤ length x → row w (splice x (p * w) r) p ≡ r
 row-written w x r p e h =
@@ -112,14 +100,14 @@ row-written w x r p e h =
     ∙ ap (take w) (drop-at (take i x) (r ++ z) i l)
     ∙ take-at r z w e
 
-pub row-last : (x : List ℕ) (p v : ℕ) → row 10 (set x (p * 10 + 9) v) p ≡ set (row 10 x p) 9 v
-row-last x p v = ap (take 10) (drop-set-add (p * 10) x 9 v) ∙ take-set-lt 10 (drop (p * 10) x) 9 v (omega arith)
+pub row-last : (x : List ℕ) (p v : ℕ) → row definitionWidth (set x (p * definitionWidth + 9) v) p ≡ set (row definitionWidth x p) 9 v
+row-last x p v = ap (take 10) (drop-set-add (p * definitionWidth) x 9 v) ∙ take-set-lt 10 (drop (p * definitionWidth) x) 9 v (omega arith)
 
 -- the master law: es, ns and v are what is new
 pub grow : (t b v : List ℕ) (ks es : List Def) (ms ns : List Attribute) (x x' : List ℕ) (count count' : ℕ) (y y' : List ℕ) (total total' : ℕ)
-    → Held t b ks ms x count y total → Agree 10 x x' count → Agree 6 y y' total → count' ≡ length (ks ++ es) → total' ≡ length (ms ++ ns)
-    → ((p : ℕ) (d : Def) → count < p → entry (ks ++ es) p ≡ some d → DefRow t (b ++ v) (ks ++ es) (ms ++ ns) p d (row 10 x' p))
-    → ((q : ℕ) (a : Attribute) → total < q → entry (ms ++ ns) q ≡ some a → AttributeRow t (b ++ v) (ks ++ es) a (row 6 y' q))
+    → Held t b ks ms x count y total → Agree definitionWidth x x' count → Agree attributeWidth y y' total → count' ≡ length (ks ++ es) → total' ≡ length (ms ++ ns)
+    → ((p : ℕ) (d : Def) → count < p → entry (ks ++ es) p ≡ some d → DefRow t (b ++ v) (ks ++ es) (ms ++ ns) p d (row definitionWidth x' p))
+    → ((q : ℕ) (a : Attribute) → total < q → entry (ms ++ ns) q ≡ some a → AttributeRow t (b ++ v) (ks ++ es) a (row attributeWidth y' q))
     → Held t (b ++ v) (ks ++ es) (ms ++ ns) x' count' y' total'
 grow t b v ks es ms ns x x' count count' y y' total total' h ax ay ec et nd na = record {
   all-defs = ec;
@@ -135,18 +123,18 @@ grow t b v ks es ms ns x x' count count' y y' total total' h ax ay ec et nd na =
         go true e = inl (leb-true p c e)
         go false e = inr (leb-false p c e)
 
-    def : (p : ℕ) (d : Def) → entry (ks ++ es) p ≡ some d → (p ≤ count) ⊎ (count < p) → DefRow t (b ++ v) (ks ++ es) (ms ++ ns) p d (row 10 x' p)
+    def : (p : ℕ) (d : Def) → entry (ks ++ es) p ≡ some d → (p ≤ count) ⊎ (count < p) → DefRow t (b ++ v) (ks ++ es) (ms ++ ns) p d (row definitionWidth x' p)
     def p d e (inl w) =
         let c = h .all-defs in
         let o : entry ks p ≡ some d = sym (entry-keep ks es p (omega arith)) ∙ e in
-        rw (ax p w) (def-row-more ks es ms ns t b v p d (row 10 x p) (omega arith) (h .def-rows p d o))
+        rw (ax p w) (def-row-more ks es ms ns t b v p d (row definitionWidth x p) (omega arith) (h .def-rows p d o))
     def p d e (inr w) = nd p d w e
 
-    att : (q : ℕ) (a : Attribute) → entry (ms ++ ns) q ≡ some a → (q ≤ total) ⊎ (total < q) → AttributeRow t (b ++ v) (ks ++ es) a (row 6 y' q)
+    att : (q : ℕ) (a : Attribute) → entry (ms ++ ns) q ≡ some a → (q ≤ total) ⊎ (total < q) → AttributeRow t (b ++ v) (ks ++ es) a (row attributeWidth y' q)
     att q a e (inl w) =
         let c = h .all-attributes in
         let o : entry ms q ≡ some a = sym (entry-keep ms ns q (omega arith)) ∙ e in
-        rw (ay q w) (attribute-row-more ks es ms ns t b v a (row 6 y q) (h .attribute-rows q a o))
+        rw (ay q w) (attribute-row-more ks es ms ns t b v a (row attributeWidth y q) (h .attribute-rows q a o))
     att q a e (inr w) = na q a w e
 
 -- ---- one more definition, whose row r stands behind the last
@@ -157,7 +145,7 @@ only-last l a (suc i) b w e = ⊎-elim (λ q. let v = nth-within l i b q in absu
 none-behind : {A : Type 0} (l : List A) (p : ℕ) (b : A) → length l < p → ¬ (entry (l ++ []) p ≡ some b)
 none-behind l p b w e = let q : entry l p ≡ some b = rw (append-nil l) at e in let v = entry-within l p b q in omega arith
 
-module _ (t b v : List ℕ) (ks : List Def) (ms : List Attribute) (x : List ℕ) (count : ℕ) (y : List ℕ) (total : ℕ) (h : Held t b ks ms x count y total) (x' : List ℕ) (ax : Agree 10 x x' count) where
+module _ (t b v : List ℕ) (ks : List Def) (ms : List Attribute) (x : List ℕ) (count : ℕ) (y : List ℕ) (total : ℕ) (h : Held t b ks ms x count y total) (x' : List ℕ) (ax : Agree definitionWidth x x' count) where
   -- the book is longer, or rows are written behind the last
   pub held-on : Held t (b ++ v) ks ms x' count y total
   held-on =
@@ -167,7 +155,7 @@ module _ (t b v : List ℕ) (ks : List Def) (ms : List Attribute) (x : List ℕ)
       (λ p d w e. absurd (none-behind ks p d (omega arith) e)) (λ q z w e. absurd (none-behind ms q z (omega arith) e)) in
       rw (append-nil ks, append-nil ms) at g
 
-  pub held-def : (d : Def) → DefRow t (b ++ v) ks ms (count + 1) d (row 10 x' (count + 1)) → Held t (b ++ v) (ks ++ (d ∷ [])) ms x' (count + 1) y total
+  pub held-def : (d : Def) → DefRow t (b ++ v) ks ms (count + 1) d (row definitionWidth x' (count + 1)) → Held t (b ++ v) (ks ++ (d ∷ [])) ms x' (count + 1) y total
   held-def d r =
       let a = h .all-defs in
       let c = h .all-attributes in
@@ -176,13 +164,13 @@ module _ (t b v : List ℕ) (ks : List Def) (ms : List Attribute) (x : List ℕ)
       (λ p e w u.
       let (i, j) = only-last ks d p e (omega arith) u in
       let i' : p ≡ count + 1 = omega arith in
-      rw (i', ← j, ← append-nil (b ++ v)) (def-row-more ks (d ∷ []) ms [] t (b ++ v) [] (count + 1) d (row 10 x' (count + 1)) (omega arith) r))
+      rw (i', ← j, ← append-nil (b ++ v)) (def-row-more ks (d ∷ []) ms [] t (b ++ v) [] (count + 1) d (row definitionWidth x' (count + 1)) (omega arith) r))
       (λ q z w e. absurd (none-behind ms q z (omega arith) e)) in
       rw (append-nil ms) at g
 
 -- ---- one more attribute
-pub held-attribute : (t b v : List ℕ) (ks : List Def) (ms : List Attribute) (x : List ℕ) (count : ℕ) (y : List ℕ) (total : ℕ) → Held t b ks ms x count y total → (y' : List ℕ) → Agree 6 y y' total
-    → (a : Attribute) → AttributeRow t (b ++ v) ks a (row 6 y' (total + 1)) → Held t (b ++ v) ks (ms ++ (a ∷ [])) x count y' (total + 1)
+pub held-attribute : (t b v : List ℕ) (ks : List Def) (ms : List Attribute) (x : List ℕ) (count : ℕ) (y : List ℕ) (total : ℕ) → Held t b ks ms x count y total → (y' : List ℕ) → Agree attributeWidth y y' total
+    → (a : Attribute) → AttributeRow t (b ++ v) ks a (row attributeWidth y' (total + 1)) → Held t (b ++ v) ks (ms ++ (a ∷ [])) x count y' (total + 1)
 held-attribute t b v ks ms x count y total h y' ay a r =
     let c = h .all-defs in
     let d = h .all-attributes in
@@ -196,24 +184,15 @@ held-attribute t b v ks ms x count y total h y' ay a r =
     rw (append-nil ks) at g
 
 -- ---- where types stand
-stands-behind : (b : List ℕ) (p : ℕ) (r : Record) (rs : List Record) → Stands b p (r ∷ rs) → Stands b (p + length r) rs
-stands-behind b p r rs h =
-    let e : drop p b ≡ r ++ (bytes rs ++ h .behind) = h .bytes-are ∙ append-assoc r (bytes rs) (h .behind) in
-    record {
-      within = let l = ap length e in let m = length-append r (bytes rs ++ h .behind) in let k = length-drop p b in let w = h .within in omega arith;
-      behind = h .behind;
-      bytes-are = sym (drop-drop (length r) p b) ∙ ap (drop (length r)) e ∙ drop-append-seam r (bytes rs ++ h .behind);
-    }
-
-pub type-stands : (b : List ℕ) (p : ℕ) (d : Def) → Stands b p (heading domain d) → Stands b (p + 11) (typeRecords (d .type))
+pub type-stands : (b : List ℕ) (p : ℕ) (d : Def) → Stands b p (heading domain d) → Stands b (p + headSize) (typeRecords (d .type))
 type-stands b p d h = stands-behind b p (defRecord 7 d) (typeRecords (d .type)) h
 
 module _ (t b : List ℕ) (ks : List Def) (a : Attribute) (r : List ℕ) (h : AttributeRow t b ks a r) where
   -- a type in place
-  pub use-in-place : getD r 5 0 ≡ 0 → Stands b (getD r 3 0 + 11) (typeRecords (tyOf (a .use-of)))
+  pub use-in-place : getD r 5 0 ≡ 0 → Stands b (getD r 3 0 + headSize) (typeRecords (tyOf (a .use-of)))
   use-in-place z =
       let u : a .use-of ≡ inline (tyOf (a .use-of)) = sym (h .uses) ∙ ap (λ (k : ℕ). useFor (entry ks k) (tyOf (a .use-of))) z in
-      subst (Stands b (getD r 3 0 + 11)) (ap useRecords u) (stands-behind b (getD r 3 0) (headRecord 6 (a .name) (flags false (a .final) (a .extended) (a .mandatory)) (numberOr (a .base))) (useRecords (a .use-of)) (h .stands))
+      subst (Stands b (getD r 3 0 + headSize)) (ap useRecords u) (stands-behind b (getD r 3 0) (headRecord 6 (a .name) (flags false (a .final) (a .extended) (a .mandatory)) (numberOr (a .base))) (useRecords (a .use-of)) (h .stands))
 
   -- a domain or structure that is named
   pub use-named : 0 < getD r 5 0 → (d : Def) × (entry ks (getD r 5 0) ≡ some d) × (naming d ≡ a .use-of)

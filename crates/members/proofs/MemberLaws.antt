@@ -11,7 +11,7 @@ use Rattle.rules.specs.Bytes.{same}
 use Rattle.rules.specs.Declarations.{Attribute}
 use Rattle.ground.specs.Parts.{part}
 use Rattle.names.specs.Index.{nth, entry, row}
-use Rattle.members.specs.Members.{Tells, Members, slotFrom, Filled}
+use Rattle.members.specs.Members.{Tells, Members, slotFrom, Filled, attributeWidth, most}
 use Rattle.names.proofs.IndexLaws.{there, nth-drop, entry-within}
 
 -- ---- a row with the name
@@ -26,11 +26,11 @@ module _ (t : List ℕ) (a : Attribute) (r n : List ℕ) (s : Tells t a r) (o l 
   told-inside = let w = s .named .within in let b = s .offset in let c = s .size in omega arith
 
 -- ---- a turn of the search: what stands behind i is judged by b
-module _ (t : List ℕ) (ms : List Attribute) (y : List ℕ) (total : ℕ) (k : Members t ms y total) (numbers positions : List ℕ) (count : ℕ) (h : List Attribute) (f : Filled ms numbers positions count h) (n : List ℕ) (i : ℕ) where
+module _ (t : List ℕ) (ms : List Attribute) (y : List ℕ) (total : ℕ) (k : Members t ms y total) (hs : List ℕ) (count : ℕ) (h : List Attribute) (f : Filled ms hs count h) (n : List ℕ) (i : ℕ) where
   pub slot-end : count ≤ i → 0 ≡ slotFrom n i (drop i h)
   slot-end w = let e = f .all in let v : length h ≤ i = omega arith in sym (ap (slotFrom n i) (drop-of-length-le h v))
 
-  module _ (w : i < count) (q : ℕ) (eq : q ≡ getD positions i 0) (b : Bool) (g : q ≤ total → (a : Attribute) → Tells t a (row 6 y q) → b ≡ same n (a .name .bytes)) where
+  module _ (w : i < count) (q : ℕ) (eq : q ≡ getD hs (most + i) 0) (b : Bool) (g : q ≤ total → (a : Attribute) → Tells t a (row attributeWidth y q) → b ≡ same n (a .name .bytes)) where
     behind : (a : Attribute) × (nth h i ≡ some a) × (b ≡ same n (a .name .bytes))
     behind =
         let e = f .all in

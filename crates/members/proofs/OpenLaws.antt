@@ -8,7 +8,6 @@ use Prim.Native.Nat.{ℕ, zero, suc, _+_, _-_, _≤_, _<_}
 use native.Mathlib.Omega.{arith}
 use lib.ListN.{length, length-append, getD, set}
 use lib.Dec.{ltb}
-use lib.Seq.{getD-set-same, getD-set-other}
 use borrow.Author.Tests.{lt-ltb, le-ltb}
 use Rattle.rules.specs.All.{All}
 use Rattle.rules.specs.Bytes.{same}
@@ -18,12 +17,12 @@ use Rattle.rules.proofs.AllLaws.{all-attribute, all-append}
 use Rattle.rules.proofs.Tests.{never, not-both}
 use Rattle.rules.proofs.ByteLaws.{same-eq}
 use Rattle.names.specs.Index.{nth, entry}
-use Rattle.members.specs.Members.{slotFrom, slotOf, nearest, replaced, withNearest, Filled}
+use Rattle.members.specs.Members.{slotFrom, slotOf, nearest, replaced, withNearest, Filled, most, Hand}
 use Rattle.members.specs.Held.{Opened, InHand, Apart}
-use Rattle.names.proofs.IndexLaws.{entry-keep, entry-within}
+use Rattle.names.proofs.IndexLaws.{entry-keep, entry-within, nth-within}
 use Rattle.names.proofs.BaseLaws.{entry-there}
 use Rattle.members.proofs.NearLaws.{found-before, passed, count-more, near-found, near-count}
-use Rattle.members.proofs.FillLaws.{filled-more, slot-zero, slot-some}
+use Rattle.members.proofs.FillLaws.{filled-more, slot-zero, slot-some, number-same, number-other, position-same, position-other}
 
 abbrev bytes : Attribute → List ℕ
 bytes a = a .name .bytes
@@ -82,31 +81,32 @@ replaced-finds (c ∷ l) a m e = go (same (bytes a) (bytes c)) refl (same m (byt
         rw (r, ih f, q)
     go false p false q ih f = ap (cond (same m (bytes c)) (some c)) (ih f ∙ rw q)
 
--- ---- the arrays
-module _ (ms : List Attribute) (ns xs : List ℕ) (n : ℕ) (h : List Attribute) (a : Attribute) (q k r : ℕ) (ea : entry ms q ≡ some a) (ek : k ≡ a .number) (er : r ≡ slotOf (bytes a) h) (f : Filled ms ns xs n h) where
-  pub hold-new : r ≡ 0 → n < length ns → n < length xs → Filled ms (set ns n k) (set xs n q) (n + 1) (withNearest h a)
-  hold-new z hn hx = rw (slot-zero (bytes a) 0 h (sym er ∙ z)) (filled-more ms ns xs n h a q k f ea ek hn hx)
+-- ---- the hand
+module _ (ms : List Attribute) (hs : List ℕ) (n : ℕ) (h : List Attribute) (a : Attribute) (q k r : ℕ) (ea : entry ms q ≡ some a) (ek : k ≡ a .number) (er : r ≡ slotOf (bytes a) h) (f : Filled ms hs n h) where
+  pub hold-new : r ≡ 0 → n < most → Hand hs → Filled ms (set (set hs n k) (most + n) q) (n + 1) (withNearest h a)
+  hold-new z hn hx = rw (slot-zero (bytes a) 0 h (sym er ∙ z)) (filled-more ms hs n h a q k f ea ek hn hx)
 
-  pub hold-old : ¬ (r ≡ 0) → r - 1 < length ns → r - 1 < length xs → Filled ms (set ns (r - 1) k) (set xs (r - 1) q) n (withNearest h a)
-  hold-old z hn hx = rw (slot-some (bytes a) 0 h (λ e. z (er ∙ e))) (record {
+  pub hold-old : ¬ (r ≡ 0) → n ≤ most → r - 1 < most → Hand hs → Filled ms (set (set hs (r - 1) k) (most + (r - 1)) q) n (withNearest h a)
+  hold-old z hm hn hl = rw (slot-some (bytes a) 0 h (λ e. z (er ∙ e))) (record {
     all = f .all ∙ sym (replaced-length h a);
-    at-position = λ i b u. ⊎-elim (λ v. rw (v .0, getD-set-same xs (r - 1) q 0 hx, ← v .1) ea) (λ v. rw (getD-set-other xs (r - 1) i q 0 (v .0)) (f .at-position i b (v .1))) (replaced-nth h a 0 (r - 1) slot i b u);
-    at-number = λ i b u. ⊎-elim (λ v. rw (v .0, getD-set-same ns (r - 1) k 0 hn, ← v .1) ek) (λ v. rw (getD-set-other ns (r - 1) i k 0 (v .0)) (f .at-number i b (v .1))) (replaced-nth h a 0 (r - 1) slot i b u);
+    at-position = λ i b u. ⊎-elim (λ v. rw (v .0, position-same hs (r - 1) k q hn hl, ← v .1) ea) (λ v. rw (position-other hs (r - 1) k q i hn (v .0)) (f .at-position i b (v .1))) (replaced-nth h a 0 (r - 1) slot i b u);
+    at-number = λ i b u. ⊎-elim (λ v. rw (v .0, number-same hs (r - 1) k q hn hl, ← v .1) ek)
+        (λ v. let w = nth-within h i b (v .1) in let z = f .all in rw (number-other hs (r - 1) k q i (omega arith) (v .0)) (f .at-number i b (v .1))) (replaced-nth h a 0 (r - 1) slot i b u);
   })
     where
       slot : slotFrom (bytes a) 0 h ≡ 0 + suc (r - 1)
       slot = omega arith
 
-pub filled-grows : (ms ns : List Attribute) (is xs : List ℕ) (n : ℕ) (h : List Attribute) → Filled ms is xs n h → Filled (ms ++ ns) is xs n h
-filled-grows ms ns is xs n h f = record {
+pub filled-grows : (ms ns : List Attribute) (hs : List ℕ) (n : ℕ) (h : List Attribute) → Filled ms hs n h → Filled (ms ++ ns) hs n h
+filled-grows ms ns hs n h f = record {
   all = f .all;
-  at-position = λ i a e. let p = f .at-position i a e in entry-keep ms ns (getD xs i 0) (entry-within ms (getD xs i 0) a p) ∙ p;
+  at-position = λ i a e. let p = f .at-position i a e in entry-keep ms ns (getD hs (most + i) 0) (entry-within ms (getD hs (most + i) 0) a p) ∙ p;
   at-number = f .at-number;
 }
 
 -- ---- the class after its head
-pub opened-start : (ms : List Attribute) (ns xs : List ℕ) (n : ℕ) (o : Option Def) (c : Def) → c .own ≡ [] → c .inherited ≡ attributesOf (orNoDef o) → Filled ms ns xs n (nearest (attributesOf (orNoDef o))) → Opened ms ns xs n c
-opened-start ms ns xs n o c eo ei f =
+pub opened-start : (ms : List Attribute) (hs : List ℕ) (n : ℕ) (o : Option Def) (c : Def) → c .own ≡ [] → c .inherited ≡ attributesOf (orNoDef o) → Filled ms hs n (nearest (attributesOf (orNoDef o))) → Opened ms hs n c
+opened-start ms hs n o c eo ei f =
     let e : attributesOf c ≡ attributesOf (orNoDef o) = rw (eo, ei) in
     record {
       hand = nearest (attributesOf (orNoDef o));
@@ -116,17 +116,17 @@ opened-start ms ns xs n o c eo ei f =
     }
 
 -- over the class that is in hand nothing changes
-pub opened-over : (ms : List Attribute) (ns xs : List ℕ) (n : ℕ) (o : Option Def) (c : Def) → isFound o ≡ true → c .own ≡ [] → c .inherited ≡ attributesOf (orNoDef o) → InHand ms ns xs n o → Opened ms ns xs n c
-opened-over ms ns xs n none c f eo ei h = never f
-opened-over ms ns xs n (some d) c f eo ei h =
+pub opened-over : (ms : List Attribute) (hs : List ℕ) (n : ℕ) (o : Option Def) (c : Def) → isFound o ≡ true → c .own ≡ [] → c .inherited ≡ attributesOf (orNoDef o) → InHand ms hs n o → Opened ms hs n c
+opened-over ms hs n none c f eo ei h = never f
+opened-over ms hs n (some d) c f eo ei h =
     let e : attributesOf c ≡ attributesOf d = rw (eo, ei) in
     record { hand = h .hand; filled = h .filled; finds = λ m. h .finds m ∙ ap (attributeAt m) (sym e); counts = h .counts ∙ ap nameCount (sym e) }
 
-pub opened-held : (ms : List Attribute) (ns xs : List ℕ) (n : ℕ) (ks : List Def) (base held : ℕ) (c : Def) → base ≡ held → 0 < base → base ≤ length ks → c .own ≡ [] → c .inherited ≡ attributesOf (orNoDef (entry ks base))
-    → InHand ms ns xs n (entry ks held) → Opened ms ns xs n c
-opened-held ms ns xs n ks base held c e z w eo ei h =
+pub opened-held : (ms : List Attribute) (hs : List ℕ) (n : ℕ) (ks : List Def) (base held : ℕ) (c : Def) → base ≡ held → 0 < base → base ≤ length ks → c .own ≡ [] → c .inherited ≡ attributesOf (orNoDef (entry ks base))
+    → InHand ms hs n (entry ks held) → Opened ms hs n c
+opened-held ms hs n ks base held c e z w eo ei h =
     let (d, q) = entry-there ks base z w in
-    opened-over ms ns xs n (entry ks base) c (ap isFound q) eo ei (subst (λ (i : ℕ). InHand ms ns xs n (entry ks i)) (sym e) h)
+    opened-over ms hs n (entry ks base) c (ap isFound q) eo ei (subst (λ (i : ℕ). InHand ms hs n (entry ks i)) (sym e) h)
 
 -- ---- one own attribute more, whose name no own one has
 pub finds-more : (h l r : List Attribute) (a : Attribute) → has (bytes a) l ≡ false → ((m : List ℕ) → attributeAt m h ≡ attributeAt m (l ++ r)) → (m : List ℕ) → attributeAt m (withNearest h a) ≡ attributeAt m (l ++ a ∷ r)
@@ -152,13 +152,13 @@ counts-more h l r a f e = rw (count-more l a r, ← f (bytes a)) (go (has (bytes
     go true = replaced-length h a ∙ e
     go false = let p = length-append h (a ∷ []) in omega arith
 
-pub opened-more : (ms : List Attribute) (ns xs : List ℕ) (n : ℕ) (c : Def) → Opened ms ns xs n c → (a : Attribute) → has (bytes a) (c .own) ≡ false
-    → (ns' xs' : List ℕ) (n' : ℕ) → ((h : List Attribute) → Filled (ms ++ (a ∷ [])) ns xs n h → ((m : List ℕ) → attributeAt m h ≡ attributeAt m (attributesOf c)) → Filled (ms ++ (a ∷ [])) ns' xs' n' (withNearest h a))
-    → Opened (ms ++ (a ∷ [])) ns' xs' n' (withAttribute c a)
+pub opened-more : (ms : List Attribute) (hs : List ℕ) (n : ℕ) (c : Def) → Opened ms hs n c → (a : Attribute) → has (bytes a) (c .own) ≡ false
+    → (hs' : List ℕ) (n' : ℕ) → ((h : List Attribute) → Filled (ms ++ (a ∷ [])) hs n h → ((m : List ℕ) → attributeAt m h ≡ attributeAt m (attributesOf c)) → Filled (ms ++ (a ∷ [])) hs' n' (withNearest h a))
+    → Opened (ms ++ (a ∷ [])) hs' n' (withAttribute c a)
 unfolding withAttribute
-opened-more ms ns xs n c o a u ns' xs' n' hold =
+opened-more ms hs n c o a u hs' n' hold =
     let h : List Attribute = o .hand in
-    let f = hold h (filled-grows ms (a ∷ []) ns xs n h (o .filled)) (o .finds) in
+    let f = hold h (filled-grows ms (a ∷ []) hs n h (o .filled)) (o .finds) in
     record {
       hand = withNearest h a;
       filled = f;
@@ -180,8 +180,8 @@ found-from n i (b ∷ l) = go (same n (bytes b)) (found-from n (i + 1) l)
 pub slot-finds : (n : List ℕ) (h : List Attribute) → entry h (slotOf n h) ≡ attributeAt n h
 slot-finds n h = ⊎-elim (λ p. rw (p .0) (p .1)) (λ p. let (j, e, q) = p in let k : slotOf n h ≡ suc j = omega arith in rw k q) (found-from n 0 h)
 
-pub opened-finds : (ms : List Attribute) (ns xs : List ℕ) (k : ℕ) (c : Def) (o : Opened ms ns xs k c) (n : List ℕ) → entry (o .hand) (slotOf n (o .hand)) ≡ attributeAt n (attributesOf c)
-opened-finds ms ns xs k c o n = slot-finds n (o .hand) ∙ o .finds n
+pub opened-finds : (ms : List Attribute) (hs : List ℕ) (k : ℕ) (c : Def) (o : Opened ms hs k c) (n : List ℕ) → entry (o .hand) (slotOf n (o .hand)) ≡ attributeAt n (attributesOf c)
+opened-finds ms hs k c o n = slot-finds n (o .hand) ∙ o .finds n
 
 -- ---- own or inherited
 pub own-is : (c : Def) (n : List ℕ) (a : Attribute) → Apart c → attributeAt n (attributesOf c) ≡ some a → ltb (c .number) (a .number) ≡ has n (c .own)
@@ -199,13 +199,13 @@ own-is c n a p e = go (has n (c .own)) refl
         let w = all-attribute (λ (x : Attribute). x .number < c .number) n (c .inherited) a (p .inherited-before) f in
         le-ltb (c .number) (a .number) (omega arith) ∙ sym q
 
-pub own-slot : (ms : List Attribute) (ns xs : List ℕ) (k : ℕ) (c : Def) (m : List ℕ) (o : Opened ms ns xs k c) → Apart c → (r : ℕ) → 0 < r → r ≡ slotOf m (o .hand) → ltb (c .number) (getD ns (r - 1) 0) ≡ has m (c .own)
-own-slot ms ns xs k c m o p r z e = go (attributeAt m (attributesOf c)) refl
+pub own-slot : (ms : List Attribute) (hs : List ℕ) (k : ℕ) (c : Def) (m : List ℕ) (o : Opened ms hs k c) → Apart c → (r : ℕ) → 0 < r → r ≡ slotOf m (o .hand) → ltb (c .number) (getD hs (r - 1) 0) ≡ has m (c .own)
+own-slot ms hs k c m o p r z e = go (attributeAt m (attributesOf c)) refl
   where
     at-slot : nth (o .hand) (r - 1) ≡ attributeAt m (attributesOf c)
-    at-slot = let q : r ≡ suc (r - 1) = omega arith in ap (entry (o .hand)) (sym q) ∙ ap (entry (o .hand)) e ∙ opened-finds ms ns xs k c o m
+    at-slot = let q : r ≡ suc (r - 1) = omega arith in ap (entry (o .hand)) (sym q) ∙ ap (entry (o .hand)) e ∙ opened-finds ms hs k c o m
 
-    go : (a : Option Attribute) → attributeAt m (attributesOf c) ≡ a → ltb (c .number) (getD ns (r - 1) 0) ≡ has m (c .own)
+    go : (a : Option Attribute) → attributeAt m (attributesOf c) ≡ a → ltb (c .number) (getD hs (r - 1) 0) ≡ has m (c .own)
     go none q =
         let f : has m (o .hand) ≡ true = slot-some m 0 (o .hand) (λ y. absurd (omega arith)) in
         let g : has m (o .hand) ≡ false = ap isFound (o .finds m ∙ q) in

@@ -20,11 +20,12 @@ use Rattle.rules.specs.Judge.{declare, opened, inTopic, begun, withAttribute}
 use Rattle.rules.proofs.Tests.{not-both}
 use Rattle.rules.proofs.GrowLaws.{known-append, bytes-append, decls-append, attributes-append}
 use Rattle.rules.proofs.PartLaws.{length-part}
-use Rattle.names.specs.Index.{entry, row}
-use Rattle.members.specs.Members.{Unlike}
+use Rattle.names.specs.Index.{entry, row, definitionWidth}
+use Rattle.members.specs.Members.{Unlike, attributeWidth}
 use Rattle.members.specs.Held.{heading, DefRow, AttributeRow, OpenRow, ownsOf, attributesIn, HeldIn}
 use Rattle.members.proofs.NearLaws.{passed, count-more}
-use Rattle.members.proofs.HeldLaws.{Agree, agree-last, agree-all, row-last, stands-more, held-on, held-def, held-attribute}
+use Rattle.members.proofs.HeldLaws.{Agree, agree-last, agree-all, row-last, held-on, held-def, held-attribute}
+use Rattle.book.proofs.StandLaws.{stands-more}
 
 -- ---- lists of declarations that grow
 pub owns-append : (ks : List Def) (d : Def) → ownsOf (ks ++ (d ∷ [])) ≡ ownsOf ks ++ d .own
@@ -78,7 +79,7 @@ held-begun t n q x y = record {
 -- a topic or a domain, whose row is the one behind the last
 pub held-declared : (t : List ℕ) (s s' : State) (d : Def) (x : List ℕ) (count : ℕ) (y : List ℕ) (total : ℕ) → HeldIn t s x count y total
     → s .open-class ≡ none → s' .open-class ≡ none → s' .decls ≡ s .decls ++ (def d ∷ []) → d .own ≡ []
-    → (x' : List ℕ) → Agree 10 x x' count → DefRow t (book s') (known (s .decls)) (attributesIn s) (count + 1) d (row 10 x' (count + 1)) → HeldIn t s' x' (count + 1) y total
+    → (x' : List ℕ) → Agree definitionWidth x x' count → DefRow t (book s') (known (s .decls)) (attributesIn s) (count + 1) d (row definitionWidth x' (count + 1)) → HeldIn t s' x' (count + 1) y total
 held-declared t s s' d x count y total h o o' q w x' ax r =
     let b = book-declared s s' (def d) o o' q in
     let k : known (s' .decls) ≡ known (s .decls) ++ (d ∷ []) = rw q (known-append (s .decls) (def d)) in
@@ -88,7 +89,7 @@ held-declared t s s' d x count y total h o o' q w x' ax r =
 
 -- the head of a class: its row is not counted yet
 pub held-opened : (t : List ℕ) (s : State) (c : Def) (x : List ℕ) (count : ℕ) (y : List ℕ) (total : ℕ) → HeldIn t s x count y total
-    → s .open-class ≡ none → c .own ≡ [] → (x' : List ℕ) → Agree 10 x x' count → HeldIn t (opened s c) x' count y total
+    → s .open-class ≡ none → c .own ≡ [] → (x' : List ℕ) → Agree definitionWidth x x' count → HeldIn t (opened s c) x' count y total
 held-opened t s c x count y total h o w x' ax =
     let b = book-opened s c o in
     let m : attributesIn (opened s c) ≡ attributesIn s = rw (o, w) in
@@ -96,8 +97,8 @@ held-opened t s c x count y total h o w x' ax =
 
 -- an attribute of the open class
 pub held-member : (t : List ℕ) (s : State) (c : Def) (st : Bool) (a : Attribute) (x : List ℕ) (count : ℕ) (y : List ℕ) (total : ℕ) → HeldIn t s x count y total
-    → s .open-class ≡ some c → c .sort ≡ classSort st → (y' : List ℕ) → Agree 6 y y' total
-    → AttributeRow t (book (opened s (withAttribute c a))) (known (s .decls)) a (row 6 y' (total + 1)) → HeldIn t (opened s (withAttribute c a)) x count y' (total + 1)
+    → s .open-class ≡ some c → c .sort ≡ classSort st → (y' : List ℕ) → Agree attributeWidth y y' total
+    → AttributeRow t (book (opened s (withAttribute c a))) (known (s .decls)) a (row attributeWidth y' (total + 1)) → HeldIn t (opened s (withAttribute c a)) x count y' (total + 1)
 unfolding withAttribute
 held-member t s c st a x count y total h o e y' ay r =
     let b = book-attribute s c st o e a in
@@ -181,13 +182,13 @@ module _ (r : List ℕ) (v : ℕ) where
   }
 
 pub held-closed : (t : List ℕ) (s : State) (c : Def) (st : Bool) (x : List ℕ) (count : ℕ) (y : List ℕ) (total : ℕ) → HeldIn t s x count y total
-    → s .open-class ≡ some c → c .sort ≡ classSort st → count * 10 + 20 ≤ length x → OpenRow t (book s) (known (s .decls)) (attributesIn s) (count + 1) c (row 10 x (count + 1))
-    → HeldIn t (declare s (def c)) (set x ((count + 1) * 10 + 9) total) (count + 1) y total
+    → s .open-class ≡ some c → c .sort ≡ classSort st → count * definitionWidth + 20 ≤ length x → OpenRow t (book s) (known (s .decls)) (attributesIn s) (count + 1) c (row definitionWidth x (count + 1))
+    → HeldIn t (declare s (def c)) (set x ((count + 1) * definitionWidth + 9) total) (count + 1) y total
 held-closed t s c st x count y total h o e w r =
     let b = book-closed s c st o e in
     let k = known-append (s .decls) (def c) in
     let m : attributesIn (declare s (def c)) ≡ attributesIn s = rw (k, o, append-nil (ownsOf (known (s .decls) ++ (c ∷ []))), owns-append (known (s .decls)) c) in
-    let l : length (row 10 x (count + 1)) ≡ 10 = length-part x ((count + 1) * 10) 10 (omega arith) in
-    let d = closed-row (row 10 x (count + 1)) total t (book s) (16 ∷ []) (known (s .decls)) (attributesIn s) (count + 1) c l (h .all-attributes) r in
+    let l : length (row definitionWidth x (count + 1)) ≡ 10 = length-part x ((count + 1) * definitionWidth) 10 (omega arith) in
+    let d = closed-row (row definitionWidth x (count + 1)) total t (book s) (16 ∷ []) (known (s .decls)) (attributesIn s) (count + 1) c l (h .all-attributes) r in
     rw (b, m, k)
-    (held-def t (book s) (16 ∷ []) (known (s .decls)) (attributesIn s) x count y total h (set x ((count + 1) * 10 + 9) total) (agree-last x [] count total w) c (rw (row-last x (count + 1) total) d))
+    (held-def t (book s) (16 ∷ []) (known (s .decls)) (attributesIn s) x count y total h (set x ((count + 1) * definitionWidth + 9) total) (agree-last x [] count total w) c (rw (row-last x (count + 1) total) d))

@@ -8,16 +8,11 @@ use Rattle.rules.specs.All.{All}
 use Rattle.rules.specs.Types.{Ty}
 use Rattle.rules.specs.Declarations as D
 use Rattle.rules.specs.Declarations.{Use, inline, tyOf, Attribute, Sort, Def, attributesOf, attributeAt, nameCount, State, known}
-use Rattle.rules.specs.Book.{Record, bytes, nameRecord, defRecord, typeRecords, attributeRecords, book}
+use Rattle.rules.specs.Book.{Record, nameRecord, defRecord, typeRecords, attributeRecords, book}
 use Rattle.rules.specs.Judge.{naming}
-use Rattle.names.specs.Index.{entry, row, Says, Based}
-use Rattle.members.specs.Members.{Tells, Unlike, Owns, Filled}
-
--- the records stand in the book from a place on
-pub record Stands (b : List ℕ) (place : ℕ) (rs : List Record) : Type 0 where
-  pub within : place ≤ length b
-  pub behind : List ℕ
-  pub bytes-are : drop place b ≡ bytes rs ++ behind
+use Rattle.names.specs.Index.{entry, row, Says, Based, definitionWidth}
+use Rattle.members.specs.Members.{Tells, Unlike, Owns, Filled, attributeWidth, most}
+use Rattle.book.specs.Places.{Stands}
 
 -- the record of a definition, and a domain's type
 abbrev pub heading : Sort → Def → List Record
@@ -48,29 +43,29 @@ pub record AttributeRow (t b : List ℕ) (ks : List Def) (a : Attribute) (r : Li
 pub record Held (t b : List ℕ) (ks : List Def) (ms : List Attribute) (x : List ℕ) (count : ℕ) (y : List ℕ) (total : ℕ) : Type 0 where
   pub all-defs : count ≡ length ks
   pub all-attributes : total ≡ length ms
-  pub def-rows : (p : ℕ) (d : Def) → entry ks p ≡ some d → DefRow t b ks ms p d (row 10 x p)
-  pub attribute-rows : (q : ℕ) (a : Attribute) → entry ms q ≡ some a → AttributeRow t b ks a (row 6 y q)
+  pub def-rows : (p : ℕ) (d : Def) → entry ks p ≡ some d → DefRow t b ks ms p d (row definitionWidth x p)
+  pub attribute-rows : (q : ℕ) (a : Attribute) → entry ms q ≡ some a → AttributeRow t b ks a (row attributeWidth y q)
 
--- ---- the open class: its row, which tells nothing of its own attributes' end yet, and the arrays
+-- ---- the open class: its row, which tells nothing of its own attributes' end yet, and the hand
 pub record OpenRow (t b : List ℕ) (ks : List Def) (ms : List Attribute) (p : ℕ) (c : Def) (r : List ℕ) : Type 0 where
   pub says : Says t c r
   pub based : Based ks p c r
   pub within : getD r 8 0 ≤ length ms
   pub own : drop (getD r 8 0) ms ≡ c .own
   pub unlike : Unlike (c .own)
-  pub few : nameCount (attributesOf c) ≤ 256
+  pub few : nameCount (attributesOf c) ≤ most
   pub stands : Stands b (getD r 6 0) (heading (c .sort) c)
 
-pub record Opened (ms : List Attribute) (numbers positions : List ℕ) (n : ℕ) (c : Def) : Type 0 where
+pub record Opened (ms : List Attribute) (hs : List ℕ) (n : ℕ) (c : Def) : Type 0 where
   pub hand : List Attribute
-  pub filled : Filled ms numbers positions n hand
+  pub filled : Filled ms hs n hand
   pub finds : (m : List ℕ) → attributeAt m hand ≡ attributeAt m (attributesOf c)
   pub counts : n ≡ nameCount (attributesOf c)
 
 -- the attributes of a definition, if there is one, are in hand
-abbrev pub InHand : List Attribute → List ℕ → List ℕ → ℕ → Option Def → Type 0
-InHand ms numbers positions n none = Unit
-InHand ms numbers positions n (some d) = Opened ms numbers positions n d
+abbrev pub InHand : List Attribute → List ℕ → ℕ → Option Def → Type 0
+InHand ms hs n none = Unit
+InHand ms hs n (some d) = Opened ms hs n d
 
 -- a fact of every state that is reached: the records of a class's own attributes stand behind its own, those of inherited ones before
 pub record Apart (c : Def) : Type 0 where

@@ -1,17 +1,28 @@
--- What the code holds of attributes: a row of six numbers for each, in text order; the open class as an array of record numbers and one of
--- the attributes' positions, of each name the nearest.
+-- What the code holds of attributes: a row of numbers for each, in text order; and in hand those of the open class, of each name the nearest.
 use mathlib.Core.Path.{_≡_}
 use mathlib.Core.Bool.{false, cond, not}
 use mathlib.Core.Option.{none, some}
 use mathlib.Core.List.{List, [], _∷_, _++_}
-use Prim.Native.Nat.{ℕ, _+_, _≤_}
+use Prim.Native.Nat.{ℕ, _+_, _*_, _≤_}
 use lib.ListN.{length, getD, drop}
 use Rattle.rules.specs.Bytes.{same}
 use Rattle.rules.specs.Declarations.{Attribute, Def, attributesOf, attributeAt, isFound, nameCount}
 use Rattle.rules.specs.Book.{flags}
-use Rattle.names.specs.Index.{nth, entry, row, Named, Known, Chained}
+use Rattle.names.specs.Index.{nth, entry, row, Named, Known, Chained, definitionWidth}
+
+-- how many attributes a class has at most
+abbrev pub most : ℕ
+most = 256
 
 -- ---- rows
+-- how many numbers an attribute's row has
+abbrev pub attributeWidth : ℕ
+attributeWidth = 6
+
+-- there are rows of attributes up to the position q
+abbrev pub AttributeRows : List ℕ → ℕ → Type 0
+AttributeRows y q = q * attributeWidth + attributeWidth ≤ length y
+
 pub record Tells (t : List ℕ) (a : Attribute) (r : List ℕ) : Type 0 where
   pub named : Named t (a .name)
   pub offset : getD r 0 0 ≡ a .name .offset
@@ -22,25 +33,25 @@ pub record Tells (t : List ℕ) (a : Attribute) (r : List ℕ) : Type 0 where
 -- the rows y are those of the attributes ms
 pub record Members (t : List ℕ) (ms : List Attribute) (y : List ℕ) (total : ℕ) : Type 0 where
   pub all : total ≡ length ms
-  pub tells : (q : ℕ) (a : Attribute) → entry ms q ≡ some a → Tells t a (row 6 y q)
+  pub tells : (q : ℕ) (a : Attribute) → entry ms q ≡ some a → Tells t a (row attributeWidth y q)
 
 -- ---- names in one list
 abbrev pub Unlike : List Attribute → Type 0
 Unlike [] = Unit
 Unlike (a ∷ l) = (attributeAt (a .name .bytes) l ≡ none) × Unlike l
 
--- the own attributes of a class stand behind one another, from its row's position on; their names differ, and with those inherited there are
--- at most 256
+-- the own attributes of a class stand behind one another, from its row's position on; their names differ, and with those inherited they
+-- are not too many
 pub record Owns (ms : List Attribute) (d : Def) (r : List ℕ) : Type 0 where
   pub last : getD r 9 0 ≡ getD r 8 0 + length (d .own)
   pub within : getD r 9 0 ≤ length ms
   pub more : List Attribute
   pub own : drop (getD r 8 0) ms ≡ d .own ++ more
   pub unlike : Unlike (d .own)
-  pub few : nameCount (attributesOf d) ≤ 256
+  pub few : nameCount (attributesOf d) ≤ most
 
 abbrev pub Owned : List Attribute → List Def → List ℕ → Type 0
-Owned ms ks x = (p : ℕ) (d : Def) → entry ks p ≡ some d → Owns ms d (row 10 x p)
+Owned ms ks x = (p : ℕ) (d : Def) → entry ks p ≡ some d → Owns ms d (row definitionWidth x p)
 
 -- the rows x are those of the definitions ks, the rows y those of the attributes ms
 pub record Indexed (t : List ℕ) (ks : List Def) (ms : List Attribute) (x : List ℕ) (count : ℕ) (y : List ℕ) (total : ℕ) : Type 0 where
@@ -79,8 +90,12 @@ withNearest h a = cond (isFound (attributeAt (a .name .bytes) h)) (replaced h a)
 abbrev pub nearest : List Attribute → List Attribute
 nearest l = nearestTo [] l
 
--- the first n of both arrays are the attributes h
-pub record Filled (ms : List Attribute) (numbers positions : List ℕ) (n : ℕ) (h : List Attribute) : Type 0 where
+-- the hand has so many record numbers, and behind them as many positions
+abbrev pub Hand : List ℕ → Type 0
+Hand hs = length hs ≡ most + most
+
+-- the first n of the hand are the attributes h
+pub record Filled (ms : List Attribute) (hs : List ℕ) (n : ℕ) (h : List Attribute) : Type 0 where
   pub all : n ≡ length h
-  pub at-position : (i : ℕ) (a : Attribute) → nth h i ≡ some a → entry ms (getD positions i 0) ≡ some a
-  pub at-number : (i : ℕ) (a : Attribute) → nth h i ≡ some a → getD numbers i 0 ≡ a .number
+  pub at-position : (i : ℕ) (a : Attribute) → nth h i ≡ some a → entry ms (getD hs (most + i) 0) ≡ some a
+  pub at-number : (i : ℕ) (a : Attribute) → nth h i ≡ some a → getD hs i 0 ≡ a .number

@@ -18,7 +18,7 @@ use Rattle.ground.specs.declared.Name.{Name}
 use Rattle.ground.specs.declared.Reference.{Reference}
 use Rattle.ground.specs.declared.Reference.the-variants.{Bare, InModel, InTopic}
 use Rattle.names.specs.References.{bytesOf, Inside, AllInside, referenceOf}
-use Rattle.names.specs.Index.{entry, row, Says, Known, definedAt, Chained}
+use Rattle.names.specs.Index.{entry, row, Says, Known, definedAt, Chained, definitionWidth}
 use Rattle.names.proofs.IndexLaws.{there, at-home}
 
 -- ---- flags
@@ -50,7 +50,7 @@ module _ (t : List ℕ) (s : State) (x : List ℕ) (count : ℕ) (k : Known t (k
   pub topic-none : p ≡ 0 → none ≡ inTopicOf s n o
   topic-none z = let q : none ≡ o = sym (ap (entry (known (s .decls))) z) ∙ e in rw (← q)
 
-  module _ (z : ¬ (p ≡ 0)) (w : p ≤ count) (f : ℕ) (ef : (d : Def) → Says t d (row 10 x p) → f ≡ sortNumber (d .sort)) where
+  module _ (z : ¬ (p ≡ 0)) (w : p ≤ count) (f : ℕ) (ef : (d : Def) → Says t d (row definitionWidth x p) → f ≡ sortNumber (d .sort)) where
     behind : (d : Def) × (o ≡ some d) × (entry (known (s .decls)) p ≡ some d)
     behind =
         let a = k .all in
@@ -63,7 +63,7 @@ module _ (t : List ℕ) (s : State) (x : List ℕ) (count : ℕ) (k : Known t (k
         let g = ef d (k .says p d q) in
         rw (a, ne-eqb 0 (sortNumber (d .sort)) (λ v. u (g ∙ sym v)))
 
-    pub topic-found : f ≡ 0 → (m r h : ℕ) → ((d : Def) → Says t d (row 10 x p) → m ≡ d .number) → h ≡ m + 1
+    pub topic-found : f ≡ 0 → (m r h : ℕ) → ((d : Def) → Says t d (row definitionWidth x p) → m ≡ d .number) → h ≡ m + 1
         → entry (known (s .decls)) r ≡ lookup (definedAt n h h) (known (s .decls)) → entry (known (s .decls)) r ≡ inTopicOf s n o
     topic-found u m r h em eh v =
         let (d, a, q) = behind in
@@ -76,17 +76,17 @@ module _ (t : List ℕ) (ks : List Def) (x : List ℕ) (count : ℕ) (k : Known 
   from : (d : Def) × (entry ks p ≡ some d)
   from = let a = k .all in entry-there ks p z (omega arith)
 
-  module _ (m : ℕ) (em : (d : Def) → Says t d (row 10 x p) → m ≡ d .number) where
+  module _ (m : ℕ) (em : (d : Def) → Says t d (row definitionWidth x p) → m ≡ d .number) where
     pub among-here : m ≡ number → true ≡ isAmong number (basesOf (entry ks p))
     among-here e = let (d, q) = from in rw (q, eq-eqb (d .number) number (sym (em d (k .says p d q)) ∙ e))
 
-    pub among-next : ¬ (m ≡ number) → (b : ℕ) → b ≡ getD (row 10 x p) 7 0 → isAmong number (basesOf (entry ks p)) ≡ isAmong number (basesOf (entry ks b))
+    pub among-next : ¬ (m ≡ number) → (b : ℕ) → b ≡ getD (row definitionWidth x p) 7 0 → isAmong number (basesOf (entry ks p)) ≡ isAmong number (basesOf (entry ks b))
     among-next e b eb =
         let (d, q) = from in
         let g : basesOf (entry ks b) ≡ d .bases = rw eb (c p d q .bases) in
         rw (q, ne-eqb (d .number) number (λ v. e (em d (k .says p d q) ∙ v)), g)
 
-  pub base-before : (b : ℕ) → b ≡ getD (row 10 x p) 7 0 → b < p
+  pub base-before : (b : ℕ) → b ≡ getD (row definitionWidth x p) 7 0 → b < p
   base-before b eb = let (d, q) = from in let h = c p d q .before in omega arith
 
 -- ---- references, by their parts

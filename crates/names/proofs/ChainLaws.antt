@@ -15,8 +15,8 @@ use Rattle.rules.proofs.Tests.{split, not-both, is-false}
 use Rattle.rules.proofs.ByteLaws.{same-eq}
 use Rattle.ground.specs.Parts.{part}
 use Rattle.rules.proofs.PartLaws.{part-cons}
-use Rattle.names.specs.Index.{nth, entry, row, Says, Known, definedAt}
-use Rattle.names.specs.Chains.{keyFrom, keyOf, nextFrom, Chains}
+use Rattle.names.specs.Index.{nth, entry, row, Says, Known, definedAt, definitionWidth}
+use Rattle.names.specs.Chains.{keyFrom, keyOf, nextFrom, Chains, keys}
 use Rattle.names.proofs.IndexLaws.{nth-within, nth-dropped, look-here, look-on}
 
 abbrev key : Def → ℕ
@@ -24,7 +24,7 @@ key d = keyOf (d .name .bytes)
 
 -- ---- the key of a part of the text, i bytes of which are passed
 module _ (t : List ℕ) (o l i k : ℕ) where
-  pub key-next : i < l → o + l ≤ length t → keyFrom k (part t (o + i) (l - i)) ≡ keyFrom ((k * 31 + getD t (o + i) 0) % 1024) (part t (o + (i + 1)) (l - (i + 1)))
+  pub key-next : i < l → o + l ≤ length t → keyFrom k (part t (o + i) (l - i)) ≡ keyFrom ((k * 31 + getD t (o + i) 0) % keys) (part t (o + (i + 1)) (l - (i + 1)))
   key-next h w =
       let a : o + i + 1 ≡ o + (i + 1) = omega arith in
       let b : l - i - 1 ≡ l - (i + 1) = omega arith in
@@ -94,7 +94,7 @@ module _ (t : List ℕ) (ks : List Def) (x : List ℕ) (count : ℕ) (k : Known 
   pub chain-within : p ≤ count
   chain-within = let (d, e, g, r) = behind-there ks n low high p b w in let h = nth-within ks (p - 1) d e in let a = k .all in omega arith
 
-  module _ (v : Bool) (f : (d : Def) → Says t d (row 10 x p) → v ≡ definedAt n low high d) where
+  module _ (v : Bool) (f : (d : Def) → Says t d (row definitionWidth x p) → v ≡ definedAt n low high d) where
     judged : (d : Def) → entry ks p ≡ some d → v ≡ definedAt n low high d
     judged d e = f d (k .says p d e)
 
@@ -104,7 +104,7 @@ module _ (t : List ℕ) (ks : List Def) (x : List ℕ) (count : ℕ) (k : Known 
         let q : entry ks p ≡ some d = ap (entry ks) from-one ∙ a in
         q ∙ sym (r ∙ look-here (definedAt n low high) ks (p - 1) d a (sym (judged d q) ∙ e))
 
-    module _ (e : v ≡ false) (m : ℕ) (em : m ≡ getD z (2048 + p) 0) where
+    module _ (e : v ≡ false) (m : ℕ) (em : m ≡ getD z (keys + keys + p) 0) where
       pub chain-on : Behind ks n low high m
       chain-on =
           let (d, a, g, r) = behind-there ks n low high p b w in
@@ -121,5 +121,5 @@ module _ (t : List ℕ) (ks : List Def) (x : List ℕ) (count : ℕ) (k : Known 
               let (d, a, g, r) = behind-there ks n low high p b w in
               em ∙ c .links p d (ap (entry ks) from-one ∙ a) ∙ ap (λ (j : ℕ). nextFrom j p (drop p ks)) g
 
-pub key-below : (a b : ℕ) → a ≡ b → a < 1024 → b < 1024
+pub key-below : (a b : ℕ) → a ≡ b → a < keys → b < keys
 key-below a b e h = omega arith

@@ -12,7 +12,7 @@ use lib.Dec.{eqb, leb}
 use borrow.Author.Tests.{eqb-true, eqb-false, eq-eqb, ne-eqb, leb-true, leb-false}
 use Rattle.rules.specs.Declarations.{Def}
 use Rattle.names.specs.Index.{nth, entry}
-use Rattle.names.specs.Chains.{keyOf, nextFrom, Tail, Chains}
+use Rattle.names.specs.Chains.{keyOf, nextFrom, Tail, Chains, keys}
 use Rattle.names.proofs.IndexLaws.{nth-within, nth-dropped, nth-left, entry-keep, entry-within}
 
 abbrev key : Def → ℕ
@@ -56,52 +56,52 @@ next-some k i (suc j) (b ∷ l) d e h z = go (eqb (key b) k) z (next-some k (i +
 pub record Stored (z z' : List ℕ) (k last p : ℕ) : Type 0 where
   pub head-first : last ≡ 0 → getD z' k 0 ≡ p
   pub head-kept : ¬ (last ≡ 0) → getD z' k 0 ≡ getD z k 0
-  pub heads-kept : (j : ℕ) → j < 1024 → ¬ (j ≡ k) → getD z' j 0 ≡ getD z j 0
-  pub tail-new : getD z' (1024 + k) 0 ≡ p
-  pub tails-kept : (j : ℕ) → j < 1024 → ¬ (j ≡ k) → getD z' (1024 + j) 0 ≡ getD z (1024 + j) 0
-  pub link-new : getD z' (2048 + p) 0 ≡ 0
-  pub link-last : ¬ (last ≡ 0) → getD z' (2048 + last) 0 ≡ p
-  pub links-kept : (q : ℕ) → 0 < q → q < p → ¬ (q ≡ last) → getD z' (2048 + q) 0 ≡ getD z (2048 + q) 0
+  pub heads-kept : (j : ℕ) → j < keys → ¬ (j ≡ k) → getD z' j 0 ≡ getD z j 0
+  pub tail-new : getD z' (keys + k) 0 ≡ p
+  pub tails-kept : (j : ℕ) → j < keys → ¬ (j ≡ k) → getD z' (keys + j) 0 ≡ getD z (keys + j) 0
+  pub link-new : getD z' (keys + keys + p) 0 ≡ 0
+  pub link-last : ¬ (last ≡ 0) → getD z' (keys + keys + last) 0 ≡ p
+  pub links-kept : (q : ℕ) → 0 < q → q < p → ¬ (q ≡ last) → getD z' (keys + keys + q) 0 ≡ getD z (keys + keys + q) 0
 
-module _ (z : List ℕ) (k last p : ℕ) (hk : k < 1024) (hp : 2048 + p < length z) where
+module _ (z : List ℕ) (k last p : ℕ) (hk : k < keys) (hp : keys + keys + p < length z) where
   abbrev one : List ℕ
-  one = set z (2048 + p) 0
+  one = set z (keys + keys + p) 0
 
   abbrev two : ℕ → List ℕ
   two i = set one i p
 
-  other : (i j m : ℕ) → ¬ (m ≡ 2048 + p) → ¬ (m ≡ i) → ¬ (m ≡ j) → getD (set (two i) j p) m 0 ≡ getD z m 0
-  other i j m a b c = getD-set-other (two i) j m p 0 c ∙ getD-set-other one i m p 0 b ∙ getD-set-other z (2048 + p) m 0 0 a
+  other : (i j m : ℕ) → ¬ (m ≡ keys + keys + p) → ¬ (m ≡ i) → ¬ (m ≡ j) → getD (set (two i) j p) m 0 ≡ getD z m 0
+  other i j m a b c = getD-set-other (two i) j m p 0 c ∙ getD-set-other one i m p 0 b ∙ getD-set-other z (keys + keys + p) m 0 0 a
 
   long : (i : ℕ) → length (two i) ≡ length z
-  long i = length-set one i p ∙ length-set z (2048 + p) 0
+  long i = length-set one i p ∙ length-set z (keys + keys + p) 0
 
-  pub stored-first : last ≡ 0 → Stored z (set (two k) (1024 + k) p) k last p
+  pub stored-first : last ≡ 0 → Stored z (set (two k) (keys + k) p) k last p
   stored-first e =
-      let l = length-set z (2048 + p) 0 in
+      let l = length-set z (keys + keys + p) 0 in
       record {
-        head-first = λ _. getD-set-other (two k) (1024 + k) k p 0 (λ y. omega arith) ∙ getD-set-same one k p 0 (omega arith);
+        head-first = λ _. getD-set-other (two k) (keys + k) k p 0 (λ y. omega arith) ∙ getD-set-same one k p 0 (omega arith);
         head-kept = λ f. absurd (f e);
-        heads-kept = λ j h f. other k (1024 + k) j (λ y. omega arith) f (λ y. omega arith);
-        tail-new = let m = long k in getD-set-same (two k) (1024 + k) p 0 (omega arith);
-        tails-kept = λ j h f. other k (1024 + k) (1024 + j) (λ y. omega arith) (λ y. omega arith) (λ y. f (omega arith));
-        link-new = getD-set-other (two k) (1024 + k) (2048 + p) p 0 (λ y. omega arith) ∙ getD-set-other one k (2048 + p) p 0 (λ y. omega arith) ∙ getD-set-same z (2048 + p) 0 0 hp;
+        heads-kept = λ j h f. other k (keys + k) j (λ y. omega arith) f (λ y. omega arith);
+        tail-new = let m = long k in getD-set-same (two k) (keys + k) p 0 (omega arith);
+        tails-kept = λ j h f. other k (keys + k) (keys + j) (λ y. omega arith) (λ y. omega arith) (λ y. f (omega arith));
+        link-new = getD-set-other (two k) (keys + k) (keys + keys + p) p 0 (λ y. omega arith) ∙ getD-set-other one k (keys + keys + p) p 0 (λ y. omega arith) ∙ getD-set-same z (keys + keys + p) 0 0 hp;
         link-last = λ f. absurd (f e);
-        links-kept = λ q h w f. other k (1024 + k) (2048 + q) (λ y. omega arith) (λ y. omega arith) (λ y. omega arith);
+        links-kept = λ q h w f. other k (keys + k) (keys + keys + q) (λ y. omega arith) (λ y. omega arith) (λ y. omega arith);
       }
 
-  pub stored-last : ¬ (last ≡ 0) → last < p → Stored z (set (two (2048 + last)) (1024 + k) p) k last p
+  pub stored-last : ¬ (last ≡ 0) → last < p → Stored z (set (two (keys + keys + last)) (keys + k) p) k last p
   stored-last e w =
-      let l = length-set z (2048 + p) 0 in
+      let l = length-set z (keys + keys + p) 0 in
       record {
         head-first = λ f. absurd (e f);
-        head-kept = λ f. other (2048 + last) (1024 + k) k (λ y. omega arith) (λ y. omega arith) (λ y. omega arith);
-        heads-kept = λ j h f. other (2048 + last) (1024 + k) j (λ y. omega arith) (λ y. omega arith) (λ y. omega arith);
-        tail-new = let m = long (2048 + last) in getD-set-same (two (2048 + last)) (1024 + k) p 0 (omega arith);
-        tails-kept = λ j h f. other (2048 + last) (1024 + k) (1024 + j) (λ y. omega arith) (λ y. omega arith) (λ y. f (omega arith));
-        link-new = getD-set-other (two (2048 + last)) (1024 + k) (2048 + p) p 0 (λ y. omega arith) ∙ getD-set-other one (2048 + last) (2048 + p) p 0 (λ y. omega arith) ∙ getD-set-same z (2048 + p) 0 0 hp;
-        link-last = λ f. getD-set-other (two (2048 + last)) (1024 + k) (2048 + last) p 0 (λ y. omega arith) ∙ getD-set-same one (2048 + last) p 0 (omega arith);
-        links-kept = λ q h w f. other (2048 + last) (1024 + k) (2048 + q) (λ y. omega arith) (λ y. f (omega arith)) (λ y. omega arith);
+        head-kept = λ f. other (keys + keys + last) (keys + k) k (λ y. omega arith) (λ y. omega arith) (λ y. omega arith);
+        heads-kept = λ j h f. other (keys + keys + last) (keys + k) j (λ y. omega arith) (λ y. omega arith) (λ y. omega arith);
+        tail-new = let m = long (keys + keys + last) in getD-set-same (two (keys + keys + last)) (keys + k) p 0 (omega arith);
+        tails-kept = λ j h f. other (keys + keys + last) (keys + k) (keys + j) (λ y. omega arith) (λ y. omega arith) (λ y. f (omega arith));
+        link-new = getD-set-other (two (keys + keys + last)) (keys + k) (keys + keys + p) p 0 (λ y. omega arith) ∙ getD-set-other one (keys + keys + last) (keys + keys + p) p 0 (λ y. omega arith) ∙ getD-set-same z (keys + keys + p) 0 0 hp;
+        link-last = λ f. getD-set-other (two (keys + keys + last)) (keys + k) (keys + keys + last) p 0 (λ y. omega arith) ∙ getD-set-same one (keys + keys + last) p 0 (omega arith);
+        links-kept = λ q h w f. other (keys + keys + last) (keys + k) (keys + keys + q) (λ y. omega arith) (λ y. f (omega arith)) (λ y. omega arith);
       }
 
 -- ---- the chains with one definition more
@@ -162,11 +162,11 @@ tail-last ks d (suc j) e =
     nth-seam [] a = refl
     nth-seam (b ∷ l) a = nth-seam l a
 
-module _ (ks : List Def) (z z' : List ℕ) (d : Def) (last p : ℕ) (c : Chains ks z) (hk : key d < 1024) (el : last ≡ getD z (1024 + key d) 0) (ep : p ≡ length ks + 1) (s : Stored z z' (key d) last p) where
+module _ (ks : List Def) (z z' : List ℕ) (d : Def) (last p : ℕ) (c : Chains ks z) (hk : key d < keys) (el : last ≡ getD z (keys + key d) 0) (ep : p ≡ length ks + 1) (s : Stored z z' (key d) last p) where
   tail : Tail ks (key d) last
   tail = rw el (c .tails (key d) hk)
 
-  head : (k : ℕ) → k < 1024 → getD z' k 0 ≡ nextFrom k 0 (ks ++ (d ∷ []))
+  head : (k : ℕ) → k < keys → getD z' k 0 ≡ nextFrom k 0 (ks ++ (d ∷ []))
   head k h = ⊎-elim same-key (λ f. s .heads-kept k h f ∙ c .heads k h ∙ sym (next-other k d 0 ks (λ e. f (sym e)))) (side k (key d))
     where
       at-key : getD z' (key d) 0 ≡ nextFrom (key d) 0 (ks ++ (d ∷ []))
@@ -183,10 +183,10 @@ module _ (ks : List Def) (z z' : List ℕ) (d : Def) (last p : ℕ) (c : Chains 
       same-key : k ≡ key d → getD z' k 0 ≡ nextFrom k 0 (ks ++ (d ∷ []))
       same-key e = rw e at-key
 
-  tail' : (k : ℕ) → k < 1024 → Tail (ks ++ (d ∷ [])) k (getD z' (1024 + k) 0)
+  tail' : (k : ℕ) → k < keys → Tail (ks ++ (d ∷ [])) k (getD z' (keys + k) 0)
   tail' k h =
-      ⊎-elim (λ e. subst (λ (m : ℕ). Tail (ks ++ (d ∷ [])) m (getD z' (1024 + m) 0)) (sym e) (subst (Tail (ks ++ (d ∷ [])) (key d)) (sym (s .tail-new)) (tail-last ks d p (omega arith))))
-      (λ f. subst (Tail (ks ++ (d ∷ [])) k) (sym (s .tails-kept k h f)) (tail-other ks d k (getD z (1024 + k) 0) (λ e. f (sym e)) (c .tails k h))) (side k (key d))
+      ⊎-elim (λ e. subst (λ (m : ℕ). Tail (ks ++ (d ∷ [])) m (getD z' (keys + m) 0)) (sym e) (subst (Tail (ks ++ (d ∷ [])) (key d)) (sym (s .tail-new)) (tail-last ks d p (omega arith))))
+      (λ f. subst (Tail (ks ++ (d ∷ [])) k) (sym (s .tails-kept k h f)) (tail-other ks d k (getD z (keys + k) 0) (λ e. f (sym e)) (c .tails k h))) (side k (key d))
 
   -- a definition of the same key that is not the last of its chain has one behind it
   followed : (q : ℕ) (e : Def) → ¬ (q ≡ 0) → entry ks q ≡ some e → ¬ (q ≡ last) → key e ≡ key d → ¬ (nextFrom (key d) q (drop q ks) ≡ 0)
@@ -205,19 +205,19 @@ module _ (ks : List Def) (z z' : List ℕ) (d : Def) (last p : ℕ) (c : Chains 
           go true w = let v = leb-true q last w in let u : ¬ (q ≡ last) = nl in let m : q ≤ last - 1 = lower q last v u in next-some (key d) q (last - 1 - q) (drop q ks) b (behind q (last - 1) b m (entry-nth ks last b y h)) k
           go false w = let v = leb-false q last w in let m : last ≤ q - 1 = omega arith in absurd (next-some (key d) last (q - 1 - last) (drop last ks) e (behind last (q - 1) e m at-q) g n)
 
-  link : (q : ℕ) (e : Def) → entry (ks ++ (d ∷ [])) q ≡ some e → getD z' (2048 + q) 0 ≡ nextFrom (key e) q (drop q (ks ++ (d ∷ [])))
+  link : (q : ℕ) (e : Def) → entry (ks ++ (d ∷ [])) q ≡ some e → getD z' (keys + keys + q) 0 ≡ nextFrom (key e) q (drop q (ks ++ (d ∷ [])))
   link q e a = ⊎-elim newest (λ f. older f) (side q p)
     where
       len : length (ks ++ (d ∷ [])) ≡ length ks + 1
       len = length-append ks (d ∷ [])
 
-      newest : q ≡ p → getD z' (2048 + q) 0 ≡ nextFrom (key e) q (drop q (ks ++ (d ∷ [])))
+      newest : q ≡ p → getD z' (keys + keys + q) 0 ≡ nextFrom (key e) q (drop q (ks ++ (d ∷ [])))
       newest f = let w : length (ks ++ (d ∷ [])) ≤ q = let l = len in omega arith in rw f at-new ∙ sym (ap (nextFrom (key e) q) (drop-of-length-le (ks ++ (d ∷ [])) w))
         where
-          at-new : getD z' (2048 + p) 0 ≡ 0
+          at-new : getD z' (keys + keys + p) 0 ≡ 0
           at-new = s .link-new
 
-      older : ¬ (q ≡ p) → getD z' (2048 + q) 0 ≡ nextFrom (key e) q (drop q (ks ++ (d ∷ [])))
+      older : ¬ (q ≡ p) → getD z' (keys + keys + q) 0 ≡ nextFrom (key e) q (drop q (ks ++ (d ∷ [])))
       older f =
           let w = entry-within (ks ++ (d ∷ [])) q e a in
           let l = len in
@@ -225,10 +225,10 @@ module _ (ks : List Def) (z z' : List ℕ) (d : Def) (last p : ℕ) (c : Chains 
           let o : entry ks q ≡ some e = sym (entry-keep ks (d ∷ []) q v) ∙ a in
           ap-drop v (⊎-elim (at-last o) (λ y. between o y) (side q last))
         where
-          ap-drop : q ≤ length ks → getD z' (2048 + q) 0 ≡ nextFrom (key e) q (drop q ks ++ (d ∷ [])) → getD z' (2048 + q) 0 ≡ nextFrom (key e) q (drop q (ks ++ (d ∷ [])))
+          ap-drop : q ≤ length ks → getD z' (keys + keys + q) 0 ≡ nextFrom (key e) q (drop q ks ++ (d ∷ [])) → getD z' (keys + keys + q) 0 ≡ nextFrom (key e) q (drop q (ks ++ (d ∷ [])))
           ap-drop v h = h ∙ sym (ap (nextFrom (key e) q) (drop-append-le q ks (d ∷ []) v))
 
-          at-last : entry ks q ≡ some e → q ≡ last → getD z' (2048 + q) 0 ≡ nextFrom (key e) q (drop q ks ++ (d ∷ []))
+          at-last : entry ks q ≡ some e → q ≡ last → getD z' (keys + keys + q) 0 ≡ nextFrom (key e) q (drop q ks ++ (d ∷ []))
           at-last o y =
               let (b, h, g, n) = tail-end ks (key d) last tail (λ u. not-none ks q e o (y ∙ u)) in
               let oe : entry ks last ≡ some e = sym (ap (entry ks) y) ∙ o in
@@ -238,9 +238,9 @@ module _ (ks : List Def) (z z' : List ℕ) (d : Def) (last p : ℕ) (c : Chains 
               let w = entry-within ks q e o in
               let l = length-drop q ks in
               let r : p ≡ q + length (drop q ks) + 1 = omega arith in
-              ap (λ (i : ℕ). getD z' (2048 + i) 0) y ∙ s .link-last (λ u. not-none ks q e o (y ∙ u)) ∙ r ∙ sym (next-new (key e) d q (drop q ks) kz zero)
+              ap (λ (i : ℕ). getD z' (keys + keys + i) 0) y ∙ s .link-last (λ u. not-none ks q e o (y ∙ u)) ∙ r ∙ sym (next-new (key e) d q (drop q ks) kz zero)
 
-          between : entry ks q ≡ some e → ¬ (q ≡ last) → getD z' (2048 + q) 0 ≡ nextFrom (key e) q (drop q ks ++ (d ∷ []))
+          between : entry ks q ≡ some e → ¬ (q ≡ last) → getD z' (keys + keys + q) 0 ≡ nextFrom (key e) q (drop q ks ++ (d ∷ []))
           between o y =
               let w = entry-within ks q e o in
               let nz = not-none ks q e o in
@@ -251,24 +251,24 @@ module _ (ks : List Def) (z z' : List ℕ) (d : Def) (last p : ℕ) (c : Chains 
   chains-more = record { heads = head; tails = tail'; links = link }
 
 -- the stores that the code makes
-module _ (ks : List Def) (z : List ℕ) (d : Def) (k last p : ℕ) (c : Chains ks z) (ep : p ≡ length ks + 1) (ek : k ≡ key d) (hk : k < 1024) (hp : 2048 + p < length z) (el : last ≡ getD z (1024 + k) 0) where
-  key-below : key d < 1024
+module _ (ks : List Def) (z : List ℕ) (d : Def) (k last p : ℕ) (c : Chains ks z) (ep : p ≡ length ks + 1) (ek : k ≡ key d) (hk : k < keys) (hp : keys + keys + p < length z) (el : last ≡ getD z (keys + k) 0) where
+  key-below : key d < keys
   key-below = omega arith
 
-  last-is : last ≡ getD z (1024 + key d) 0
-  last-is = el ∙ ap (λ (i : ℕ). getD z (1024 + i) 0) ek
+  last-is : last ≡ getD z (keys + key d) 0
+  last-is = el ∙ ap (λ (i : ℕ). getD z (keys + i) 0) ek
 
-  pub known-first : last ≡ 0 → Chains (ks ++ (d ∷ [])) (set (set (set z (2048 + p) 0) k p) (1024 + k) p)
+  pub known-first : last ≡ 0 → Chains (ks ++ (d ∷ [])) (set (set (set z (keys + keys + p) 0) k p) (keys + k) p)
   known-first e =
-      let s : Stored z (set (set (set z (2048 + p) 0) k p) (1024 + k) p) (key d) last p = subst (λ (i : ℕ). Stored z (set (set (set z (2048 + p) 0) k p) (1024 + k) p) i last p) ek (stored-first z k last p hk hp e) in
+      let s : Stored z (set (set (set z (keys + keys + p) 0) k p) (keys + k) p) (key d) last p = subst (λ (i : ℕ). Stored z (set (set (set z (keys + keys + p) 0) k p) (keys + k) p) i last p) ek (stored-first z k last p hk hp e) in
       chains-more ks z _ d last p c key-below last-is ep s
 
   before : last < p
   before = let w = tail-before ks (key d) last (subst (Tail ks (key d)) (sym last-is) (c .tails (key d) key-below)) in omega arith
 
-  pub known-last : ¬ (last ≡ 0) → Chains (ks ++ (d ∷ [])) (set (set (set z (2048 + p) 0) (2048 + last) p) (1024 + k) p)
+  pub known-last : ¬ (last ≡ 0) → Chains (ks ++ (d ∷ [])) (set (set (set z (keys + keys + p) 0) (keys + keys + last) p) (keys + k) p)
   known-last e =
-      let s : Stored z (set (set (set z (2048 + p) 0) (2048 + last) p) (1024 + k) p) (key d) last p = subst (λ (i : ℕ). Stored z (set (set (set z (2048 + p) 0) (2048 + last) p) (1024 + k) p) i last p) ek (stored-last z k last p hk hp e before) in
+      let s : Stored z (set (set (set z (keys + keys + p) 0) (keys + keys + last) p) (keys + k) p) (key d) last p = subst (λ (i : ℕ). Stored z (set (set (set z (keys + keys + p) 0) (keys + keys + last) p) (keys + k) p) i last p) ek (stored-last z k last p hk hp e before) in
       chains-more ks z _ d last p c key-below last-is ep s
 
   pub known-not : p ≤ last → ⊥
@@ -278,7 +278,7 @@ module _ (ks : List Def) (z : List ℕ) (d : Def) (k last p : ℕ) (c : Chains k
 pub chains-none : (n : ℕ) → Chains [] (replicate n 0)
 chains-none n = record {
   heads = λ k h. zeros n k;
-  tails = λ k h. subst (Tail [] k) (sym (zeros n (1024 + k))) refl;
+  tails = λ k h. subst (Tail [] k) (sym (zeros n (keys + k))) refl;
   links = λ p d e. absurd (nowhere p e);
 }
   where

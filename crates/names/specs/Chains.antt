@@ -5,14 +5,18 @@ use mathlib.Core.Bool.{cond}
 use mathlib.Core.Option.{some}
 use mathlib.Core.List.{List, [], _∷_}
 use Prim.Native.Nat.{ℕ, zero, suc, _+_, _*_, _%_, _<_}
-use lib.ListN.{getD, drop}
+use lib.ListN.{length, getD, drop}
 use lib.Dec.{eqb}
 use Rattle.rules.specs.Declarations.{Def}
 use Rattle.names.specs.Index.{nth, entry}
 
+-- how many keys names have
+abbrev pub keys : ℕ
+keys = 1024
+
 abbrev pub keyFrom : ℕ → List ℕ → ℕ
 keyFrom k [] = k
-keyFrom k (b ∷ l) = keyFrom ((k * 31 + b) % 1024) l
+keyFrom k (b ∷ l) = keyFrom ((k * 31 + b) % keys) l
 
 abbrev pub keyOf : List ℕ → ℕ
 keyOf n = keyFrom 0 n
@@ -28,6 +32,10 @@ Tail ks k zero = nextFrom k 0 ks ≡ 0
 Tail ks k (suc j) = (d : Def) × (nth ks j ≡ some d) × (keyOf (d .name .bytes) ≡ k) × (nextFrom k (suc j) (drop (suc j) ks) ≡ 0)
 
 pub record Chains (ks : List Def) (z : List ℕ) : Type 0 where
-  pub heads : (k : ℕ) → k < 1024 → getD z k 0 ≡ nextFrom k 0 ks
-  pub tails : (k : ℕ) → k < 1024 → Tail ks k (getD z (1024 + k) 0)
-  pub links : (p : ℕ) (d : Def) → entry ks p ≡ some d → getD z (2048 + p) 0 ≡ nextFrom (keyOf (d .name .bytes)) p (drop p ks)
+  pub heads : (k : ℕ) → k < keys → getD z k 0 ≡ nextFrom k 0 ks
+  pub tails : (k : ℕ) → k < keys → Tail ks k (getD z (keys + k) 0)
+  pub links : (p : ℕ) (d : Def) → entry ks p ≡ some d → getD z (keys + keys + p) 0 ≡ nextFrom (keyOf (d .name .bytes)) p (drop p ks)
+
+-- there is a link for every position up to p
+abbrev pub Links : List ℕ → ℕ → Type 0
+Links z p = keys + keys + p < length z

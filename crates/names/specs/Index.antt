@@ -28,6 +28,18 @@ entry l (suc i) = nth l i
 abbrev pub row : ℕ → List ℕ → ℕ → List ℕ
 row w x p = part x (p * w) w
 
+-- how many numbers a definition's row has
+abbrev pub definitionWidth : ℕ
+definitionWidth = 10
+
+-- where a row has the position of its last attribute
+abbrev pub lastColumn : ℕ
+lastColumn = 9
+
+-- there are rows of definitions up to the position p
+abbrev pub Rows : List ℕ → ℕ → Type 0
+Rows x p = p * definitionWidth + definitionWidth ≤ length x
+
 -- ---- what a row says
 -- the topic around a definition
 abbrev pub homeNumber : Option ℕ → ℕ
@@ -51,7 +63,7 @@ pub record Says (t : List ℕ) (d : Def) (r : List ℕ) : Type 0 where
 -- the rows x are those of the definitions ks
 pub record Known (t : List ℕ) (ks : List Def) (x : List ℕ) (count : ℕ) : Type 0 where
   pub all : count ≡ length ks
-  pub says : (p : ℕ) (d : Def) → entry ks p ≡ some d → Says t d (row 10 x p)
+  pub says : (p : ℕ) (d : Def) → entry ks p ≡ some d → Says t d (row definitionWidth x p)
 
 -- ---- looking up
 -- a definition with a name and one of two homes
@@ -66,4 +78,4 @@ pub record Based (ks : List Def) (p : ℕ) (d : Def) (r : List ℕ) : Type 0 whe
   pub inherits : attributesOf (orNoDef (entry ks (getD r 7 0))) ≡ d .inherited
 
 abbrev pub Chained : List Def → List ℕ → Type 0
-Chained ks x = (p : ℕ) (d : Def) → entry ks p ≡ some d → Based ks p d (row 10 x p)
+Chained ks x = (p : ℕ) (d : Def) → entry ks p ≡ some d → Based ks p d (row definitionWidth x p)

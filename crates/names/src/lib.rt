@@ -1,6 +1,8 @@
 // What is known: an index of the definitions in lent numbers, and names looked up in it.
 use ground::Name;
 use ground::Reference;
+use ground::put2;
+use ground::wide2;
 ghost use mathlib.Core.Path.{_≡_};
 ghost use mathlib.Core.Bool.{Bool, false, _||_};
 ghost use mathlib.Core.Option.{none};
@@ -15,12 +17,14 @@ ghost use Rattle.rules.specs.Book as B;
 ghost use Rattle.rules.specs.Book.{flags};
 ghost use Rattle.rules.specs.Judge.{basesOf, isAmong};
 ghost use Rattle.ground.specs.Parts.{splice};
-ghost use Rattle.names.specs.Index.{entry, row, homeNumber, Says, Known, definedAt, Chained};
-ghost use Rattle.names.specs.Chains.{keyOf, Chains};
+ghost use Rattle.names.specs.Index.{entry, row, definitionWidth, Rows, homeNumber, Says, Known, definedAt, lastColumn};
+ghost use Rattle.names.specs.Index.{Chained};
+ghost use Rattle.names.specs.Chains.{keys, keyOf, Chains, Links};
 ghost use Rattle.names.specs.References.{bytesOf, Inside, AllInside, referenceOf};
 ghost use Rattle.names.specs.Rows.{definitionRow, Narrow};
 
-// What the row of a definition has; the number of a home is 0 at the model's level, else one more than the topic's record number.
+// What the row of a definition has; the number of a home is 0 at the model's level, else one more than the topic's
+// record number.
 pub const OFFSET: usize = 0;
 
 pub const LENGTH: usize = 1;
@@ -42,55 +46,52 @@ pub const FIRST: usize = 8;
 pub const LAST: usize = 9;
 
 // The numbers of a row.
-const WIDTH: usize = 10;
+pub const WIDTH: usize = 10;
 
 // How many keys names have; where the last of each key stands, and the next of each definition.
-const KEYS: usize = 1024;
+pub const KEYS: usize = 1024;
 
-const LASTS: usize = 1024;
+const LASTS: usize = KEYS;
 
-const NEXTS: usize = 2048;
-
-pub fn wide2(n: u16) -> usize
-    ensures { λ r. ⌜ (r ≡ n) × (r < 65536) ⌝ }
-{
-    n as usize
-}
+const NEXTS: usize = KEYS + KEYS;
 
 // ---- the index of definitions
 pub fn field(index: &[u16], p: usize, f: usize) -> usize
-    requires { ⌜ (f < 10) × (p * 10 + 10 ≤ length (now index)) ⌝ }
-    ensures { λ r. ⌜ (r ≡ getD (row 10 (now (index .entry)) p) f 0) × (r < 65536) ⌝ }
+    requires { ⌜ (f < definitionWidth) × Rows (now index) p ⌝ }
+    ensures { λ r. ⌜ (r ≡ getD (row definitionWidth (now (index .entry)) p) f 0) × (r < 65536) ⌝ }
 {
     wide2(index[p * WIDTH + f])
 }
 
 pub fn number_of(index: &[u16], p: usize) -> usize
-    requires { ⌜ p * 10 + 10 ≤ length (now index) ⌝ }
-    ensures { λ r. ⌜ (r < 65536) × ((t : List ℕ) (d : Def) → Says t d (row 10 (now (index .entry)) p) → r ≡ d .number) ⌝ }
+    requires { ⌜ Rows (now index) p ⌝ }
+    ensures { λ r. ⌜ (r < 65536) × ((t : List ℕ) (d : Def) → Says t d (row definitionWidth (now (index .entry)) p)
+        → r ≡ d .number) ⌝ }
 {
     field(index, p, NUMBER)
 }
 
 // 0 topic, 1 class, 2 structure, 3 domain.
 pub fn sort_of(index: &[u16], p: usize) -> usize
-    requires { ⌜ p * 10 + 10 ≤ length (now index) ⌝ }
-    ensures { λ r. ⌜ ((t : List ℕ) (d : Def) → Says t d (row 10 (now (index .entry)) p) → r ≡ sortNumber (d .sort)) ⌝ }
+    requires { ⌜ Rows (now index) p ⌝ }
+    ensures { λ r. ⌜ ((t : List ℕ) (d : Def) → Says t d (row definitionWidth (now (index .entry)) p)
+        → r ≡ sortNumber (d .sort)) ⌝ }
 {
     field(index, p, SORT)
 }
 
 pub fn flags_of(index: &[u16], p: usize) -> usize
-    requires { ⌜ p * 10 + 10 ≤ length (now index) ⌝ }
-    ensures { λ r. ⌜ ((t : List ℕ) (d : Def) → Says t d (row 10 (now (index .entry)) p) → r ≡ flags (d .abstract) (d .final) false (d .mandatory)) ⌝ }
+    requires { ⌜ Rows (now index) p ⌝ }
+    ensures { λ r. ⌜ ((t : List ℕ) (d : Def) → Says t d (row definitionWidth (now (index .entry)) p)
+        → r ≡ flags (d .abstract) (d .final) false (d .mandatory)) ⌝ }
 {
     field(index, p, FLAGS)
 }
 
 // Where its record begins in the book.
 pub fn place_of(index: &[u16], p: usize) -> usize
-    requires { ⌜ p * 10 + 10 ≤ length (now index) ⌝ }
-    ensures { λ r. ⌜ (r ≡ getD (row 10 (now (index .entry)) p) 6 0) × (r < 65536) ⌝ }
+    requires { ⌜ Rows (now index) p ⌝ }
+    ensures { λ r. ⌜ (r ≡ getD (row definitionWidth (now (index .entry)) p) 6 0) × (r < 65536) ⌝ }
 {
     field(index, p, PLACE)
 }
@@ -133,8 +134,9 @@ fn is_home(home: usize, low: usize, high: usize) -> bool
 
 // The definition p has the name and one of two homes.
 fn is_hit(text: &[u8], index: &[u16], p: usize, name: Name, low: usize, high: usize) -> bool
-    requires { ⌜ Inside (now text) name × (p * 10 + 10 ≤ length (now index)) ⌝ }
-    ensures { λ r. ⌜ ((d : Def) → Says (now (text .entry)) d (row 10 (now (index .entry)) p) → r ≡ definedAt (bytesOf (now (text .entry)) name) low high d) ⌝ }
+    requires { ⌜ Inside (now text) name × Rows (now index) p ⌝ }
+    ensures { λ r. ⌜ ((d : Def) → Says (now (text .entry)) d (row definitionWidth (now (index .entry)) p)
+        → r ≡ definedAt (bytesOf (now (text .entry)) name) low high d) ⌝ }
 {
     if is_home(field(index, p, HOME), low, high) {
         let own = Name {
@@ -148,10 +150,11 @@ fn is_hit(text: &[u8], index: &[u16], p: usize, name: Name, low: usize, high: us
     false
 }
 
-// ---- chains of definitions by a key of their name: in the numbers lent stand the first and the last of each key, and the next of each
+// ---- chains of definitions by a key of their name: in the numbers lent stand the first and the last of each key, and
+// the next of each
 pub fn key_of(text: &[u8], name: Name) -> usize
     requires { ⌜ Inside (now text) name ⌝ }
-    ensures { λ r. ⌜ (r ≡ keyOf (bytesOf (now (text .entry)) name)) × (r < 1024) ⌝ }
+    ensures { λ r. ⌜ (r ≡ keyOf (bytesOf (now (text .entry)) name)) × (r < keys) ⌝ }
 {
     let offset = name.offset;
     let len = name.len;
@@ -174,8 +177,9 @@ fn find(
     low: usize,
     high: usize,
 ) -> usize
-    requires { ⌜ Inside (now text) name × (count * 10 + 10 ≤ length (now index)) × (2048 + count < length (now chains)) ⌝ }
-    ensures { λ r. ⌜ (r ≤ count) × ((ks : List Def) → Known (now (text .entry)) ks (now (index .entry)) count → Chains ks (now (chains .entry))
+    requires { ⌜ Inside (now text) name × Rows (now index) count × Links (now chains) count ⌝ }
+    ensures { λ r. ⌜ (r ≤ count) × ((ks : List Def) → Known (now (text .entry)) ks (now (index .entry)) count
+        → Chains ks (now (chains .entry))
         → entry ks r ≡ lookup (definedAt (bytesOf (now (text .entry)) name) low high) ks) ⌝ }
 {
     let mut p = wide2(chains[key_of(text, name)]);
@@ -195,7 +199,8 @@ fn find(
     0
 }
 
-// A bare name: at the model's level and in the open topic, whose number as a home is given. A new name is taken if it is found so.
+// A bare name: at the model's level and in the open topic, whose number as a home is given. A new name is taken if it
+// is found so.
 pub fn find_bare(
     text: &[u8],
     index: &[u16],
@@ -204,15 +209,21 @@ pub fn find_bare(
     home: usize,
     name: Name,
 ) -> usize
-    requires { ⌜ Inside (now text) name × (count * 10 + 10 ≤ length (now index)) × (2048 + count < length (now chains)) ⌝ }
-    ensures { λ r. ⌜ (r ≤ count) × ((s : State) → Known (now (text .entry)) (known (s .decls)) (now (index .entry)) count → Chains (known (s .decls)) (now (chains .entry)) → home ≡ homeNumber (numberIn (s .topic)) → entry (known (s .decls)) r ≡ atHand s (bytesOf (now (text .entry)) name)) ⌝ }
+    requires { ⌜ Inside (now text) name × Rows (now index) count × Links (now chains) count ⌝ }
+    ensures { λ r. ⌜ (r ≤ count) × ((s : State)
+        → Known (now (text .entry)) (known (s .decls)) (now (index .entry)) count
+        → Chains (known (s .decls)) (now (chains .entry)) → home ≡ homeNumber (numberIn (s .topic))
+        → entry (known (s .decls)) r ≡ atHand s (bytesOf (now (text .entry)) name)) ⌝ }
 {
     find(text, index, chains, count, name, 0, home)
 }
 
 pub fn find_in_model(text: &[u8], index: &[u16], chains: &[u16], count: usize, name: Name) -> usize
-    requires { ⌜ Inside (now text) name × (count * 10 + 10 ≤ length (now index)) × (2048 + count < length (now chains)) ⌝ }
-    ensures { λ r. ⌜ (r ≤ count) × ((s : State) → Known (now (text .entry)) (known (s .decls)) (now (index .entry)) count → Chains (known (s .decls)) (now (chains .entry)) → entry (known (s .decls)) r ≡ atHome s none (bytesOf (now (text .entry)) name)) ⌝ }
+    requires { ⌜ Inside (now text) name × Rows (now index) count × Links (now chains) count ⌝ }
+    ensures { λ r. ⌜ (r ≤ count) × ((s : State)
+        → Known (now (text .entry)) (known (s .decls)) (now (index .entry)) count
+        → Chains (known (s .decls)) (now (chains .entry))
+        → entry (known (s .decls)) r ≡ atHome s none (bytesOf (now (text .entry)) name)) ⌝ }
 {
     find(text, index, chains, count, name, 0, 0)
 }
@@ -226,8 +237,13 @@ pub fn find_in_topic(
     topic: Name,
     name: Name,
 ) -> usize
-    requires { ⌜ Inside (now text) topic × Inside (now text) name × (count * 10 + 10 ≤ length (now index)) × (2048 + count < length (now chains)) ⌝ }
-    ensures { λ r. ⌜ (r ≤ count) × ((s : State) → Known (now (text .entry)) (known (s .decls)) (now (index .entry)) count → Chains (known (s .decls)) (now (chains .entry)) → entry (known (s .decls)) r ≡ inTopicOf s (bytesOf (now (text .entry)) name) (atHome s none (bytesOf (now (text .entry)) topic))) ⌝ }
+    requires { ⌜ Inside (now text) topic × Inside (now text) name × Rows (now index) count
+        × Links (now chains) count ⌝ }
+    ensures { λ r. ⌜ (r ≤ count) × ((s : State)
+        → Known (now (text .entry)) (known (s .decls)) (now (index .entry)) count
+        → Chains (known (s .decls)) (now (chains .entry))
+        → entry (known (s .decls)) r ≡ inTopicOf s (bytesOf (now (text .entry)) name)
+        (atHome s none (bytesOf (now (text .entry)) topic))) ⌝ }
 {
     let p = find_in_model(text, index, chains, count, topic);
     if p == 0 {
@@ -250,8 +266,12 @@ pub fn resolve(
     home: usize,
     r: Reference,
 ) -> usize
-    requires { ⌜ Inside (now text) model × AllInside (now text) r × (count * 10 + 10 ≤ length (now index)) × (2048 + count < length (now chains)) ⌝ }
-    ensures { λ p. ⌜ (p ≤ count) × ((s : State) → Known (now (text .entry)) (known (s .decls)) (now (index .entry)) count → Chains (known (s .decls)) (now (chains .entry)) → home ≡ homeNumber (numberIn (s .topic)) → bytesOf (now (text .entry)) model ≡ s .model .bytes
+    requires { ⌜ Inside (now text) model × AllInside (now text) r × Rows (now index) count
+        × Links (now chains) count ⌝ }
+    ensures { λ p. ⌜ (p ≤ count) × ((s : State)
+        → Known (now (text .entry)) (known (s .decls)) (now (index .entry)) count
+        → Chains (known (s .decls)) (now (chains .entry)) → home ≡ homeNumber (numberIn (s .topic))
+        → bytesOf (now (text .entry)) model ≡ s .model .bytes
         → entry (known (s .decls)) p ≡ D.resolve s (referenceOf (now (text .entry)) r)) ⌝ }
 {
     match r {
@@ -273,8 +293,9 @@ pub fn resolve(
 
 // The definition p, the last one, is found by its name's key from now on.
 pub fn make_known(chains: &mut [u16], p: usize, key: usize)
-    requires { ⌜ (key < 1024) × (2048 + p < length (now chains)) × (p < 65536) ⌝ }
-    ensures { λ _. ⌜ ((ks : List Def) (d : Def) → Chains ks (now (chains .entry)) → p ≡ length ks + 1 → key ≡ keyOf (d .name .bytes) → Chains (ks ++ (d ∷ [])) (now (chains .exit))) ⌝ }
+    requires { ⌜ (key < keys) × Links (now chains) p × (p < 65536) ⌝ }
+    ensures { λ _. ⌜ ((ks : List Def) (d : Def) → Chains ks (now (chains .entry)) → p ≡ length ks + 1
+        → key ≡ keyOf (d .name .bytes) → Chains (ks ++ (d ∷ [])) (now (chains .exit))) ⌝ }
 {
     let last = wide2(chains[LASTS + key]);
     chains[NEXTS + p] = 0;
@@ -292,8 +313,9 @@ pub fn make_known(chains: &mut [u16], p: usize, key: usize)
 // ---- bases
 // The domain or structure p is the one with a record number, or descends from it.
 pub fn descends(index: &[u16], count: usize, p: usize, number: usize) -> bool
-    requires { ⌜ (p ≤ count) × (count * 10 + 10 ≤ length (now index)) ⌝ }
-    ensures { λ r. ⌜ ((t : List ℕ) (ks : List Def) → Known t ks (now (index .entry)) count → Chained ks (now (index .entry)) → r ≡ isAmong number (basesOf (entry ks p))) ⌝ }
+    requires { ⌜ (p ≤ count) × Rows (now index) count ⌝ }
+    ensures { λ r. ⌜ ((t : List ℕ) (ks : List Def) → Known t ks (now (index .entry)) count
+        → Chained ks (now (index .entry)) → r ≡ isAmong number (basesOf (entry ks p))) ⌝ }
 {
     let mut at = p;
     while 0 < at {
@@ -310,8 +332,8 @@ pub fn descends(index: &[u16], count: usize, p: usize, number: usize) -> bool
 }
 
 // ---- entering
-// What the index has of a definition. home: 0 at the model's level, else one more than the topic's record number; base: its position, 0 for
-// none; first: how many attributes stand before its own.
+// What the index has of a definition. home: 0 at the model's level, else one more than the topic's record number; base:
+// its position, 0 for none; first: how many attributes stand before its own.
 pub struct NewDefinition {
     pub name: Name,
     pub home: usize,
@@ -323,22 +345,10 @@ pub struct NewDefinition {
     pub first: usize,
 }
 
-// The numbers of src, from a place on.
-pub fn put(out: &mut [u16], at: usize, src: &[u16])
-    requires { ⌜ at + length (now src) ≤ length (now out) ⌝ }
-    ensures { λ _. ⌜ now (out .exit) ≡ splice (now (out .entry)) at (now (src .entry)) ⌝ }
-{
-    let mut i = 0;
-    while i < src.len() {
-        out[at + i] = src[i];
-        i += 1;
-    }
-}
-
 // The row of the definition p. Until p is counted, no lookup sees it.
 pub fn enter(index: &mut [u16], p: usize, d: NewDefinition)
-    requires { ⌜ (p * 10 + 10 ≤ length (now index)) × Narrow d ⌝ }
-    ensures { λ _. ⌜ now (index .exit) ≡ splice (now (index .entry)) (p * 10) (definitionRow d) ⌝ }
+    requires { ⌜ Rows (now index) p × Narrow d ⌝ }
+    ensures { λ _. ⌜ now (index .exit) ≡ splice (now (index .entry)) (p * definitionWidth) (definitionRow d) ⌝ }
 {
     let at = p * WIDTH;
     let name = d.name;
@@ -354,13 +364,13 @@ pub fn enter(index: &mut [u16], p: usize, d: NewDefinition)
         d.first as u16,
         d.first as u16,
     ];
-    put(index, at, &row);
+    put2(index, at, &row);
 }
 
 // The class p ends with the attribute `last`.
 pub fn close(index: &mut [u16], p: usize, last: usize)
-    requires { ⌜ (p * 10 + 10 ≤ length (now index)) × (last < 65536) ⌝ }
-    ensures { λ _. ⌜ now (index .exit) ≡ set (now (index .entry)) (p * 10 + 9) last ⌝ }
+    requires { ⌜ Rows (now index) p × (last < 65536) ⌝ }
+    ensures { λ _. ⌜ now (index .exit) ≡ set (now (index .entry)) (p * definitionWidth + lastColumn) last ⌝ }
 {
     index[p * WIDTH + LAST] = last as u16;
 }

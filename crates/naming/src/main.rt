@@ -19,8 +19,10 @@ fn show_cut(text: &[u8], book: &[u8], n: usize, record: usize) {
 // The text of 63 bytes and its book: model and domain have names, the range has none, and there is no fourth record.
 fn example() {
     let text = b"INTERLIS 2.4;MODEL M AT \"u\" VERSION \"1\"=DOMAIN T=-10..40;END M.";
-    let book =
-        b"\x01\x13\x00\x00\x00\x01\x07\x2F\x00\x00\x00\x01\x00\xFF\xFF\xFF\xFF\x0A\x00\xF6\xFF\xFF\xFF\xFF\xFF\xFF\xFF\x28\x00\x00\x00\x00\x00\x00\x00";
+    let book = b"\
+        \x01\x13\x00\x00\x00\x01\
+        \x07\x2F\x00\x00\x00\x01\x00\xFF\xFF\xFF\xFF\
+        \x0A\x00\xF6\xFF\xFF\xFF\xFF\xFF\xFF\xFF\x28\x00\x00\x00\x00\x00\x00\x00";
     show(text, book, 0);
     show(text, book, 1);
     show(text, book, 2);

@@ -41,14 +41,18 @@ module _ (d db : ℕ) (v bound : ℤ) where
   pub low-is : lowFits d db v bound ≡ leZ bound (reading d db v)
   low-is = go (ltb db d)
     where
-      go : (t : Bool) → cond t (leZ bound (rounded v (10 ^ (d - db)))) (ltZ (shrZ (predℤ bound) (10 ^ (db - d))) v) ≡ leZ bound (cond t (rounded v (10 ^ (d - db))) (v *ℤ pos (10 ^ (db - d))))
+      go : (t : Bool) → cond t (leZ bound (rounded v (10 ^ (d - db)))) (ltZ (shrZ (predℤ bound) (10 ^ (db - d))) v) ≡
+          leZ bound (cond t (rounded v (10 ^ (d - db))) (v *ℤ pos (10 ^ (db - d))))
       go true = refl
-      go false = rw (less-is (shrZ (predℤ bound) (10 ^ (db - d))) v, floor (db - d) v (predℤ bound), ← less-is (predℤ bound) (v *ℤ pos (10 ^ (db - d)))) (above bound (v *ℤ pos (10 ^ (db - d))))
+      go false =
+          let w = v *ℤ pos (10 ^ (db - d)) in
+          rw (less-is (shrZ (predℤ bound) (10 ^ (db - d))) v, floor (db - d) v (predℤ bound), ← less-is (predℤ bound) w) (above bound w)
 
   pub high-is : highFits d db v bound ≡ leZ (reading d db v) bound
   high-is = go (ltb db d)
     where
-      go : (t : Bool) → cond t (leZ (rounded v (10 ^ (d - db))) bound) (leZ v (shrZ bound (10 ^ (db - d)))) ≡ leZ (cond t (rounded v (10 ^ (d - db))) (v *ℤ pos (10 ^ (db - d)))) bound
+      go : (t : Bool) → cond t (leZ (rounded v (10 ^ (d - db))) bound) (leZ v (shrZ bound (10 ^ (db - d)))) ≡
+          leZ (cond t (rounded v (10 ^ (d - db))) (v *ℤ pos (10 ^ (db - d)))) bound
       go true = refl
       go false = floor (db - d) v bound
 
@@ -65,5 +69,7 @@ range-is e b o =
     let l : ℤ = reading (e .decimals) (b .decimals) (e .low) in
     let h : ℤ = reading (e .decimals) (b .decimals) (e .high) in
     let m : l ≤ℤ h = reading-mono (e .decimals) (b .decimals) (e .low) (e .high) (leZ-is .0 o) in
+    let f : leZ (b .low) l ≡ true → leZ (b .low) h ≡ true = λ p. leZ-is .1 (≤ℤ-trans {a = b .low} (leZ-is .0 p) m) in
+    let g : leZ h (b .high) ≡ true → leZ l (b .high) ≡ true = λ p. leZ-is .1 (≤ℤ-trans {c = b .high} m (leZ-is .0 p)) in
     rw (low-is (e .decimals) (b .decimals) (e .low) (b .low), high-is (e .decimals) (b .decimals) (e .high) (b .high))
-    (ends (leZ (b .low) l) (leZ l (b .high)) (leZ (b .low) h) (leZ h (b .high)) (λ p. leZ-is .1 (≤ℤ-trans {a = b .low} (leZ-is .0 p) m)) (λ p. leZ-is .1 (≤ℤ-trans {c = b .high} m (leZ-is .0 p))))
+    (ends (leZ (b .low) l) (leZ l (b .high)) (leZ (b .low) h) (leZ h (b .high)) f g)

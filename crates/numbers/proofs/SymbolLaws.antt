@@ -11,7 +11,8 @@ use lib.ListN.{length, take, drop, getD, length-take, List·getD-eq-default}
 use lib.Seq.{drop-cons}
 use lib.Dec.{leb, ltb}
 use Rattle.rules.specs.Bytes.{is, isLetter, isDigit, isWordByte, isOneOf, span}
-use Rattle.rules.specs.Symbols.{Kind, Symbol, Quote, Gap, number, symbol, tag, closed, bad, endless, upTo, open-at, gap, apart, quote, digitCount, unsignedLength, wordKind, numberKind, aString, isMarkByte, symbolOf, beyond, symbolAt}
+use Rattle.rules.specs.Symbols.{Kind, Symbol, Quote, Gap, number, symbol, tag, closed, bad, endless, upTo, open-at, gap, apart, quote}
+use Rattle.rules.specs.Symbols.{digitCount, unsignedLength, wordKind, numberKind, aString, isMarkByte, symbolOf, beyond, symbolAt}
 use Rattle.rules.specs.Reserved.{forms, table}
 use Rattle.rules.specs.Numbers.{decimalsOf}
 use Rattle.rules.proofs.Tests.{never, split, or-split}
@@ -22,11 +23,18 @@ digit-no-dot b p = ne-eqb b 46 (λ e. omega (arith, leb-true 48 b (split {x = le
 
 -- ---- past the digits at the front of s, with j bytes more
 module _ (j b : ℕ) (s : List ℕ) where
-  decimals-by : (t : Bool) → isDigit b ≡ t → decimalsOf (take (span isDigit s + j) s) ≡ decimalsOf (take j (drop (span isDigit s) s)) → decimalsOf (take (cond t (suc (span isDigit s)) zero + j) (b ∷ s)) ≡ decimalsOf (take j (drop (cond t (suc (span isDigit s)) zero) (b ∷ s)))
+  -- the digits at the front of b ∷ s, if b is one or is none
+  abbrev run : Bool → ℕ
+  run t = cond t (suc (span isDigit s)) zero
+
+  decimals-by : (t : Bool) → isDigit b ≡ t → decimalsOf (take (span isDigit s + j) s) ≡ decimalsOf (take j (drop (span isDigit s) s)) →
+      decimalsOf (take (run t + j) (b ∷ s)) ≡ decimalsOf (take j (drop (run t) (b ∷ s)))
   decimals-by true p r = rw (suc-add, digit-no-dot b p) r
   decimals-by false p r = rw zero-add
 
-  digits-by : (t : Bool) → isDigit b ≡ t → digitCount (take (span isDigit s + j) s) ≡ span isDigit s + digitCount (take j (drop (span isDigit s) s)) → digitCount (take (cond t (suc (span isDigit s)) zero + j) (b ∷ s)) ≡ cond t (suc (span isDigit s)) zero + digitCount (take j (drop (cond t (suc (span isDigit s)) zero) (b ∷ s)))
+  digits-by : (t : Bool) → isDigit b ≡ t →
+      digitCount (take (span isDigit s + j) s) ≡ span isDigit s + digitCount (take j (drop (span isDigit s) s)) →
+      digitCount (take (run t + j) (b ∷ s)) ≡ run t + digitCount (take j (drop (run t) (b ∷ s)))
   digits-by true p r = rw (suc-add, suc-add, p) (ap suc r)
   digits-by false p r = rw (zero-add, zero-add)
 
@@ -53,7 +61,8 @@ module _ (s : List ℕ) where
   dot-inside : is "." (getD s front 0) ≡ true → front < length s
   dot-inside p = lt-of-not-le (λ h. omega (arith, eqb-true (getD s front 0) 46 p, List·getD-eq-default s 0 {n = front} h))
 
-  few-by : 0 < front → (t : Bool) → (t ≡ true → is "." (getD s front 0) ≡ true) → decimalsOf (take (cond t (suc (front + back)) front) s) < digitCount (take (cond t (suc (front + back)) front) s)
+  few-by : 0 < front → (t : Bool) → (t ≡ true → is "." (getD s front 0) ≡ true) →
+      decimalsOf (take (cond t (suc (front + back)) front) s) < digitCount (take (cond t (suc (front + back)) front) s)
   few-by h false p = omega (arith, rw add-zero at (past-decimals 0 s), rw add-zero at (past-digits 0 s))
   few-by h true p =
       let b = getD s front 0 in
@@ -71,11 +80,13 @@ few b s p =
     few-by (b ∷ s) (rw p (omega arith)) (dot && digit) (λ q. split {x = dot} {y = digit} q .0)
 
 -- with a sign b
-few-signed : (b : ℕ) (s : List ℕ) → ((is "+" b || is "-" b) && isDigit (getD s 0 0)) ≡ true → decimalsOf (b ∷ take (unsignedLength s) s) < digitCount (b ∷ take (unsignedLength s) s)
+few-signed : (b : ℕ) (s : List ℕ) → ((is "+" b || is "-" b) && isDigit (getD s 0 0)) ≡ true →
+    decimalsOf (b ∷ take (unsignedLength s) s) < digitCount (b ∷ take (unsignedLength s) s)
 few-signed b [] p = never (split {x = is "+" b || is "-" b} p .1)
 few-signed b (d ∷ s) p =
     let r = split {x = is "+" b || is "-" b} p in
-    let e : is "." b ≡ false = ne-eqb b 46 (⊎-elim (λ q e. omega (arith, eqb-true b 43 q)) (λ q e. omega (arith, eqb-true b 45 q)) (or-split {x = is "+" b} (r .0))) in
+    let e : is "." b ≡ false =
+    ne-eqb b 46 (⊎-elim (λ q e. omega (arith, eqb-true b 43 q)) (λ q e. omega (arith, eqb-true b 45 q)) (or-split {x = is "+" b} (r .0))) in
     rw e (omega (arith, few d s (r .1), count-more b (take (unsignedLength (d ∷ s)) (d ∷ s))))
 
 -- ---- number symbols

@@ -29,7 +29,8 @@ pub record Room (s : List ℕ) (n : ℕ) : Type 0 where
   pub few : digitCount s ≤ 18
   pub small : n < 10 ^ (18 - digitCount s)
 
-room-by : (t : Bool) (b : ℕ) (s : List ℕ) (n : ℕ) → (t ≡ true → b ≤ 57) → cond t (suc (digitCount s)) (digitCount s) ≤ 18 → n < 10 ^ (18 - cond t (suc (digitCount s)) (digitCount s)) → Room s (cond t (n * 10 + (b - 48)) n)
+room-by : (t : Bool) (b : ℕ) (s : List ℕ) (n : ℕ) → (t ≡ true → b ≤ 57) → cond t (suc (digitCount s)) (digitCount s) ≤ 18 →
+    n < 10 ^ (18 - cond t (suc (digitCount s)) (digitCount s)) → Room s (cond t (n * 10 + (b - 48)) n)
 room-by false b s n d f h = record { few = f; small = h }
 room-by true b s n d f h =
     let e : 18 - digitCount s ≡ 18 - suc (digitCount s) + 1 = omega arith in
@@ -79,7 +80,8 @@ scanned-small x = room-small _ _ (x .room)
 scanned-one : (s t : List ℕ) (b n d : ℕ) → Scanned s (b ∷ t) n d → Scanned s t (withDigit n b) (withDot d b (length t))
 scanned-one s t b n d x = record { room = room-next b t n (x .room); value = x .value; decimals = x .decimals ∙ from-next b d t }
 
-pub scanned-next : (s : List ℕ) (i n d : ℕ) {n′ d′ : ℕ} → i < length s → Scanned s (drop i s) n d → n′ ≡ withDigit n (getD s i 0) → d′ ≡ withDot d (getD s i 0) (length s - (i + 1)) → Scanned s (drop (i + 1) s) n′ d′
+pub scanned-next : (s : List ℕ) (i n d : ℕ) {n′ d′ : ℕ} → i < length s → Scanned s (drop i s) n d →
+    n′ ≡ withDigit n (getD s i 0) → d′ ≡ withDot d (getD s i 0) (length s - (i + 1)) → Scanned s (drop (i + 1) s) n′ d′
 scanned-next s i n d h x p q = rw (p, q, add-one, ← length-drop (suc i) s) (scanned-one s (drop (suc i) s) (getD s i 0) n d (rw (drop-cons s i 0 h) at x))
 
 last-decimals : (d : ℕ) → decimalsFrom d [] ≡ d

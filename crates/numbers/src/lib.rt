@@ -246,7 +246,8 @@ pub fn number_of(part: &[u8]) -> Number
 pub fn number_at(text: &[u8], place: usize, len: usize) -> Number
     requires { ⌜ place + len ≤ length (now text) ⌝ }
     requires { ⌜ digitCount (take len (drop place (now text))) ≤ 18 ⌝ }
-    ensures { λ r. ⌜ (r .value ≡ valueOf (take len (drop place (now (text .entry))))) × (r .decimals ≡ decimalsOf (take len (drop place (now (text .entry))))) ⌝ }
+    ensures { λ r. ⌜ (r .value ≡ valueOf (take len (drop place (now (text .entry)))))
+        × (r .decimals ≡ decimalsOf (take len (drop place (now (text .entry))))) ⌝ }
 {
     let end = place + len;
     number_of(&text[place..end])

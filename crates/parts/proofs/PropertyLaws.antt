@@ -21,7 +21,8 @@ use Rattle.rules.proofs.SymbolLaws.{Lies, next-lies}
 use Rattle.rules.proofs.ForwardLaws.{one-word}
 use Rattle.rules.proofs.FuelLaws.{properties-fuel}
 use Rattle.symbols.specs.declared.Symbol.{Symbol}
-use Rattle.symbols.specs.Cut.{position, made}
+use Rattle.words.specs.Words.{position}
+use Rattle.symbols.specs.Cut.{made}
 use Rattle.readers.specs.Reads.{faultAt, Stands, Cuts, Held, passed, Gives, Reads}
 use Rattle.readers.proofs.CodeLaws.{Test, is-mark, is-word, is-one-word}
 use Rattle.readers.proofs.StandLaws.{fault-stands, stands-lies}
@@ -167,13 +168,13 @@ module _ {t : List ℕ} {b : Bool} {w₀ : rules.Symbol} {have : Properties} {z 
         s .goes-on more n (rw (list-step t (wordsOf b) w (s .cut-from .stands), yes, is-no comma k v follows)
         (gives-map (andThen t (theMark ")" t v) (λ _. ret [])) (λ r. w .bytes ∷ r) (gives-map (theMark ")" t v) (λ _. []) (gives-weaker close (λ _ _. flags-more)))))
 
-  seen-fault : {n : Symbol} → (eqb (z .code) (otherOf b) || eqb (z .code) 72) ≡ false → n ≡ made 5 (z .no) (z .place) 0 →
+  seen-fault : {n : Symbol} → (eqb (z .code) (otherOf b) || eqb (z .code) 72) ≡ false → n ≡ made 5 (z .refusal) (z .place) 0 →
       Gives t (propertiesFrom (enough t) (wordsOf b) t w₀) (λ p. have ≡ flagsOf p) n
   unfolding w after
   seen-fault {n} h e =
       let c = s .cut-from in
       s .goes-on have n (rw (list-step t (wordsOf b) w (c .stands), property-test b false (sym h) w c)
-      (record { next = record { cuts = e ∙ ap (λ (x : Symbol). made 5 (x .no) (x .place) 0) (c .cuts); stands = fault-stands t _ _ (let l = c .stands .ends in omega arith) }; value = tt }))
+      (record { next = record { cuts = e ∙ ap (λ (x : Symbol). made 5 (x .refusal) (x .place) 0) (c .cuts); stands = fault-stands t _ _ (let l = c .stands .ends in omega arith) }; value = tt }))
 
 -- ---- as the loop meets them
 -- z₀ and have₀ are the first symbol and the flags before it
@@ -189,7 +190,7 @@ module _ (t : List ℕ) (b : Bool) (have₀ : Properties) (z₀ : Symbol) where
   reads-list g = record { reads = g; passes = λ f p c. rw (fault-list t (wordsOf b) f p (c .stands)) at (g (faultAt f p) c .next) }
 
   module _ (have : Properties) (z : Symbol) (v : Loop t b have₀ z₀ have z) (e₀ : have₀ ≡ flagsOf []) where
-    pub list-fault : {n : Symbol} → (eqb (z .code) (otherOf b) || eqb (z .code) 72) ≡ false → n ≡ made 5 (z .no) (z .place) 0 →
+    pub list-fault : {n : Symbol} → (eqb (z .code) (otherOf b) || eqb (z .code) 72) ≡ false → n ≡ made 5 (z .refusal) (z .place) 0 →
         Reads t (propertiesFrom (enough t) (wordsOf b)) (λ p. have ≡ flagsOf p) z₀ n
     list-fault h e = reads-list (λ w c. seen-fault (v .1 w c e₀) h e)
 

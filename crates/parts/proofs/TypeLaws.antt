@@ -15,7 +15,7 @@ use Rattle.rules.specs.Symbols as rules
 use Rattle.rules.specs.Symbols.{too-large, symbolAt, endOf, digitCount, Kind, word, name, number, quoted, dots, stop, mark, fault, tag, isKind, isMark, isWord, isOneWord}
 use Rattle.rules.specs.Readers.{Reader, ret, _>>=_, expect}
 use Rattle.rules.specs.Numbers.{digits, valueOf, decimalsOf}
-use Rattle.rules.specs.Grammar.{enough, enumeration, WrittenType, text, range, numeric, enum, named, isLength, textLength, textType, rangeType, reference, typeOf, typeOrReference, placeOfNext, written}
+use Rattle.rules.specs.Grammar.{enough, deepest, enumeration, WrittenType, text, range, numeric, enum, named, isLength, textLength, textType, rangeType, reference, typeOf, typeOrReference, placeOfNext, written}
 use Rattle.rules.proofs.Tests.{never, both, fail-r}
 use Rattle.ground.specs.Parts.{part}
 use Rattle.numbers.specs.declared.Number.{Number}
@@ -98,7 +98,7 @@ module _ {t : List ℕ} {y : Symbol} where
   counts {u} k w z c = let q = whole-count (z .bytes) u (rw (bytes-of z c) at w) in (rw (is-yes is-number k z c) (q .0), q .1)
 
 module _ {t : List ℕ} {y n : Symbol} (m : Bool) where
-  pub no-length : {v : Meant} → ((z : rules.Symbol) → Cuts t z y → isLength z ≡ false) → n ≡ made 5 (y .no) (y .place) 0 →
+  pub no-length : {v : Meant} → ((z : rules.Symbol) → Cuts t z y → isLength z ≡ false) → n ≡ made 5 (y .refusal) (y .place) 0 →
       Reads t textLength (λ s. v ≡ limitOf m (some s)) y n
   unfolding textLength
   no-length h e = refuses _ h e
@@ -199,12 +199,12 @@ module _ {t : List ℕ} {y n : Symbol} where
       if-false (isOneWord (ascii "TEXT" ∷ ascii "MTEXT" ∷ [])) _ _ (no-text a b) (if-false (isWord (ascii "NUMERIC")) _ _ (is-no numeric-word c)
       (if-false (isMark "(") _ _ (is-no (is-mark "(" (omega arith) (omega arith)) d) r))
 
-  pub type-enum : {o p : List ℕ} {u : ℕ} → y .code ≡ 40 → Reads t (enumeration (enough t) 0) (Whole o p u) y n → Reads t typeOf (Means o p (Enumeration u)) y n
+  pub type-enum : {o p : List ℕ} {u : ℕ} → y .code ≡ 40 → Reads t (enumeration (enough t) deepest) (Whole o p u) y n → Reads t typeOf (Means o p (Enumeration u)) y n
   unfolding typeOf
   type-enum k r =
       if-false (isOneWord (ascii "TEXT" ∷ ascii "MTEXT" ∷ [])) _ _ (no-text (omega arith) (omega arith)) (if-false (isWord (ascii "NUMERIC")) _ _ (is-no numeric-word (omega arith))
       (if-true (isMark "(") _ _ (is-yes (is-mark "(" (omega arith) (omega arith)) k)
-      (mapped {R = λ s z. enumeration (enough s) 0 s z} enum (record { reads = r .reads; passes = r .passes }) (λ e h. (ap Enumeration (h .0), h .1)))))
+      (mapped {R = λ s z. enumeration (enough s) deepest s z} enum (record { reads = r .reads; passes = r .passes }) (λ e h. (ap Enumeration (h .0), h .1)))))
 
   pub type-plain : {o : List ℕ} {v : Meant} → Reads t typeOf (Plainly v) y n → Reads t typeOf (Means o o v) y n
   type-plain {o} r = weaker r (λ x h. (h .0, h .1 o o))
@@ -221,13 +221,13 @@ module _ {t : List ℕ} {y n : Symbol} where
 pub semicolon : Test (isMark ";") 59
 semicolon = is-mark ";" (omega arith) (omega arith)
 
-module _ {t o : List ℕ} {y : Symbol} (based or : Bool) where
-  pub alone : based ≡ true → y .code ≡ 59 → Reads t (mandatoryBy based (typeBy or)) (MeansAny o o Alone) y y
+module _ {t o : List ℕ} {y : Symbol} (based or-reference : Bool) where
+  pub alone : based ≡ true → y .code ≡ 59 → Reads t (mandatoryBy based (typeBy or-reference)) (MeansAny o o Alone) y y
   alone h k = if-true (λ z. based && isMark ";" z) _ _ (λ z c. both h (is-yes semicolon k z c)) (stay none (refl, tt))
 
-module _ {t o p : List ℕ} {y n : Symbol} (based or : Bool) {v : Meant} where
-  pub not-alone : ((z : rules.Symbol) → Cuts t z y → (based && isMark ";" z) ≡ false) → Reads t (typeBy or) (Means o p v) y n →
-      Reads t (mandatoryBy based (typeBy or)) (MeansAny o p v) y n
+module _ {t o p : List ℕ} {y n : Symbol} (based or-reference : Bool) {v : Meant} where
+  pub not-alone : ((z : rules.Symbol) → Cuts t z y → (based && isMark ";" z) ≡ false) → Reads t (typeBy or-reference) (Means o p v) y n →
+      Reads t (mandatoryBy based (typeBy or-reference)) (MeansAny o p v) y n
   not-alone h r = if-false (λ z. based && isMark ";" z) _ _ h (mapped some r (λ x q. q))
 
 pub here-reads : {t : List ℕ} {y : Symbol} → Reads t placeOfNext (λ p. y .place ≡ p) y y
@@ -236,16 +236,16 @@ here-reads = record { reads = λ z c. record { next = c; value = ap (λ (x : Sym
 mandatory-word : Test (isWord (ascii "MANDATORY")) 78
 mandatory-word = is-word (ascii "MANDATORY") 78 refl
 
-module _ {t o p : List ℕ} {y n : Symbol} (based or : Bool) {v : Meant} where
-  pub with-mandatory : {z : Symbol} → y .code ≡ 78 → z ≡ passed t y 78 → Reads t (mandatoryBy based (typeBy or)) (MeansAny o p v) z n →
-      Reads t (written based (typeBy or)) (MeansAll o p (record { mandatory = true; place = z .place; meant = v })) y n
+module _ {t o p : List ℕ} {y n : Symbol} (based or-reference : Bool) {v : Meant} where
+  pub with-mandatory : {z : Symbol} → y .code ≡ 78 → z ≡ passed t y 78 → Reads t (mandatoryBy based (typeBy or-reference)) (MeansAny o p v) z n →
+      Reads t (written based (typeBy or-reference)) (MeansAll o p (record { mandatory = true; place = z .place; meant = v })) y n
   unfolding written
   with-mandatory k e r =
       if-true (isWord (ascii "MANDATORY")) _ _ (is-yes mandatory-word k) (bind (expected mandatory-word e)
       (λ _ _. bind here-reads (λ i q. mapped (λ x. record { mandatory = true; place = i; type = x }) r (λ x h. (rw (q, h .0), h .1))) (r .passes)) (r .passes))
 
-  pub not-mandatory : (y .code ≡ 78 → ⊥) → Reads t (typeBy or) (Means o p v) y n →
-      Reads t (written based (typeBy or)) (MeansAll o p (record { mandatory = false; place = y .place; meant = v })) y n
+  pub not-mandatory : (y .code ≡ 78 → ⊥) → Reads t (typeBy or-reference) (Means o p v) y n →
+      Reads t (written based (typeBy or-reference)) (MeansAll o p (record { mandatory = false; place = y .place; meant = v })) y n
   unfolding written
   not-mandatory k r =
       if-false (isWord (ascii "MANDATORY")) _ _ (is-no mandatory-word k)

@@ -119,9 +119,9 @@ MeansAny o p m x = (m ≡ anyOf x) × Scratches o p x
 abbrev pub MeansAll : List ℕ → List ℕ → Written → G.Written → Type 0
 MeansAll o p v w = (v ≡ writtenOf w) × Scratches o p (w .type)
 
--- a reference may stand where `or` says so
+-- a type, or a reference where that is allowed
 abbrev pub typeBy : Bool → Reader WrittenType
-typeBy or = cond or typeOrReference typeOf
+typeBy or-reference = cond or-reference typeOrReference typeOf
 
 -- behind MANDATORY
 abbrev pub mandatoryBy : Bool → Reader WrittenType → Reader (Option WrittenType)

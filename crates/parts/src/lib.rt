@@ -1,14 +1,15 @@
-// The parts of units: properties, references, types. Each reader takes the next symbol, already cut, and hands on the one after what it read.
+// The parts of units: properties, references, types. Each reader takes the next symbol, already cut, and hands on the
+// one after what it read.
 pub mod types;
 
-use ground::Name;
 use ground::Reference;
+use ground::either;
 use readers::expect;
-use readers::faulty;
 use readers::name_of;
 use symbols::Symbol;
+use symbols::faulty;
 ghost use mathlib.Core.Path.{_≡_};
-ghost use mathlib.Core.Bool.{false, _||_};
+ghost use mathlib.Core.Bool.{_||_};
 ghost use mathlib.Core.List.{[]};
 ghost use lib.Dec.{eqb};
 ghost use Rattle.rules.specs.Grammar.{enough, propertiesFrom, reference};
@@ -40,12 +41,6 @@ fn none_written() -> Properties
     }
 }
 
-fn either(a: bool, b: bool) -> bool
-    ensures { λ r. ⌜ r ≡ (a || b) ⌝ }
-{
-    if a { true } else { b }
-}
-
 // The properties with the one of a word added.
 fn with(p: Properties, word: u8) -> Properties
     ensures { λ r. ⌜ r ≡ withWord p word ⌝ }
@@ -74,6 +69,7 @@ fn with(p: Properties, word: u8) -> Properties
     }
 }
 
+// The property beside FINAL.
 fn other(attribute: bool) -> u8
     ensures { λ r. ⌜ r ≡ otherOf attribute ⌝ }
 {
@@ -96,7 +92,8 @@ fn is_property(code: u8, attribute: bool) -> bool
 // The list behind its `(`, whose first symbol is y.
 fn property_list(text: &[u8], y: Symbol, attribute: bool) -> PropertiesRead
     requires { ⌜ Held (now text) y ⌝ }
-    ensures { λ r. ⌜ Reads (now (text .entry)) (propertiesFrom (enough (now (text .entry))) (wordsOf attribute)) (λ p. r .properties ≡ flagsOf p) y (r .next) ⌝ }
+    ensures { λ r. ⌜ Reads (now (text .entry)) (propertiesFrom (enough (now (text .entry))) (wordsOf attribute))
+        (λ p. r .properties ≡ flagsOf p) y (r .next) ⌝ }
 {
     let mut have = none_written();
     let mut z = y;
@@ -114,13 +111,14 @@ fn property_list(text: &[u8], y: Symbol, attribute: bool) -> PropertiesRead
     }
     PropertiesRead {
         properties: have,
-        next: faulty(z.no, z.place),
+        next: faulty(z.refusal, z.place),
     }
 }
 
 pub fn read_properties(text: &[u8], y: Symbol, attribute: bool) -> PropertiesRead
     requires { ⌜ Held (now text) y ⌝ }
-    ensures { λ r. ⌜ Reads (now (text .entry)) (Grammar·properties (wordsOf attribute)) (λ p. r .properties ≡ flagsOf p) y (r .next) ⌝ }
+    ensures { λ r. ⌜ Reads (now (text .entry)) (Grammar·properties (wordsOf attribute))
+        (λ p. r .properties ≡ flagsOf p) y (r .next) ⌝ }
 {
     if y.code == readers::ROUND {
         let z = expect(text, y, readers::ROUND);
@@ -141,25 +139,25 @@ pub struct ReferenceRead {
 pub fn read_reference(text: &[u8], y: Symbol) -> ReferenceRead
     ensures { λ r. ⌜ Reads (now (text .entry)) reference (λ a. r .reference ≡ referenceOf a) y (r .next) ⌝ }
 {
-    let a = expect(text, y, readers::NAME);
-    if a.code == readers::DOT {
-        let m = expect(text, a, readers::DOT);
-        let b = expect(text, m, readers::NAME);
-        if b.code == readers::DOT {
-            let n = expect(text, b, readers::DOT);
+    let behind = expect(text, y, readers::NAME);
+    if behind.code == readers::DOT {
+        let second = expect(text, behind, readers::DOT);
+        let behind = expect(text, second, readers::NAME);
+        if behind.code == readers::DOT {
+            let third = expect(text, behind, readers::DOT);
             return ReferenceRead {
-                reference: Reference::InTopic(name_of(y), name_of(m), name_of(n)),
-                next: expect(text, n, readers::NAME),
+                reference: Reference::InTopic(name_of(y), name_of(second), name_of(third)),
+                next: expect(text, third, readers::NAME),
             };
         }
         return ReferenceRead {
-            reference: Reference::InModel(name_of(y), name_of(m)),
-            next: b,
+            reference: Reference::InModel(name_of(y), name_of(second)),
+            next: behind,
         };
     }
     ReferenceRead {
         reference: Reference::Bare(name_of(y)),
-        next: a,
+        next: behind,
     }
 }
 

@@ -1,24 +1,25 @@
 // Types, and what stands behind the `=` of a domain or the `:` of an attribute.
 use ground::Reference;
+use ground::is_digit;
 use numbers::Number;
 use readers::expect;
-use readers::faulty;
 use symbols::Symbol;
+use symbols::faulty;
 ghost use mathlib.Core.Path.{_≡_};
-ghost use mathlib.Core.Bool.{Bool, true, cond};
+ghost use mathlib.Core.Bool.{Bool};
 ghost use mathlib.Core.Option.{some};
 ghost use Prim.Native.Nat.{_+_, _*_, _≤_, _<_};
 ghost use lib.ListN.{length};
 ghost use Rattle.rules.specs.Symbols.{digitCount};
 ghost use Rattle.rules.specs.Symbols.{Symbol as rules·Symbol};
 ghost use Rattle.rules.specs.Grammar.{textLength, textType, rangeType, typeOf, typeOrReference, written};
-ghost use Rattle.rules.specs.Bytes.{isDigit};
 ghost use Rattle.ground.specs.Parts.{part};
 ghost use Rattle.readers.specs.Reads.{Cuts, Held, Reads};
-ghost use Rattle.parts.specs.Forms.{numberOf, wholeOf, limitOf, kindOf, textCode, Plainly, Means, MeansAny, MeansAll, typeBy, mandatoryBy};
+ghost use Rattle.parts.specs.Forms.{numberOf, wholeOf, limitOf, kindOf, textCode, typeBy, mandatoryBy};
+ghost use Rattle.parts.specs.Forms.{Plainly, Means, MeansAny, MeansAll};
 
-// What is written: MANDATORY alone; TEXT or MTEXT, by the kind of its record, and with a length that stands at a place; a range; NUMERIC;
-// an enumeration, whose records stand in the scratch up to a place; a reference.
+// What is written: MANDATORY alone; TEXT or MTEXT, by the kind of its record, and with a length that stands at a place;
+// a range; NUMERIC; an enumeration, whose records stand in the scratch up to a place; a reference.
 pub enum Meant {
     Alone,
     Text { kind: u8 },
@@ -52,15 +53,6 @@ pub enum Whole {
     Other,
 }
 
-fn is_digit(b: u8) -> bool
-    ensures { λ r. ⌜ r ≡ isDigit b ⌝ }
-{
-    if b'0' <= b {
-        return b <= b'9';
-    }
-    false
-}
-
 fn whole_number(text: &[u8], place: usize, len: usize) -> Whole
     requires { ⌜ (place + len ≤ length (now text)) × (0 < len) ⌝ }
     requires { ⌜ digitCount (part (now text) place len) ≤ 18 ⌝ }
@@ -78,7 +70,8 @@ fn whole_number(text: &[u8], place: usize, len: usize) -> Whole
 // The length behind `*`.
 fn text_length(text: &[u8], kind: u8, y: Symbol) -> MeantRead
     requires { ⌜ Held (now text) y ⌝ }
-    ensures { λ r. ⌜ ((m : Bool) → kind ≡ kindOf m → Reads (now (text .entry)) textLength (λ s. r .meant ≡ limitOf m (some s)) y (r .next)) ⌝ }
+    ensures { λ r. ⌜ ((m : Bool) → kind ≡ kindOf m
+        → Reads (now (text .entry)) textLength (λ s. r .meant ≡ limitOf m (some s)) y (r .next)) ⌝ }
 {
     let place = y.place;
     if y.code == readers::NUMBER {
@@ -103,26 +96,27 @@ fn text_length(text: &[u8], kind: u8, y: Symbol) -> MeantRead
             Whole::Other => {
                 return MeantRead {
                     meant: Meant::Alone,
-                    next: faulty(y.no, place),
+                    next: faulty(y.refusal, place),
                 };
             }
         }
     }
     MeantRead {
         meant: Meant::Alone,
-        next: faulty(y.no, place),
+        next: faulty(y.refusal, place),
     }
 }
 
 // TEXT or MTEXT, which is y.
 fn text_type(text: &[u8], kind: u8, y: Symbol) -> MeantRead
     requires { ⌜ Held (now text) y ⌝ }
-    ensures { λ r. ⌜ ((m : Bool) → y .code ≡ textCode m → kind ≡ kindOf m → Reads (now (text .entry)) textType (Plainly (r .meant)) y (r .next)) ⌝ }
+    ensures { λ r. ⌜ ((m : Bool) → y .code ≡ textCode m → kind ≡ kindOf m
+        → Reads (now (text .entry)) textType (Plainly (r .meant)) y (r .next)) ⌝ }
 {
     let z = expect(text, y, y.code);
     if z.code == readers::STAR {
-        let n = expect(text, z, readers::STAR);
-        return text_length(text, kind, n);
+        let length = expect(text, z, readers::STAR);
+        return text_length(text, kind, length);
     }
     MeantRead {
         meant: Meant::Text { kind: kind },
@@ -148,16 +142,16 @@ fn range_type(text: &[u8], y: Symbol) -> MeantRead
     requires { ⌜ Held (now text) y ⌝ }
     ensures { λ r. ⌜ Reads (now (text .entry)) rangeType (Plainly (r .meant)) y (r .next) ⌝ }
 {
-    let d = expect(text, y, readers::NUMBER);
-    let z = expect(text, d, readers::DOTS);
+    let dots = expect(text, y, readers::NUMBER);
+    let bound = expect(text, dots, readers::DOTS);
     let first = number(text, y);
-    let second = number(text, z);
+    let second = number(text, bound);
     MeantRead {
         meant: Meant::Range {
             first: first,
             second: second,
         },
-        next: expect(text, z, readers::NUMBER),
+        next: expect(text, bound, readers::NUMBER),
     }
 }
 
@@ -180,13 +174,14 @@ fn plain_type(text: &[u8], y: Symbol) -> MeantRead
     range_type(text, y)
 }
 
-fn type_of(text: &[u8], records: &mut [u8], y: Symbol) -> MeantRead
+fn type_of(text: &[u8], scratch: &mut [u8], y: Symbol) -> MeantRead
     requires { ⌜ Held (now text) y ⌝ }
-    requires { ⌜ 3 * length (now text) ≤ length (now records) ⌝ }
-    ensures { λ r. ⌜ Reads (now (text .entry)) typeOf (Means (now (records .entry)) (now (records .exit)) (r .meant)) y (r .next) ⌝ }
+    requires { ⌜ 3 * length (now text) ≤ length (now scratch) ⌝ }
+    ensures { λ r. ⌜ Reads (now (text .entry)) typeOf
+        (Means (now (scratch .entry)) (now (scratch .exit)) (r .meant)) y (r .next) ⌝ }
 {
     if y.code == readers::ROUND {
-        let e = elements::outermost(text, records, y);
+        let e = elements::outermost(text, scratch, y);
         let next = e.next;
         return MeantRead {
             meant: Meant::Enumeration { bytes: e.bytes },
@@ -196,10 +191,11 @@ fn type_of(text: &[u8], records: &mut [u8], y: Symbol) -> MeantRead
     plain_type(text, y)
 }
 
-fn type_or_reference(text: &[u8], records: &mut [u8], y: Symbol) -> MeantRead
+fn type_or_reference(text: &[u8], scratch: &mut [u8], y: Symbol) -> MeantRead
     requires { ⌜ Held (now text) y ⌝ }
-    requires { ⌜ 3 * length (now text) ≤ length (now records) ⌝ }
-    ensures { λ r. ⌜ Reads (now (text .entry)) typeOrReference (Means (now (records .entry)) (now (records .exit)) (r .meant)) y (r .next) ⌝ }
+    requires { ⌜ 3 * length (now text) ≤ length (now scratch) ⌝ }
+    ensures { λ r. ⌜ Reads (now (text .entry)) typeOrReference
+        (Means (now (scratch .entry)) (now (scratch .exit)) (r .meant)) y (r .next) ⌝ }
 {
     if y.code == readers::NAME {
         let r = crate::read_reference(text, y);
@@ -210,25 +206,34 @@ fn type_or_reference(text: &[u8], records: &mut [u8], y: Symbol) -> MeantRead
             next: next,
         };
     }
-    type_of(text, records, y)
+    type_of(text, scratch, y)
 }
 
-fn type_by(text: &[u8], records: &mut [u8], y: Symbol, or: bool) -> MeantRead
+// A type, or a reference where that is allowed.
+fn type_by(text: &[u8], scratch: &mut [u8], y: Symbol, or_reference: bool) -> MeantRead
     requires { ⌜ Held (now text) y ⌝ }
-    requires { ⌜ 3 * length (now text) ≤ length (now records) ⌝ }
-    ensures { λ r. ⌜ Reads (now (text .entry)) (typeBy or) (Means (now (records .entry)) (now (records .exit)) (r .meant)) y (r .next) ⌝ }
+    requires { ⌜ 3 * length (now text) ≤ length (now scratch) ⌝ }
+    ensures { λ r. ⌜ Reads (now (text .entry)) (typeBy «or_reference»)
+        (Means (now (scratch .entry)) (now (scratch .exit)) (r .meant)) y (r .next) ⌝ }
 {
-    if or {
-        return type_or_reference(text, records, y);
+    if or_reference {
+        return type_or_reference(text, scratch, y);
     }
-    type_of(text, records, y)
+    type_of(text, scratch, y)
 }
 
 // Behind MANDATORY: nothing, where `based` allows that and the unit ends, or a type.
-fn after_mandatory(text: &[u8], records: &mut [u8], y: Symbol, based: bool, or: bool) -> MeantRead
+fn after_mandatory(
+    text: &[u8],
+    scratch: &mut [u8],
+    y: Symbol,
+    based: bool,
+    or_reference: bool,
+) -> MeantRead
     requires { ⌜ Held (now text) y ⌝ }
-    requires { ⌜ 3 * length (now text) ≤ length (now records) ⌝ }
-    ensures { λ r. ⌜ Reads (now (text .entry)) (mandatoryBy based (typeBy or)) (MeansAny (now (records .entry)) (now (records .exit)) (r .meant)) y (r .next) ⌝ }
+    requires { ⌜ 3 * length (now text) ≤ length (now scratch) ⌝ }
+    ensures { λ r. ⌜ Reads (now (text .entry)) (mandatoryBy based (typeBy «or_reference»))
+        (MeansAny (now (scratch .entry)) (now (scratch .exit)) (r .meant)) y (r .next) ⌝ }
 {
     if based {
         if y.code == readers::SEMICOLON {
@@ -237,26 +242,27 @@ fn after_mandatory(text: &[u8], records: &mut [u8], y: Symbol, based: bool, or: 
                 next: y,
             };
         }
-        return type_by(text, records, y, or);
+        return type_by(text, scratch, y, or_reference);
     }
-    type_by(text, records, y, or)
+    type_by(text, scratch, y, or_reference)
 }
 
-// MANDATORY, perhaps, and a type; a reference too, where `or` allows it.
+// MANDATORY, perhaps, and a type, or a reference where that is allowed.
 pub fn read_written(
     text: &[u8],
-    records: &mut [u8],
+    scratch: &mut [u8],
     y: Symbol,
     based: bool,
-    or: bool,
+    or_reference: bool,
 ) -> WrittenRead
     requires { ⌜ Held (now text) y ⌝ }
-    requires { ⌜ 3 * length (now text) ≤ length (now records) ⌝ }
-    ensures { λ r. ⌜ Reads (now (text .entry)) (written based (typeBy or)) (MeansAll (now (records .entry)) (now (records .exit)) (r .written)) y (r .next) ⌝ }
+    requires { ⌜ 3 * length (now text) ≤ length (now scratch) ⌝ }
+    ensures { λ r. ⌜ Reads (now (text .entry)) (written based (typeBy «or_reference»))
+        (MeansAll (now (scratch .entry)) (now (scratch .exit)) (r .written)) y (r .next) ⌝ }
 {
     if y.code == readers::MANDATORY {
         let z = expect(text, y, readers::MANDATORY);
-        let m = after_mandatory(text, records, z, based, or);
+        let m = after_mandatory(text, scratch, z, based, or_reference);
         let meant = m.meant;
         let next = m.next;
         return WrittenRead {
@@ -268,7 +274,7 @@ pub fn read_written(
             next: next,
         };
     }
-    let m = type_by(text, records, y, or);
+    let m = type_by(text, scratch, y, or_reference);
     let meant = m.meant;
     let next = m.next;
     WrittenRead {

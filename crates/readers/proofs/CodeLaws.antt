@@ -10,7 +10,8 @@ use Rattle.rules.specs.Bytes.{same}
 use Rattle.rules.specs.Reserved.{forms}
 use Rattle.rules.specs.Symbols as rules
 use Rattle.rules.specs.Symbols.{word, name, number, quoted, dots, stop, isKind, isMark, isWord, isOneWord}
-use Rattle.symbols.specs.Cut.{position, codeOf}
+use Rattle.words.specs.Words.{position}
+use Rattle.symbols.specs.Cut.{codeOf}
 use Rattle.symbols.specs.Cut.{Sound}
 use Rattle.symbols.proofs.CutLaws.{mark-of, kind-of, stop-of, word-of}
 

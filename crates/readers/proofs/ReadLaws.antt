@@ -110,9 +110,9 @@ passes-by {t} {p} {k} {y} {n} q e = record { reads = λ z c. go z c (p z) refl (
 
 -- a symbol that fails the test
 pub refuses : {B : Type 0} {t : List ℕ} {P : B → Type 0} {p : rules.Symbol → Bool} (k : rules.Symbol → Reader B) {y n : Symbol} →
-    ((z : rules.Symbol) → Cuts t z y → p z ≡ false) → n ≡ made 5 (y .no) (y .place) 0 → Reads t (expect p >>= k) P y n
+    ((z : rules.Symbol) → Cuts t z y → p z ≡ false) → n ≡ made 5 (y .refusal) (y .place) 0 → Reads t (expect p >>= k) P y n
 refuses {t} k {y} {n} h e =
-    let at : (x : Symbol) → y ≡ x → n ≡ made 5 (x .no) (x .place) 0 = λ x f. e ∙ ap (λ (s : Symbol). made 5 (s .no) (s .place) 0) f in
+    let at : (x : Symbol) → y ≡ x → n ≡ made 5 (x .refusal) (x .place) 0 = λ x f. e ∙ ap (λ (s : Symbol). made 5 (s .refusal) (s .place) 0) f in
     record {
       reads = λ z c. rw (h z c) (record { next = record { cuts = at (cut z) (c .cuts); stands = fault-stands t _ _ (let l = c .stands .ends in omega arith) }; value = tt });
       passes = λ f p c. record { cuts = at (cut (faultAt f p)) (c .cuts); stands = c .stands };

@@ -37,7 +37,7 @@ Held t y = (z : rules.Symbol) × Cuts t z y
 
 -- the symbol behind y if y has the code k, and else y as a faulty one
 abbrev pub passed : List ℕ → Symbol → ℕ → Symbol
-passed t y k = cond (eqb (y .code) k) (cut (symbolAt t (y .next .at))) (made 5 (y .no) (y .place) 0)
+passed t y k = cond (eqb (y .code) k) (cut (symbolAt t (y .next .at))) (made 5 (y .refusal) (y .place) 0)
 
 abbrev pub named : Symbol → Name
 named y = record { offset = y .place; len = y .len }

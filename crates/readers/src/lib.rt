@@ -1,9 +1,7 @@
-// What the readers of units are made of: the symbol that is to come, and a fault that goes on as a faulty symbol, which no reader takes.
+// What the readers of units are made of: the symbol to come. A fault goes on as a faulty symbol, which no reader takes.
 use ground::Name;
-use symbols::Cursor;
 use symbols::Symbol;
 ghost use mathlib.Core.Path.{_≡_};
-ghost use Rattle.symbols.specs.Cut.{made};
 ghost use Rattle.readers.specs.Reads.{passed, named};
 
 // The codes of symbols: `codeOf`.
@@ -78,19 +76,6 @@ pub fn name_of(y: Symbol) -> Name
     }
 }
 
-// A symbol with a fault of the number: it stays what it is wherever it is read.
-pub fn faulty(number: u8, place: usize) -> Symbol
-    ensures { λ r. ⌜ r ≡ made 5 number place 0 ⌝ }
-{
-    Symbol {
-        code: 5,
-        no: number,
-        place: place,
-        len: 0,
-        next: Cursor { at: place },
-    }
-}
-
 // The symbol behind y, which is to have the code; else y's fault.
 pub fn expect(text: &[u8], y: Symbol, code: u8) -> Symbol
     ensures { λ r. ⌜ r ≡ passed (now (text .entry)) y code ⌝ }
@@ -99,5 +84,5 @@ pub fn expect(text: &[u8], y: Symbol, code: u8) -> Symbol
         let c = y.next;
         return c.next(text);
     }
-    faulty(y.no, y.place)
+    symbols::faulty(y.refusal, y.place)
 }

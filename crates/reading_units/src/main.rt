@@ -17,8 +17,8 @@ fn line(kind: &[u8], place: usize) {
 // END closes what it stands in.
 fn show_end(at: Where, place: usize) {
     match at {
-        Where::Members { topic: _, first: _ } => line(b"end of class", place),
-        Where::Body { topic, run: _ } => {
+        Where::Members { .. } => line(b"end of class", place),
+        Where::Body { topic, .. } => {
             if topic {
                 line(b"end of topic", place);
             } else {
@@ -62,16 +62,16 @@ fn is_over(at: Where) -> bool {
     if let Where::Over = at { true } else { false }
 }
 
-fn show_units(text: &[u8], records: &mut [u8])
-    requires { ⌜ 3 * length (now text) ≤ length (now records) ⌝ }
+fn show_units(text: &[u8], scratch: &mut [u8])
+    requires { ⌜ 3 * length (now text) ≤ length (now scratch) ⌝ }
 {
-    let c = Cursor { at: 0 };
+    let c = Cursor::start();
     let mut y = c.next(text);
     let mut at = Where::Start;
     let mut left: usize = 70000;
     while 0 < left {
         left -= 1;
-        let s = units::read_unit(text, records, at, y);
+        let s = units::read_unit(text, scratch, at, y);
         match s {
             Step::Unread { number, place } => {
                 io::write_all(STDOUT_FILENO, b"refused ");
@@ -97,16 +97,19 @@ fn show_units(text: &[u8], records: &mut [u8])
 }
 
 fn run(text: &[u8]) {
-    let mut records = [0u8; 4096];
+    let mut scratch = [0u8; 4096];
     if text.len() <= 1365 {
-        show_units(text, &mut records);
+        show_units(text, &mut scratch);
     }
 }
 
 fn main() {
     run(b"INTERLIS 2.4;MODEL M AT \"u\" VERSION \"1\"=DOMAIN T=-10..40;END M.");
     run(
-        b"INTERLIS 2.4; MODEL M (de) AT \"u\" VERSION \"1\" = TOPIC T = DOMAIN a (ABSTRACT) = NUMERIC; b EXTENDS M.T.a = (r, s (x: FINAL), t (FINAL)); STRUCTURE S = END S; CLASS C (FINAL) EXTENDS S = ATTRIBUTE p: MANDATORY TEXT*10; q (EXTENDED, FINAL): MANDATORY; u: M.n; END C; END T; END M. !! ok",
+        b"INTERLIS 2.4; MODEL M (de) AT \"u\" VERSION \"1\" = TOPIC T = DOMAIN a (ABSTRACT) = NUMERIC; \
+          b EXTENDS M.T.a = (r, s (x: FINAL), t (FINAL)); STRUCTURE S = END S; \
+          CLASS C (FINAL) EXTENDS S = ATTRIBUTE p: MANDATORY TEXT*10; q (EXTENDED, FINAL): MANDATORY; u: M.n; END C; \
+          END T; END M. !! ok",
     );
     run(b"");
     run(b"INTERLIS 2.4;MODEL M AT \"u\" VERSION \"1\"=DOMAIN T=(a(b(c(d(e(f(g(h(i)))))))));END M.");

@@ -32,11 +32,11 @@ pub bytes-cut : (t : List ℕ) (n : R.Name) → InText t n → bytesOf t (nameCu
 bytes-cut t n h = h .there
 
 -- ---- numbers
-module _ (t : List ℕ) (s : State) (st : code.State) (o x z y ns ps : List ℕ) (k : Keeps t s st o x z y ns ps) where
-  pub home-number : st .home ≡ homeNumber (numberIn (s .topic))
+module _ (t : List ℕ) (s : State) (st : code.State) (o x z y hs : List ℕ) (k : Keeps t s st o x z y hs) where
+  pub home-number : st .context .home ≡ homeNumber (numberIn (s .topic))
   home-number = go (s .topic) (k .topic)
     where
-      go : (d : Option Def) → TopicIs t d st → st .home ≡ homeNumber (numberIn d)
+      go : (d : Option Def) → TopicIs t d st → st .context .home ≡ homeNumber (numberIn d)
       go none h = h
       go (some d) h = h .0
 
@@ -48,11 +48,11 @@ module _ (t : List ℕ) (s : State) (st : code.State) (o x z y ns ps : List ℕ)
     rows = rows (s .open-class) (k .opened);
   }
     where
-      home : (d : Option Def) → TopicIs t d st → st .home ≤ st .records
+      home : (d : Option Def) → TopicIs t d st → st .context .home ≤ st .extent .records
       home none h = omega arith
       home (some d) h = h .2
 
-      rows : (c : Option Def) → OpenIs t s st x ns ps c → 6 * st .count + 11 * st .total ≤ st .used
+      rows : (c : Option Def) → OpenIs t s st x hs c → 6 * st .listing .count + 11 * st .listing .total ≤ st .extent .used
       rows none h = h .2
       rows (some c) h = let w = h .1 in omega arith
 
@@ -68,20 +68,20 @@ module _ (m p : ℕ) (s : State) (h : m ≤ 65535) where
   room-within w = rw (whole, le-ltb m (length (book s)) w)
 
 -- ---- the answer: a rule of 4 and 7 to 18, 19, or the next state
-module _ (t : List ℕ) (s : State) (v : U.Unit) (o : List ℕ) (st : code.State) (r : code-judged.Judged) (o' x z y ns ps : List ℕ) where
-  answer : (j : Judged) → verdict s v o ≡ j → JudgedAs t j st r o' x z y ns ps → JudgedAs t (verdict s v o) st r o' x z y ns ps
-  answer j e h = subst (λ (i : Judged). JudgedAs t i st r o' x z y ns ps) (sym e) h
+module _ (t : List ℕ) (s : State) (v : U.Unit) (o : List ℕ) (st : code.State) (r : code-judged.Judged) (o' x z y hs : List ℕ) where
+  answer : (j : Judged) → verdict s v o ≡ j → JudgedAs t j st r o' x z y hs → JudgedAs t (verdict s v o) st r o' x z y hs
+  answer j e h = subst (λ (i : Judged). JudgedAs t i st r o' x z y hs) (sym e) h
 
-  pub judged-refused : (n p : ℕ) → judge s v ≡ refused n p → r ≡ Refused n p → JudgedAs t (verdict s v o) st r o' x z y ns ps
+  pub judged-refused : (n p : ℕ) → judge s v ≡ refused n p → r ≡ Refused n p → JudgedAs t (verdict s v o) st r o' x z y hs
   judged-refused n p e h = answer (refused n p) (ap (room (lent (length o)) (unitPlace v)) e) h
 
-  pub judged-over : (s' : State) → judge s v ≡ ok s' → length o ≤ 65535 → length o < length (book s') → r ≡ Refused 19 (unitPlace v) → JudgedAs t (verdict s v o) st r o' x z y ns ps
+  pub judged-over : (s' : State) → judge s v ≡ ok s' → length o ≤ 65535 → length o < length (book s') → r ≡ Refused 19 (unitPlace v) → JudgedAs t (verdict s v o) st r o' x z y hs
   judged-over s' e m w h = answer (refused 19 (unitPlace v)) (ap (room (lent (length o)) (unitPlace v)) e ∙ room-over (length o) (unitPlace v) s' m w) h
 
-  pub judged-fine : (s' : State) (st' : code.State) → judge s v ≡ ok s' → length o ≤ 65535 → st' .used ≤ length o → r ≡ Fine st' → Keeps t s' st' o' x z y ns ps → Grows st st' → JudgedAs t (verdict s v o) st r o' x z y ns ps
+  pub judged-fine : (s' : State) (st' : code.State) → judge s v ≡ ok s' → length o ≤ 65535 → st' .extent .used ≤ length o → r ≡ Fine st' → Keeps t s' st' o' x z y hs → Grows st st' → JudgedAs t (verdict s v o) st r o' x z y hs
   judged-fine s' st' e m w h k g =
       let u = k .used in
       answer (ok s') (ap (room (lent (length o)) (unitPlace v)) e ∙ room-within (length o) (unitPlace v) s' m (omega arith)) (st', h, k, g)
 
-  pub judged-ok : (s' : State) → judge s v ≡ ok s' → length o ≤ 65535 → length (book s') ≤ length o → JudgedAs t (ok s') st r o' x z y ns ps → JudgedAs t (verdict s v o) st r o' x z y ns ps
+  pub judged-ok : (s' : State) → judge s v ≡ ok s' → length o ≤ 65535 → length (book s') ≤ length o → JudgedAs t (ok s') st r o' x z y hs → JudgedAs t (verdict s v o) st r o' x z y hs
   judged-ok s' e m w h = answer (ok s') (ap (room (lent (length o)) (unitPlace v)) e ∙ room-within (length o) (unitPlace v) s' m w) h

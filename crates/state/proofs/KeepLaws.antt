@@ -19,7 +19,7 @@ use Rattle.rules.specs.Judge.{declare, opened, inTopic, begun, withAttribute}
 use Rattle.rules.specs.Check.{nothing}
 use Rattle.ground.specs.Parts.{splice}
 use Rattle.ground.specs.declared.Name.{Name}
-use Rattle.names.specs.Index.{nth, entry, row}
+use Rattle.names.specs.Index.{nth, entry, row, definitionWidth}
 use Rattle.names.specs.Chains.{Chains}
 use Rattle.names.proofs.IndexLaws.{entry-keep}
 use Rattle.names.proofs.KnownLaws.{chains-none}
@@ -27,12 +27,13 @@ use Rattle.members.specs.Held.{DefRow, AttributeRow, OpenRow, Opened, ownsOf, a
 use Rattle.members.proofs.HeldLaws.{Agree}
 use Rattle.rules.proofs.GrowLaws.{known-append, bytes-append, decls-append}
 use Rattle.members.proofs.StateLaws.{nowhere, owns-append, head-more, end-is, book-attribute, held-declared, held-opened, held-member, held-closed, held-ended, open-row-more}
-use Rattle.scope.specs.Scope.{FairOpen, FairState, Undeclared}
+use Rattle.wellformed.specs.Fairness.{FairOpen, FairState, Undeclared}
 use Rattle.rules.proofs.AllLaws.{any-is}
-use Rattle.scope.proofs.UseLaws.{fair-nothing}
+use Rattle.wellformed.proofs.UseLaws.{fair-nothing}
 use Rattle.state.specs.declared.State as code
 use Rattle.state.specs.Keeping.{Calls, TopicIs, OpenIs, Keeps}
 use Rattle.state.specs.Next.{grownBy, begunBy, declaredBy, inTopicBy, openedBy, memberBy, closedBy}
+use Rattle.members.specs.Members.{attributeWidth}
 
 -- ---- lists of records
 pub definitions-append : (l m : List Record) → definitions (l ++ m) ≡ definitions l + definitions m
@@ -181,14 +182,14 @@ book-grown s s' l e = ap (λ (m : List Record). length (bytes m)) e ∙ length-b
 
 -- what Keeps says of the book, and of what is counted in it
 pub record Booked (s : State) (st : code.State) (o : List ℕ) : Type 0 where
-  pub used : st .used ≡ length (book s)
-  pub within : st .used ≤ length o
-  pub written : take (st .used) o ≡ book s
-  pub numbered : st .records ≡ length (records s)
-  pub fewer : st .records ≤ st .used
-  pub defined : st .definitions ≡ definitions (records s)
+  pub used : st .extent .used ≡ length (book s)
+  pub within : st .extent .used ≤ length o
+  pub written : take (st .extent .used) o ≡ book s
+  pub numbered : st .extent .records ≡ length (records s)
+  pub fewer : st .extent .records ≤ st .extent .used
+  pub defined : st .extent .definitions ≡ definitions (records s)
 
-pub booked : {t : List ℕ} {s : State} {st : code.State} {o x z y ns ps : List ℕ} → Keeps t s st o x z y ns ps → Booked s st o
+pub booked : {t : List ℕ} {s : State} {st : code.State} {o x z y hs : List ℕ} → Keeps t s st o x z y hs → Booked s st o
 booked k = record { used = k .used; within = k .within; written = k .written; numbered = k .numbered; fewer = k .fewer; defined = k .defined }
 
 -- the records l more
@@ -196,7 +197,7 @@ grown : (s s' : State) (st : code.State) (o o' : List ℕ) (l : List Record) (b 
     → b ≡ length (bytes l) → r ≡ length l → d ≡ definitions l → Booked s' (grownBy st b r d) o'
 grown s s' st o o' l b r d k e f w eb er ed =
     let v : book s' ≡ book s ++ bytes l = ap bytes e ∙ bytes-append (records s) l in
-    let m : st .used + b ≡ length (book s) + length (bytes l) = let u = k .used in omega arith in
+    let m : st .extent .used + b ≡ length (book s) + length (bytes l) = let u = k .used in omega arith in
     record {
       used = m ∙ sym (ap length v ∙ length-append (book s) (bytes l));
       within = let h = w .within in omega arith;
@@ -207,9 +208,9 @@ grown s s' st o o' l b r d k e f w eb er ed =
     }
 
 -- ---- the states that the code goes through
-pub keeps-nothing : (t : List ℕ) (st : code.State) (o x y ns ps : List ℕ) (n : ℕ) → st .used ≡ 0 → st .records ≡ 0 → st .definitions ≡ 0 → st .count ≡ 0 → st .total ≡ 0 → st .model .offset ≡ 0 → st .model .len ≡ 0 → st .home ≡ 0
-    → st .open ≡ false → st .«in_hand» ≡ 0 → st .held ≡ 0 → Keeps t nothing st o x (replicate n 0) y ns ps
-keeps-nothing t st o x y ns ps n eu er ed ec et eo el eh ep ei ee = record {
+pub keeps-nothing : (t : List ℕ) (st : code.State) (o x y hs : List ℕ) (n : ℕ) → st .extent .used ≡ 0 → st .extent .records ≡ 0 → st .extent .definitions ≡ 0 → st .listing .count ≡ 0 → st .listing .total ≡ 0 → st .context .model .offset ≡ 0 → st .context .model .len ≡ 0 → st .context .home ≡ 0
+    → st .context .open ≡ false → st .context .«in_hand» ≡ 0 → st .context .held ≡ 0 → Keeps t nothing st o x (replicate n 0) y hs
+keeps-nothing t st o x y hs n eu er ed ec et eo el eh ep ei ee = record {
   used = eu;
   within = omega arith;
   written = rw eu;
@@ -239,14 +240,14 @@ entry-last ks c (suc i) e = go ks i (omega arith)
     go (d ∷ l) (suc i) e = go l i (omega arith)
 
 -- a topic or a domain d, declared whole, with its row behind the last
-module _ (t : List ℕ) (s : State) (st : code.State) (o x z y ns ps : List ℕ) (k : Keeps t s st o x z y ns ps) where
-  no-class : s .open-class ≡ none → OpenIs t s st x ns ps none
-  no-class e = subst (OpenIs t s st x ns ps) e (k .opened)
+module _ (t : List ℕ) (s : State) (st : code.State) (o x z y hs : List ℕ) (k : Keeps t s st o x z y hs) where
+  no-class : s .open-class ≡ none → OpenIs t s st x hs none
+  no-class e = subst (OpenIs t s st x hs) e (k .opened)
 
-  a-class : (c : Def) → s .open-class ≡ some c → OpenIs t s st x ns ps (some c)
-  a-class c e = subst (OpenIs t s st x ns ps) e (k .opened)
+  a-class : (c : Def) → s .open-class ≡ some c → OpenIs t s st x hs (some c)
+  a-class c e = subst (OpenIs t s st x hs) e (k .opened)
 
-  topic-kept : (st' : code.State) → st' .home ≡ st .home → st' .topic ≡ st .topic → st .records ≤ st' .records → TopicIs t (s .topic) st'
+  topic-kept : (st' : code.State) → st' .context .home ≡ st .context .home → st' .context .topic ≡ st .context .topic → st .extent .records ≤ st' .extent .records → TopicIs t (s .topic) st'
   topic-kept st' eh et w = go (s .topic) (k .topic)
     where
       go : (d : Option Def) → TopicIs t d st → TopicIs t d st'
@@ -255,8 +256,8 @@ module _ (t : List ℕ) (s : State) (st : code.State) (o x z y ns ps : List ℕ)
 
   pub keeps-declared : (d : Def) (o' x' z' : List ℕ) (b r e : ℕ) → s .open-class ≡ none → d .own ≡ []
       → b ≡ length (bytes (declRecords (def d))) → r ≡ length (declRecords (def d)) → e ≡ definitions (declRecords (def d)) → Written (book s) (bytes (declRecords (def d))) o'
-      → Agree 10 x x' (st .count) → DefRow t (book (declare s (def d))) (known (s .decls)) (attributesIn s) (st .count + 1) d (row 10 x' (st .count + 1))
-      → Chains (known (s .decls) ++ (d ∷ [])) z' → FairState t (declare s (def d)) → Keeps t (declare s (def d)) (declaredBy st b r e) o' x' z' y ns ps
+      → Agree definitionWidth x x' (st .listing .count) → DefRow t (book (declare s (def d))) (known (s .decls)) (attributesIn s) (st .listing .count + 1) d (row definitionWidth x' (st .listing .count + 1))
+      → Chains (known (s .decls) ++ (d ∷ [])) z' → FairState t (declare s (def d)) → Keeps t (declare s (def d)) (declaredBy st b r e) o' x' z' y hs
   keeps-declared d o' x' z' b r e c w eb er ee wr ax row' ch f =
       let g = grown s (declare s (def d)) st o o' (declRecords (def d)) b r e (booked k) (records-declared s (def d) c) (decl-solid d .solid) wr eb er ee in
       let (op, hl, sz, hd) = no-class c in
@@ -272,15 +273,15 @@ module _ (t : List ℕ) (s : State) (st : code.State) (o x z y ns ps : List ℕ)
         defined = g .defined;
         model = k .model;
         topic = topic-kept (declaredBy st b r e) refl refl (omega arith);
-        held = held-declared t s (declare s (def d)) d x (st .count) y (st .total) (k .held) c refl refl w x' ax row';
+        held = held-declared t s (declare s (def d)) d x (st .listing .count) y (st .listing .total) (k .held) c refl refl w x' ax row';
         chained = rw n ch;
         fair = f;
         hand = k .hand;
-        opened = (op, omega arith, let v = decl-solid d .six in omega arith, rw (a, n, entry-keep (known (s .decls)) (d ∷ []) (st .held) (omega arith)) hd);
+        opened = (op, omega arith, let v = decl-solid d .six in omega arith, rw (a, n, entry-keep (known (s .decls)) (d ∷ []) (st .context .held) (omega arith)) hd);
       }
 
   -- in a topic, or out of one
-  pub keeps-in : (d : Option Def) (n : Name) (h : ℕ) → s .open-class ≡ none → TopicIs t d (inTopicBy st n h) → FairState t (inTopic s d) → Keeps t (inTopic s d) (inTopicBy st n h) o x z y ns ps
+  pub keeps-in : (d : Option Def) (n : Name) (h : ℕ) → s .open-class ≡ none → TopicIs t d (inTopicBy st n h) → FairState t (inTopic s d) → Keeps t (inTopic s d) (inTopicBy st n h) o x z y hs
   keeps-in d n h c q f =
       let e : records (inTopic s d) ≡ records s = rw c in
       let a : attributesIn (inTopic s d) ≡ attributesIn s = rw c in
@@ -301,13 +302,13 @@ module _ (t : List ℕ) (s : State) (st : code.State) (o x z y ns ps : List ℕ)
       }
 
   -- the END of a topic
-  pub keeps-ended : (m : R.Name) (o' : List ℕ) → s .open-class ≡ none → Written (book s) (3 ∷ []) o' → FairState t (inTopic (declare s (endTopic m)) none) → Keeps t (declare s (endTopic m)) (grownBy st 1 1 0) o' x z y ns ps
+  pub keeps-ended : (m : R.Name) (o' : List ℕ) → s .open-class ≡ none → Written (book s) (3 ∷ []) o' → FairState t (inTopic (declare s (endTopic m)) none) → Keeps t (declare s (endTopic m)) (grownBy st 1 1 0) o' x z y hs
   keeps-ended m o' c wr f =
       let g = grown s (declare s (endTopic m)) st o o' ((3 ∷ []) ∷ []) 1 1 0 (booked k) (records-declared s (endTopic m) c) (omega arith) wr refl refl refl in
       let (op, hl, sz, hd) = no-class c in
       let n : known (s .decls ++ (endTopic m ∷ [])) ≡ known (s .decls) = known-append (s .decls) (endTopic m) ∙ append-nil (known (s .decls)) in
       let a : attributesIn (declare s (endTopic m)) ≡ attributesIn s = rw (n, c) in
-      let h = held-ended t s x (st .count) y (st .total) m (k .held) c in
+      let h = held-ended t s x (st .listing .count) y (st .listing .total) m (k .held) c in
       record {
         used = g .used;
         within = g .within;
@@ -325,10 +326,10 @@ module _ (t : List ℕ) (s : State) (st : code.State) (o x z y ns ps : List ℕ)
       }
 
   -- the head of a class c over what it inherits: its row is the one behind the last, and is not counted
-  pub keeps-opened : (c : Def) (q : Bool) (o' x' ns' ps' : List ℕ) (n : ℕ) → s .open-class ≡ none → c .own ≡ [] → c .sort ≡ classSort q → Written (book s) (bytes (headRecords (c .sort) c)) o'
-      → Agree 10 x x' (st .count) → OpenRow t (book (opened s c)) (known (s .decls)) (attributesIn s) (st .count + 1) c (row 10 x' (st .count + 1))
-      → n ≤ 256 → Opened (attributesIn s) ns' ps' n c → FairState t (opened s c) → Keeps t (opened s c) (openedBy st n) o' x' z y ns' ps'
-  keeps-opened c q o' x' ns' ps' n e w eq wr ax row' hn op f =
+  pub keeps-opened : (c : Def) (q : Bool) (o' x' hs' : List ℕ) (n : ℕ) → s .open-class ≡ none → c .own ≡ [] → c .sort ≡ classSort q → Written (book s) (bytes (headRecords (c .sort) c)) o'
+      → Agree definitionWidth x x' (st .listing .count) → OpenRow t (book (opened s c)) (known (s .decls)) (attributesIn s) (st .listing .count + 1) c (row definitionWidth x' (st .listing .count + 1))
+      → n ≤ 256 → Opened (attributesIn s) hs' n c → FairState t (opened s c) → Keeps t (opened s c) (openedBy st n) o' x' z y hs'
+  keeps-opened c q o' x' hs' n e w eq wr ax row' hn op f =
       let (er, eb, ed) = class-head (c .sort) q c eq w in
       let g = grown s (opened s c) st o o' (headRecords (c .sort) c) 11 1 1 (booked k) (records-opened s c e) (head-solid (c .sort) c .solid) wr (sym eb) (sym er) (sym ed) in
       let (cl, hl, sz, hd) = no-class e in
@@ -342,7 +343,7 @@ module _ (t : List ℕ) (s : State) (st : code.State) (o x z y ns ps : List ℕ)
         defined = g .defined;
         model = k .model;
         topic = topic-kept (openedBy st n) refl refl (omega arith);
-        held = held-opened t s c x (st .count) y (st .total) (k .held) e w x' ax;
+        held = held-opened t s c x (st .listing .count) y (st .listing .total) (k .held) e w x' ax;
         chained = k .chained;
         fair = f;
         hand = hn;
@@ -355,12 +356,12 @@ module _ (t : List ℕ) (s : State) (st : code.State) (o x z y ns ps : List ℕ)
     open-fair = any-is (FairOpen t (length (records s))) (s .open-class) c (k .fair .open-class) e
 
     -- an attribute a of the open class, which no own one has the name of
-    pub keeps-member : (a : Attribute) (o' y' ns' ps' : List ℕ) (b r n : ℕ) → b ≡ length (bytes (attributeRecords a)) → r ≡ length (attributeRecords a) → Written (book s) (bytes (attributeRecords a)) o'
-        → Agree 6 y y' (st .total) → AttributeRow t (book (opened s (withAttribute c a))) (known (s .decls)) a (row 6 y' (st .total + 1))
+    pub keeps-member : (a : Attribute) (o' y' hs' : List ℕ) (b r n : ℕ) → b ≡ length (bytes (attributeRecords a)) → r ≡ length (attributeRecords a) → Written (book s) (bytes (attributeRecords a)) o'
+        → Agree attributeWidth y y' (st .listing .total) → AttributeRow t (book (opened s (withAttribute c a))) (known (s .decls)) a (row attributeWidth y' (st .listing .total + 1))
         → isFound (attributeAt (a .name .bytes) (c .own)) ≡ false → (not (isFound (attributeAt (a .name .bytes) (attributesOf c))) && leb 256 (nameCount (attributesOf c))) ≡ false
-        → n ≤ 256 → Opened (attributesIn s ++ (a ∷ [])) ns' ps' n (withAttribute c a) → FairState t (opened s (withAttribute c a)) → Keeps t (opened s (withAttribute c a)) (memberBy st b r n) o' x z y' ns' ps'
+        → n ≤ 256 → Opened (attributesIn s ++ (a ∷ [])) hs' n (withAttribute c a) → FairState t (opened s (withAttribute c a)) → Keeps t (opened s (withAttribute c a)) (memberBy st b r n) o' x z y' hs'
     unfolding withAttribute
-    keeps-member a o' y' ns' ps' b r n eb er wr ay row' u few hn op f =
+    keeps-member a o' y' hs' b r n eb er wr ay row' u few hn op f =
         let q = open-fair .structure in
         let eq = open-fair .sort in
         let g = grown s (opened s (withAttribute c a)) st o o' (attributeRecords a) b r 1 (booked k) (records-member s c q e eq a) (attribute-solid a) wr eb er (sym (attribute-defined a)) in
@@ -376,16 +377,16 @@ module _ (t : List ℕ) (s : State) (st : code.State) (o x z y ns ps : List ℕ)
           defined = g .defined;
           model = k .model;
           topic = topic-kept (memberBy st b r n) refl refl (omega arith);
-          held = held-member t s c q a x (st .count) y (st .total) (k .held) e eq y' ay row';
+          held = held-member t s c q a x (st .listing .count) y (st .listing .total) (k .held) e eq y' ay row';
           chained = k .chained;
           fair = f;
           hand = hn;
-          opened = (cl, omega arith, rw m op, rw (v, m) (open-row-more t (book s) (bytes (attributeRecords a)) (known (s .decls)) (attributesIn s) (st .count + 1) c (row 10 x (st .count + 1)) a old u few));
+          opened = (cl, omega arith, rw m op, rw (v, m) (open-row-more t (book s) (bytes (attributeRecords a)) (known (s .decls)) (attributesIn s) (st .listing .count + 1) c (row definitionWidth x (st .listing .count + 1)) a old u few));
         }
 
     -- the END of the class: its row is counted, and tells where its own attributes end
-    pub keeps-closed : (o' z' : List ℕ) → st .count * 10 + 20 ≤ length x → Written (book s) (16 ∷ []) o' → Chains (known (s .decls) ++ (c ∷ [])) z' → FairState t (declare s (def c))
-        → Keeps t (declare s (def c)) (closedBy st) o' (set x ((st .count + 1) * 10 + 9) (st .total)) z' y ns ps
+    pub keeps-closed : (o' z' : List ℕ) → st .listing .count * definitionWidth + 20 ≤ length x → Written (book s) (16 ∷ []) o' → Chains (known (s .decls) ++ (c ∷ [])) z' → FairState t (declare s (def c))
+        → Keeps t (declare s (def c)) (closedBy st) o' (set x ((st .listing .count + 1) * definitionWidth + 9) (st .listing .total)) z' y hs
     keeps-closed o' z' w wr ch f =
         let q = open-fair .structure in
         let eq = open-fair .sort in
@@ -403,11 +404,11 @@ module _ (t : List ℕ) (s : State) (st : code.State) (o x z y ns ps : List ℕ)
           defined = let h = g .defined in omega arith;
           model = k .model;
           topic = topic-kept (closedBy st) refl refl (omega arith);
-          held = held-closed t s c q x (st .count) y (st .total) (k .held) e eq w old;
+          held = held-closed t s c q x (st .listing .count) y (st .listing .total) (k .held) e eq w old;
           chained = rw n ch;
           fair = f;
           hand = k .hand;
-          opened = (refl, omega arith, omega arith, rw (a, n, entry-last (known (s .decls)) c (st .count + 1) (omega arith)) was);
+          opened = (refl, omega arith, omega arith, rw (a, n, entry-last (known (s .decls)) c (st .listing .count + 1) (omega arith)) was);
         }
 
 -- the model, where nothing is declared
@@ -417,10 +418,10 @@ blank n q = record { model = n; strings = q; decls = []; topic = none; open-clas
 is-blank : (s : State) → Undeclared s → s ≡ blank (s .model) (s .strings)
 is-blank s u = λ i. record { model = s .model; strings = s .strings; decls = u .decls i; topic = u .topic i; open-class = u .open-class i }
 
-pub keeps-begun : (t : List ℕ) (s : State) (st : code.State) (o x z y ns ps : List ℕ) → Keeps t s st o x z y ns ps → Undeclared s → (n : R.Name) (q : Strings) (m : Name) (o' : List ℕ) → Calls t m n
-    → Written [] (nameRecord 1 n) o' → FairState t (begun n q) → Keeps t (begun n q) (begunBy st m) o' x z y ns ps
-keeps-begun t s st o x z y ns ps k u n q m o' c wr f =
-    let b : Keeps t (blank (s .model) (s .strings)) st o x z y ns ps = subst (λ (r : State). Keeps t r st o x z y ns ps) (is-blank s u) k in
+pub keeps-begun : (t : List ℕ) (s : State) (st : code.State) (o x z y hs : List ℕ) → Keeps t s st o x z y hs → Undeclared s → (n : R.Name) (q : Strings) (m : Name) (o' : List ℕ) → Calls t m n
+    → Written [] (nameRecord 1 n) o' → FairState t (begun n q) → Keeps t (begun n q) (begunBy st m) o' x z y hs
+keeps-begun t s st o x z y hs k u n q m o' c wr f =
+    let b : Keeps t (blank (s .model) (s .strings)) st o x z y hs = subst (λ (r : State). Keeps t r st o x z y hs) (is-blank s u) k in
     let w : Written [] (bytes (nameRecord 1 n ∷ [])) o' = wr in
     let g = grown (blank (s .model) (s .strings)) (begun n q) st o o' (nameRecord 1 n ∷ []) 6 1 0 (booked b) refl (omega arith) w refl refl refl in
     let (op, hl, sz, hd) = b .opened in

@@ -1,3 +1,5 @@
+pub mod WholeLaws
+pub mod RoomLaws
 pub mod KeepLaws
 pub mod JudgeLaws
 pub mod SharedLaws

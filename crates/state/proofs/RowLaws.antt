@@ -16,8 +16,9 @@ use Rattle.names.specs.declared.NewDefinition.{NewDefinition}
 use Rattle.names.specs.Index.{entry, homeNumber, Named, Says, Based}
 use Rattle.names.specs.Rows.{definitionRow}
 use Rattle.members.specs.Members.{Unlike}
-use Rattle.members.specs.Held.{Stands, heading, DefRow, OpenRow}
+use Rattle.members.specs.Held.{heading, DefRow, OpenRow}
 use Rattle.readers.specs.Reads.{nameCut}
+use Rattle.book.specs.Places.{Stands}
 
 pub in-text-named : (t : List ℕ) (n : Name) → InText t n → Named t n
 in-text-named t n h = record { within = h .fits; same-bytes = h .there }

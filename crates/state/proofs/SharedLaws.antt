@@ -17,7 +17,7 @@ use Rattle.rules.specs.Judge.{hasTwice, isAbstract, isFinal, firstPlace, basesO
 use Rattle.ground.specs.declared.Reference.{Reference}
 use Rattle.ground.specs.declared.Reference.the-variants.{Bare, InModel, InTopic}
 use Rattle.enumerations.specs.Standing.{InText}
-use Rattle.names.specs.Index.{entry, row, Says, Known}
+use Rattle.names.specs.Index.{entry, row, Says, Known, definitionWidth}
 use Rattle.names.specs.References.{nameOf, AllInside}
 use Rattle.names.specs.References as N
 use Rattle.names.proofs.IndexLaws.{there}
@@ -28,7 +28,7 @@ use Rattle.parts.specs.declared.Extends.{Extends}
 use Rattle.parts.specs.declared.Extends.the-variants.{Nothing, Base}
 use Rattle.parts.specs.Forms.{flagsOf, referenceOf, extendsOf}
 use Rattle.rules.specs.All.{AnyIs}
-use Rattle.scope.specs.Scope.{FairReference}
+use Rattle.wellformed.specs.Fairness.{FairReference}
 use Rattle.types.specs.Rulings.{rulingOf}
 use Rattle.types.specs.declared.Ruling.{Ruling}
 use Rattle.state.proofs.JudgeLaws.{calls-cut}
@@ -81,11 +81,11 @@ module _ (t : List ℕ) (ks : List Def) (x : List ℕ) (count : ℕ) (k : Known 
   unfolding extendsRules
   ruling-none z = rw (z, q)
 
-  module _ (z : ¬ (p ≡ 0)) (f : ℕ) (ef : (d : Def) → Says t d (row 10 x p) → f ≡ sortNumber (d .sort)) (sort : ℕ) (es : sort ≡ sortNumber c) where
+  module _ (z : ¬ (p ≡ 0)) (f : ℕ) (ef : (d : Def) → Says t d (row definitionWidth x p) → f ≡ sortNumber (d .sort)) (sort : ℕ) (es : sort ≡ sortNumber c) where
     behind : (d : Def) × (entry ks p ≡ some d)
     behind = let a = k .all in entry-there ks p (omega arith) (omega arith)
 
-    at : (r : Ruling) → ((d : Def) → Says t d (row 10 x p) → f ≡ sortNumber (d .sort) → r ≡ rulingOf (extendsRules c (some b) (some d))) → r ≡ rulingOf (extendsRules c (some b) (entry ks p))
+    at : (r : Ruling) → ((d : Def) → Says t d (row definitionWidth x p) → f ≡ sortNumber (d .sort) → r ≡ rulingOf (extendsRules c (some b) (some d))) → r ≡ rulingOf (extendsRules c (some b) (entry ks p))
     at r h =
         let (d, e) = behind in
         let y = k .says p d e in
@@ -94,7 +94,7 @@ module _ (t : List ℕ) (ks : List Def) (x : List ℕ) (count : ℕ) (k : Known 
     pub ruling-sort : ¬ (f ≡ sort) → record { number = 11; place = place } ≡ rulingOf (extendsRules c (some b) (entry ks p))
     ruling-sort u = at (record { number = 11; place = place }) (λ d y g. of-sort c b d place q (λ v. u (g ∙ sym v ∙ sym es)))
 
-    module _ (u : f ≡ sort) (v : Bool) (ev : (d : Def) → Says t d (row 10 x p) → v ≡ d .final) where
+    module _ (u : f ≡ sort) (v : Bool) (ev : (d : Def) → Says t d (row definitionWidth x p) → v ≡ d .final) where
       pub ruling-final : v ≡ true → record { number = 12; place = place } ≡ rulingOf (extendsRules c (some b) (entry ks p))
       ruling-final h = at (record { number = 12; place = place }) (λ d y g. of-final c b d place q (sym es ∙ sym u ∙ g) (sym (ev d y) ∙ h))
 
@@ -134,7 +134,7 @@ module _ (t : List ℕ) (ks : List Def) (x : List ℕ) (count : ℕ) (k : Known 
   pub number-none : p ≡ 0 → noBase ≡ baseNumber (basesOf (entry ks p))
   number-none z = rw z
 
-  pub number-some : ¬ (p ≡ 0) → (m : ℕ) → ((d : Def) → Says t d (row 10 x p) → m ≡ d .number) → m ≡ baseNumber (basesOf (entry ks p))
+  pub number-some : ¬ (p ≡ 0) → (m : ℕ) → ((d : Def) → Says t d (row definitionWidth x p) → m ≡ d .number) → m ≡ baseNumber (basesOf (entry ks p))
   number-some z m em = let a = k .all in let (d, e) = entry-there ks p (omega arith) (omega arith) in rw e (em d (k .says p d e))
 
 -- ---- properties

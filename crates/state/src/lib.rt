@@ -1,4 +1,6 @@
 // What a text has declared so far, beside the book and the index; and what the rules of several units share.
+pub mod work;
+
 use ground::Name;
 use ground::Reference;
 use parts::Extends;
@@ -16,32 +18,58 @@ ghost use Rattle.rules.specs.Declarations.{Def, Sort, sortNumber, isFound, atHa
 ghost use Rattle.rules.specs.Book.{baseNumber};
 ghost use Rattle.rules.specs.Book.{bit as Book·bit, flags as Book·flags};
 ghost use Rattle.rules.specs.Judge.{firstPlace, hasTwice, isAbstract, isFinal, resolved, basesOf, extendsRules};
-ghost use Rattle.names.specs.Index.{entry, Known};
+ghost use Rattle.names.specs.Index.{entry, Known, Rows};
 ghost use Rattle.names.specs.References.{bytesOf, Inside, AllInside};
 ghost use Rattle.parts.specs.Forms.{flagsOf, referenceOf, extendsOf};
 ghost use Rattle.rules.specs.All.{AnyIs};
-ghost use Rattle.scope.specs.Scope.{FairReference};
+ghost use Rattle.wellformed.specs.Fairness.{FairReference};
 ghost use Rattle.types.specs.Rulings.{rulingOf};
 ghost use Rattle.rules.specs.Check.{nothing as Check·nothing};
 ghost use Rattle.state.specs.declared.Judged.the-variants.{Fine, Refused};
-ghost use Rattle.state.specs.Keeping.{Keeps};
+ghost use Rattle.state.specs.Keeping.{Keeps, Kept};
+ghost use Rattle.book.specs.Sizes.{modelSize, headSize, classEndSize};
+ghost use Rattle.state.specs.Parts.{Ample};
+ghost use Rattle.state.specs.Next.{longer as Next·longer, oneDefinition, oneAttribute, holding as Next·holding};
 ghost use Rattle.state.specs.Next.{grownBy, begunBy, declaredBy, inTopicBy, openedBy, memberBy, closedBy};
 
-// How much of the book is written, of how many records and definitions it is; how many definitions the index has, and attributes; the model's
-// name; the open topic's name, and 0 or one more than its record number; whether a class is open; how many attributes are in hand, and whose
-// they are while no class is open, 0 for none's.
-pub struct State {
+// How many bytes of the book are written, of how many records and definitions.
+pub struct Extent {
     pub used: usize,
     pub records: usize,
     pub definitions: usize,
+}
+
+// Where the parts of `work` begin, and where the last ends: the index of definitions, the rows of attributes, the
+// chains.
+pub struct Layout {
+    pub index: usize,
+    pub rows: usize,
+    pub chains: usize,
+    pub end: usize,
+}
+
+// How many definitions the index has, and attributes; where they stand.
+pub struct Listing {
     pub count: usize,
     pub total: usize,
+    pub layout: Layout,
+}
+
+// The model's name; the open topic's name, and 0 or one more than its record number; whether a class is open; how many
+// attributes are in hand, and whose they are while no class is open, 0 for none's.
+pub struct Context {
     pub model: Name,
     pub topic: Name,
     pub home: usize,
     pub open: bool,
     pub in_hand: usize,
     pub held: usize,
+}
+
+pub struct State {
+    pub extent: Extent,
+    pub listing: Listing,
+    pub context: Context,
 }
 
 // The state after a unit, or the number and the place of the rule that it breaks.
@@ -59,89 +87,156 @@ pub fn refused(number: u8, place: usize) -> Judged
     }
 }
 
-// Before the header.
-pub fn nothing() -> State
-    ensures { λ r. ⌜ ((t o x y ns ps : List ℕ) (n : ℕ) → Keeps t Check·nothing r o x (replicate n 0) y ns ps) ⌝ }
+// Before the header, with the parts of `work` laid out.
+pub fn nothing(layout: Layout) -> State
+    ensures { λ r. ⌜ (r .listing ≡ record { count = 0; total = 0; layout = layout })
+        × ((t o x y hs : List ℕ) (n : ℕ) → Keeps t Check·nothing r o x (replicate n 0) y hs) ⌝ }
 {
-    let no_name = Name { offset: 0, len: 0 };
-    State {
+    let extent = Extent {
         used: 0,
         records: 0,
         definitions: 0,
+    };
+    let listing = Listing {
         count: 0,
         total: 0,
+        layout,
+    };
+    let no_name = Name { offset: 0, len: 0 };
+    let context = Context {
         model: no_name,
         topic: no_name,
         home: 0,
         open: false,
         in_hand: 0,
         held: 0,
+    };
+    State {
+        extent,
+        listing,
+        context,
+    }
+}
+
+impl Extent {
+    // So many bytes, records and definitions more.
+    fn longer(self, bytes: usize, records: usize, definitions: usize) -> Extent
+        requires { ⌜ (self .used + bytes ≤ 65535) × (self .records + records ≤ 65535)
+            × (self .definitions + definitions ≤ 65535) ⌝ }
+        ensures { λ r. ⌜ r ≡ Next·longer self bytes records definitions ⌝ }
+    {
+        Extent {
+            used: self.used + bytes,
+            records: self.records + records,
+            definitions: self.definitions + definitions,
+        }
+    }
+}
+
+impl Listing {
+    // A definition more.
+    fn with_definition(self) -> Listing
+        requires { ⌜ self .count ≤ 65535 ⌝ }
+        ensures { λ r. ⌜ r ≡ oneDefinition self ⌝ }
+    {
+        let layout = self.layout;
+        Listing {
+            count: self.count + 1,
+            total: self.total,
+            layout,
+        }
+    }
+
+    // An attribute more.
+    fn with_attribute(self) -> Listing
+        requires { ⌜ self .total ≤ 65535 ⌝ }
+        ensures { λ r. ⌜ r ≡ oneAttribute self ⌝ }
+    {
+        let layout = self.layout;
+        Listing {
+            count: self.count,
+            total: self.total + 1,
+            layout,
+        }
+    }
+}
+
+impl Context {
+    fn holding(self, open: bool, in_hand: usize, held: usize) -> Context
+        ensures { λ r. ⌜ r ≡ Next·holding self «open» «in_hand» held ⌝ }
+    {
+        let model = self.model;
+        let topic = self.topic;
+        Context {
+            model,
+            topic,
+            home: self.home,
+            open,
+            in_hand,
+            held,
+        }
     }
 }
 
 impl State {
     // So many bytes, records and definitions of the book more.
     pub fn grown(self, bytes: usize, records: usize, definitions: usize) -> State
-        requires { ⌜ (self .used + bytes ≤ 65535) × (self .records + records ≤ 65535) × (self .definitions + definitions ≤ 65535) ⌝ }
+        requires { ⌜ (self .extent .used + bytes ≤ 65535) × (self .extent .records + records ≤ 65535)
+            × (self .extent .definitions + definitions ≤ 65535) ⌝ }
         ensures { λ r. ⌜ r ≡ grownBy self bytes records definitions ⌝ }
     {
-        let model = self.model;
-        let topic = self.topic;
+        let listing = self.listing;
+        let context = self.context;
+        let before = self.extent;
+        let extent = before.longer(bytes, records, definitions);
         State {
-            used: self.used + bytes,
-            records: self.records + records,
-            definitions: self.definitions + definitions,
-            count: self.count,
-            total: self.total,
-            model: model,
-            topic: topic,
-            home: self.home,
-            open: self.open,
-            in_hand: self.in_hand,
-            held: self.held,
+            extent,
+            listing,
+            context,
         }
     }
 
     // With the model.
     pub fn begun(self, name: Name) -> State
-        requires { ⌜ (self .used + 6 ≤ 65535) × (self .records + 1 ≤ 65535) ⌝ }
+        requires { ⌜ (self .extent .used + modelSize ≤ 65535) × (self .extent .records + 1 ≤ 65535)
+            × (self .extent .definitions ≤ 65535) ⌝ }
         ensures { λ r. ⌜ r ≡ begunBy self name ⌝ }
     {
-        let topic = self.topic;
-        State {
-            used: self.used + 6,
-            records: self.records + 1,
-            definitions: self.definitions,
-            count: self.count,
-            total: self.total,
+        let before = self.extent;
+        let extent = before.longer(book::MODEL_SIZE, 1, 0);
+        let listing = self.listing;
+        let topic = self.context.topic;
+        let context = Context {
             model: name,
-            topic: topic,
-            home: self.home,
-            open: self.open,
-            in_hand: self.in_hand,
-            held: self.held,
+            topic,
+            home: self.context.home,
+            open: self.context.open,
+            in_hand: self.context.in_hand,
+            held: self.context.held,
+        };
+        State {
+            extent,
+            listing,
+            context,
         }
     }
 
     // With a topic or a domain.
     pub fn declared(self, bytes: usize, records: usize, definitions: usize) -> State
-        requires { ⌜ (self .used + bytes ≤ 65535) × (self .records + records ≤ 65535) × (self .definitions + definitions ≤ 65535) × (self .count ≤ 65535) ⌝ }
+        requires { ⌜ (self .extent .used + bytes ≤ 65535) × (self .extent .records + records ≤ 65535)
+            × (self .extent .definitions + definitions ≤ 65535) ⌝ }
+        requires { ⌜ self .listing .count ≤ 65535 ⌝ }
         ensures { λ r. ⌜ r ≡ declaredBy self bytes records definitions ⌝ }
     {
-        let model = self.model;
-        let topic = self.topic;
+        let before = self.extent;
+        let extent = before.longer(bytes, records, definitions);
+        let rows = self.listing;
+        let listing = rows.with_definition();
+        let context = self.context;
         State {
-            used: self.used + bytes,
-            records: self.records + records,
-            definitions: self.definitions + definitions,
-            count: self.count + 1,
-            total: self.total,
-            model: model,
-            topic: topic,
-            home: self.home,
-            open: self.open,
-            in_hand: self.in_hand,
-            held: self.held,
+            extent,
+            listing,
+            context,
         }
     }
 
@@ -149,106 +244,118 @@ impl State {
     pub fn in_topic(self, name: Name, home: usize) -> State
         ensures { λ r. ⌜ r ≡ inTopicBy self name home ⌝ }
     {
-        let model = self.model;
-        State {
-            used: self.used,
-            records: self.records,
-            definitions: self.definitions,
-            count: self.count,
-            total: self.total,
-            model: model,
+        let extent = self.extent;
+        let listing = self.listing;
+        let model = self.context.model;
+        let context = Context {
+            model,
             topic: name,
-            home: home,
-            open: self.open,
-            in_hand: self.in_hand,
-            held: self.held,
+            home,
+            open: self.context.open,
+            in_hand: self.context.in_hand,
+            held: self.context.held,
+        };
+        State {
+            extent,
+            listing,
+            context,
         }
     }
 
     // In a class that has so many attributes.
     pub fn opened(self, in_hand: usize) -> State
-        requires { ⌜ (self .used + 11 ≤ 65535) × (self .records + 1 ≤ 65535) × (self .definitions + 1 ≤ 65535) ⌝ }
+        requires { ⌜ (self .extent .used + headSize ≤ 65535) × (self .extent .records + 1 ≤ 65535)
+            × (self .extent .definitions + 1 ≤ 65535) ⌝ }
         ensures { λ r. ⌜ r ≡ openedBy self «in_hand» ⌝ }
     {
-        let model = self.model;
-        let topic = self.topic;
+        let before = self.extent;
+        let extent = before.longer(book::HEAD_SIZE, 1, 1);
+        let listing = self.listing;
+        let around = self.context;
+        let context = around.holding(true, in_hand, around.held);
         State {
-            used: self.used + 11,
-            records: self.records + 1,
-            definitions: self.definitions + 1,
-            count: self.count,
-            total: self.total,
-            model: model,
-            topic: topic,
-            home: self.home,
-            open: true,
-            in_hand: in_hand,
-            held: self.held,
+            extent,
+            listing,
+            context,
         }
     }
 
     // With an attribute of the open class, which then has so many.
     pub fn with_member(self, bytes: usize, records: usize, in_hand: usize) -> State
-        requires { ⌜ (self .used + bytes ≤ 65535) × (self .records + records ≤ 65535) × (self .definitions + 1 ≤ 65535) × (self .total ≤ 65535) ⌝ }
+        requires { ⌜ (self .extent .used + bytes ≤ 65535) × (self .extent .records + records ≤ 65535)
+            × (self .extent .definitions + 1 ≤ 65535) ⌝ }
+        requires { ⌜ self .listing .total ≤ 65535 ⌝ }
         ensures { λ r. ⌜ r ≡ memberBy self bytes records «in_hand» ⌝ }
     {
-        let model = self.model;
-        let topic = self.topic;
+        let before = self.extent;
+        let extent = before.longer(bytes, records, 1);
+        let rows = self.listing;
+        let listing = rows.with_attribute();
+        let around = self.context;
+        let context = around.holding(around.open, in_hand, around.held);
         State {
-            used: self.used + bytes,
-            records: self.records + records,
-            definitions: self.definitions + 1,
-            count: self.count,
-            total: self.total + 1,
-            model: model,
-            topic: topic,
-            home: self.home,
-            open: self.open,
-            in_hand: in_hand,
-            held: self.held,
+            extent,
+            listing,
+            context,
         }
     }
 
     // After the END of the open class.
     pub fn closed(self) -> State
-        requires { ⌜ (self .used + 1 ≤ 65535) × (self .records + 1 ≤ 65535) × (self .count ≤ 65535) ⌝ }
+        requires { ⌜ (self .extent .used + classEndSize ≤ 65535) × (self .extent .records + 1 ≤ 65535)
+            × (self .extent .definitions ≤ 65535) ⌝ }
+        requires { ⌜ self .listing .count ≤ 65535 ⌝ }
         ensures { λ r. ⌜ r ≡ closedBy self ⌝ }
     {
-        let model = self.model;
-        let topic = self.topic;
-        let count = self.count + 1;
+        let before = self.extent;
+        let extent = before.longer(book::CLASS_END_SIZE, 1, 0);
+        let rows = self.listing;
+        let listing = rows.with_definition();
+        let around = self.context;
+        let context = around.holding(false, around.in_hand, listing.count);
         State {
-            used: self.used + 1,
-            records: self.records + 1,
-            definitions: self.definitions,
-            count: count,
-            total: self.total,
-            model: model,
-            topic: topic,
-            home: self.home,
-            open: false,
-            in_hand: self.in_hand,
-            held: count,
+            extent,
+            listing,
+            context,
         }
     }
 }
 
 // Whether a new name is taken.
-pub fn is_taken(text: &[u8], index: &[u16], chains: &[u16], st: State, name: Name) -> bool
-    requires { ⌜ Inside (now text) name × (st .count * 10 + 10 ≤ length (now index)) × (2048 + st .count < length (now chains)) ⌝ }
-    ensures { λ r. ⌜ ((s : D.State) (o y ns ps : List ℕ) → Keeps (now (text .entry)) s st o (now (index .entry)) (now (chains .entry)) y ns ps → r ≡ isFound (atHand s (bytesOf (now (text .entry)) name))) ⌝ }
+pub fn is_taken(text: &[u8], work: &[u16], st: State, name: Name) -> bool
+    requires { ⌜ Inside (now text) name × Ample st (length (now work)) ⌝ }
+    ensures { λ r. ⌜ ((s : D.State) (o hs : List ℕ) → Kept (now (text .entry)) s st o (now (work .entry)) hs
+        → r ≡ isFound (atHand s (bytesOf (now (text .entry)) name))) ⌝ }
 {
-    0 < names::find_bare(text, index, chains, st.count, st.home, name)
+    let i = st.listing.layout.index;
+    let r = st.listing.layout.rows;
+    let c = st.listing.layout.chains;
+    let e = st.listing.layout.end;
+    let home = st.context.home;
+    0 < names::find_bare(text, &work[i..r], &work[c..e], st.listing.count, home, name)
 }
 
 // What a reference names: its position, 0 for nothing.
-pub fn named(text: &[u8], index: &[u16], chains: &[u16], st: State, r: Reference) -> usize
-    requires { ⌜ Inside (now text) (st .model) × AllInside (now text) r × (st .count * 10 + 10 ≤ length (now index)) × (2048 + st .count < length (now chains)) ⌝ }
-    ensures { λ p. ⌜ (p ≤ st .count) × ((s : D.State) (b : G.Reference) (o y ns ps : List ℕ) → Keeps (now (text .entry)) s st o (now (index .entry)) (now (chains .entry)) y ns ps → r ≡ referenceOf b
-        → FairReference (now (text .entry)) b → entry (known (s .decls)) p ≡ resolve s b) ⌝ }
+pub fn named(text: &[u8], work: &[u16], st: State, r: Reference) -> usize
+    requires { ⌜ Inside (now text) (st .context .model) × AllInside (now text) r × Ample st (length (now work)) ⌝ }
+    ensures { λ p. ⌜ (p ≤ st .listing .count)
+        × ((s : D.State) (b : G.Reference) (o hs : List ℕ) → Kept (now (text .entry)) s st o (now (work .entry)) hs
+        → r ≡ referenceOf b → FairReference (now (text .entry)) b → entry (known (s .decls)) p ≡ resolve s b) ⌝ }
 {
-    let model = st.model;
-    names::resolve(text, index, chains, st.count, model, st.home, r)
+    let model = st.context.model;
+    let i = st.listing.layout.index;
+    let m = st.listing.layout.rows;
+    let c = st.listing.layout.chains;
+    let e = st.listing.layout.end;
+    names::resolve(
+        text,
+        &work[i..m],
+        &work[c..e],
+        st.listing.count,
+        model,
+        st.context.home,
+        r,
+    )
 }
 
 // Where a reference begins.
@@ -270,8 +377,9 @@ pub struct Extension {
 
 // 10 to 12 of what extends, by the number of its sort, and of what its reference at a place names.
 fn extends_ruling(index: &[u16], sort: usize, base: usize, place: usize) -> Ruling
-    requires { ⌜ base * 10 + 10 ≤ length (now index) ⌝ }
-    ensures { λ r. ⌜ ((t : List ℕ) (ks : List Def) (count : ℕ) (c : Sort) (b : G.Reference) → base ≤ count → Known t ks (now (index .entry)) count → sort ≡ sortNumber c → place ≡ firstPlace b
+    requires { ⌜ Rows (now index) base ⌝ }
+    ensures { λ r. ⌜ ((t : List ℕ) (ks : List Def) (count : ℕ) (c : Sort) (b : G.Reference) → base ≤ count
+        → Known t ks (now (index .entry)) count → sort ≡ sortNumber c → place ≡ firstPlace b
         → r ≡ rulingOf (extendsRules c (some b) (entry ks base))) ⌝ }
 {
     if base == 0 {
@@ -290,19 +398,15 @@ fn extends_ruling(index: &[u16], sort: usize, base: usize, place: usize) -> Ruli
 }
 
 // Of what extends, by the number of its sort.
-pub fn extends(
-    text: &[u8],
-    index: &[u16],
-    chains: &[u16],
-    st: State,
-    sort: usize,
-    base: Extends,
-) -> Extension
-    requires { ⌜ Inside (now text) (st .model) × (st .count * 10 + 10 ≤ length (now index)) × (2048 + st .count < length (now chains)) ⌝ }
+pub fn extends(text: &[u8], work: &[u16], st: State, sort: usize, base: Extends) -> Extension
+    requires { ⌜ Inside (now text) (st .context .model) × Ample st (length (now work)) ⌝ }
     requires { ⌜ ((b : Option G.Reference) × (base ≡ extendsOf b) × AnyIs (FairReference (now text)) b) ⌝ }
-    ensures { λ r. ⌜ (r .base ≤ st .count) × ((s : D.State) (c : Sort) (b : Option G.Reference) (o y ns ps : List ℕ) → Keeps (now (text .entry)) s st o (now (index .entry)) (now (chains .entry)) y ns ps
+    ensures { λ r. ⌜ (r .base ≤ st .listing .count)
+        × ((s : D.State) (c : Sort) (b : Option G.Reference) (o hs : List ℕ)
+        → Kept (now (text .entry)) s st o (now (work .entry)) hs
         → sort ≡ sortNumber c → base ≡ extendsOf b → AnyIs (FairReference (now (text .entry))) b
-        → (r .ruling ≡ rulingOf (extendsRules c b (resolved s b))) × (entry (known (s .decls)) (r .base) ≡ resolved s b)) ⌝ }
+        → (r .ruling ≡ rulingOf (extendsRules c b (resolved s b)))
+        × (entry (known (s .decls)) (r .base) ≡ resolved s b)) ⌝ }
 {
     match base {
         Extends::Nothing => {
@@ -313,8 +417,10 @@ pub fn extends(
             Extension { ruling, base: 0 }
         }
         Extends::Base(r) => {
-            let p = named(text, index, chains, st, r);
-            let ruling = extends_ruling(index, sort, p, first_place(r));
+            let p = named(text, work, st, r);
+            let i = st.listing.layout.index;
+            let m = st.listing.layout.rows;
+            let ruling = extends_ruling(&work[i..m], sort, p, first_place(r));
             Extension { ruling, base: p }
         }
     }
@@ -347,12 +453,13 @@ pub fn flags(is_abstract: bool, is_final: bool, extended: bool, mandatory: bool)
 }
 
 // What stands in the book for no base.
-const NO_BASE: usize = 4294967295;
+pub const NO_BASE: usize = 4294967295;
 
 // The record number of the base at a position, as the book writes it.
 pub fn base_number(index: &[u16], base: usize) -> usize
-    requires { ⌜ base * 10 + 10 ≤ length (now index) ⌝ }
-    ensures { λ r. ⌜ ((t : List ℕ) (ks : List Def) (count : ℕ) → base ≤ count → Known t ks (now (index .entry)) count → r ≡ baseNumber (basesOf (entry ks base))) ⌝ }
+    requires { ⌜ Rows (now index) base ⌝ }
+    ensures { λ r. ⌜ ((t : List ℕ) (ks : List Def) (count : ℕ) → base ≤ count → Known t ks (now (index .entry)) count
+        → r ≡ baseNumber (basesOf (entry ks base))) ⌝ }
 {
     if base == 0 {
         return NO_BASE;

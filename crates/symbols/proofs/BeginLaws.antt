@@ -9,23 +9,26 @@ use native.Mathlib.Omega.{arith}
 use lib.ListN.{length, take, drop, getD, drop-of-length-le}
 use lib.Seq.{drop-cons}
 use borrow.Author.Tests.{eqb-true}
-use Rattle.rules.specs.Bytes.{part, is, isLetter, isDigit, isWordByte, span}
-use Rattle.rules.specs.Symbols.{Symbol, no-symbol, fault, mark, dots, symbol, isMarkByte, unsignedLength, quote, aWord, aNumber, aString, symbolOf, upTo, open-at, beyond}
-use Rattle.rules.specs.Symbols as rules
+use Rattle.rules.specs.Bytes.{part, is, isLetter, isDigit, isWordByte, isSeparator, span}
+use Rattle.rules.specs.Symbols.{Symbol, no-symbol, fault, mark, dots, symbol, isMarkByte, unsignedLength, quote, aWord, aNumber, aString, symbolOf, beyond, symbolAt}
 use Rattle.rules.proofs.Tests.{split, or-split, or-fails, not-is, is-false, not-both}
 use Rattle.symbols.specs.Cut.{made, cut}
-use Rattle.symbols.specs.declared.Class.the-variants.{Letter, Digit, Sign, Quote, Punctuation, Other}
-use Rattle.symbols.specs.declared.Gap.the-variants.{UpTo, OpenAt}
-use Rattle.symbols.specs.Scans.{classOf, runEnd, signedCut, markCut, gapOf}
-use Rattle.symbols.proofs.RangeLaws.{test}
-use Rattle.symbols.proofs.ClassLaws.{begins, class-first}
+use Rattle.symbols.specs.declared.Class.the-variants.{Letter, Digit, Sign, Quote, Comment, Punctuation, Separator, Other}
+use Rattle.symbols.specs.declared.Class.{Class}
+use Rattle.symbols.specs.declared.Pass.{Pass}
+use Rattle.symbols.specs.declared.Pass.the-variants.{To, Open, None}
+use Rattle.ground.specs.Parts.{runEnd}
+use Rattle.symbols.specs.Scans.{classOf, signedCut, markCut, commentAt}
+use Rattle.ground.proofs.TableLaws.{test}
+use Rattle.symbols.proofs.ClassLaws.{begins, beginsNone, class-first, isBetween, class-between}
 use Rattle.rules.proofs.PartLaws.{length-part}
-use Rattle.symbols.proofs.ScanLaws.{next-byte}
+use Rattle.ground.proofs.ScanLaws.{next-byte}
+use Rattle.symbols.proofs.GapLaws.{onward, gap-separator, gap-comment, gap-none}
 use Rattle.symbols.proofs.NumberLaws.{stands}
 
-pub symbol-end : (t : List ℕ) (i : ℕ) → length t ≤ i → cut (symbolOf i (drop i t)) ≡ made 0 5 i 0
-unfolding symbolOf
-symbol-end t i h = rw (drop-of-length-le t h)
+pub symbol-end : (t : List ℕ) (i : ℕ) → length t ≤ i → cut (symbolAt t i) ≡ made 0 5 i 0
+unfolding symbolAt symbolOf
+symbol-end t i h = let e = drop-of-length-le t h in rw (e, e)
 
 cut-cond : (x : Bool) (y z : Symbol) → cut (cond x y z) ≡ cond x (cut y) (cut z)
 cut-cond true y z = refl
@@ -67,40 +70,47 @@ module _ (k : ℕ) (s : List ℕ) where
   unfolding symbolOf
   of-rest b e = let (l, d, g, q) = fails b e in rw (l, d, g, q)
 
--- ---- the symbol at a place, by the class of its first byte
+-- ---- the symbol behind a place, by the class of the byte that stands there
 module _ (t : List ℕ) (i : ℕ) (h : i < length t) (l : getD t i 0 < 256) where
   abbrev b : ℕ
   b = getD t i 0
 
-  pub symbol-letter : classOf b ≡ Letter → symbolOf i (drop i t) ≡ aWord i (part t i (runEnd isWordByte t (i + 1) - i))
+  -- a symbol that begins there
+  here : (k : Class) → classOf b ≡ k → isBetween k ≡ false → symbolAt t i ≡ symbolOf i (drop i t)
+  unfolding symbolAt
+  here k c f = let (s, x, y) = class-between b k l c f in rw (gap-none t i h s x y)
+
+  pub symbol-letter : classOf b ≡ Letter → symbolAt t i ≡ aWord i (part t i (runEnd isWordByte t (i + 1) - i))
   unfolding symbolOf
   symbol-letter c =
       let n : suc i + span isWordByte (drop (suc i) t) - i ≡ suc (span isWordByte (drop (suc i) t)) = omega arith in
-      rw (add-one i, n, drop-cons t i 0 h, class-first b Letter l c)
+      here Letter c refl ∙ rw (add-one i, n, drop-cons t i 0 h, class-first b Letter l c)
 
-  pub symbol-digit : classOf b ≡ Digit → symbolOf i (drop i t) ≡ aNumber i (part t i (unsignedLength (drop i t)))
+  pub symbol-digit : classOf b ≡ Digit → symbolAt t i ≡ aNumber i (part t i (unsignedLength (drop i t)))
   unfolding symbolOf
   symbol-digit c =
       let (n, f) = split {x = not (isLetter b)} (class-first b Digit l c) in
       let e : isLetter b ≡ false = not-is n in
-      rw (drop-cons t i 0 h, e, f)
+      here Digit c refl ∙ rw (drop-cons t i 0 h, e, f)
 
   pub sign-no-digit : classOf b ≡ Sign → isDigit b ≡ false
   sign-no-digit c = not-is (split {x = not (isDigit b)} (class-first b Sign l c) .0)
 
-  pub symbol-sign : classOf b ≡ Sign → cut (symbolOf i (drop i t)) ≡ signedCut t i
+  pub symbol-sign : classOf b ≡ Sign → cut (symbolAt t i) ≡ signedCut t i
   symbol-sign c =
       let n : 1 + unsignedLength (drop (suc i) t) ≡ suc (unsignedLength (drop (suc i) t)) = omega arith in
       let e : (is "+" b || is "-" b) ≡ true = split {x = not (isDigit b)} (class-first b Sign l c) .1 in
-      rw (← next-byte t i, add-one i, n, drop-cons t i 0 h)
+      ap cut (here Sign c refl)
+      ∙ rw (← next-byte t i, add-one i, n, drop-cons t i 0 h)
       (ap cut (of-sign i (drop (suc i) t) b (at (or-split {x = is "+" b} e))) ∙ cut-cond (isDigit (getD (drop (suc i) t) 0 0)) _ _)
     where
       at : (is "+" b ≡ true) ⊎ (is "-" b ≡ true) → (b ≡ 43) ⊎ (b ≡ 45)
       at (inl p) = inl (eqb-true _ _ p)
       at (inr p) = inr (eqb-true _ _ p)
 
-  pub symbol-quote : classOf b ≡ Quote → symbolOf i (drop i t) ≡ aString i (drop i t) (quote (drop (i + 1) t) 0 0)
-  symbol-quote c = rw (add-one i, drop-cons t i 0 h) (of-quote i (drop (suc i) t) b (eqb-true b 34 (class-first b Quote l c)))
+  pub symbol-quote : classOf b ≡ Quote → symbolAt t i ≡ aString i (drop i t) (quote (drop (i + 1) t) 0 0)
+  symbol-quote c =
+      here Quote c refl ∙ rw (add-one i, drop-cons t i 0 h) (of-quote i (drop (suc i) t) b (eqb-true b 34 (class-first b Quote l c)))
 
   dot-cut : cut (dotted i (drop (suc i) t) b) ≡ cond (is "." (getD t (i + 1) 0)) (made 4 5 i 2) (made b 5 i 1)
   dot-cut =
@@ -112,26 +122,42 @@ module _ (t : List ℕ) (i : ℕ) (h : i < length t) (l : getD t i 0 < 256) wher
       rw (k, n))
       (λ k. rw k))
 
-  pub symbol-mark : classOf b ≡ Punctuation → cut (symbolOf i (drop i t)) ≡ markCut t i
+  pub symbol-mark : classOf b ≡ Punctuation → cut (symbolAt t i) ≡ markCut t i
   symbol-mark c =
       let (e, f) = split {x = not (begins b)} (class-first b Punctuation l c) in
-      rw (drop-cons t i 0 h, of-rest i (drop (suc i) t) b (not-is e))
+      ap cut (here Punctuation c refl)
+      ∙ rw (drop-cons t i 0 h, of-rest i (drop (suc i) t) b (not-is e))
       (test (isMarkByte b) (λ m. rw (m, mark-no-dot b m))
       (λ m.
       let o : is "." b ≡ true = rw m at f in
       rw (m, o) dot-cut))
 
-  pub symbol-none : classOf b ≡ Other → cut (symbolOf i (drop i t)) ≡ made 5 2 i 0
-  symbol-none c =
-      let (e, f) = or-fails {x = begins b} (not-is (class-first b Other l c)) in
+  none-cut : beginsNone b ≡ true → cut (symbolOf i (drop i t)) ≡ made 5 2 i 0
+  none-cut n =
+      let (e, f) = or-fails {x = begins b} (not-is n) in
       let (m, o) = or-fails {x = isMarkByte b} f in
       rw (drop-cons t i 0 h, of-rest i (drop (suc i) t) b e, m, o)
 
--- ---- behind separators and comments
-pub next-up-to : (t : List ℕ) (g : rules.Gap) (k : ℕ) → gapOf g ≡ UpTo k → beyond t g ≡ symbolOf k (drop k t)
-next-up-to t (upTo j) k e = let q : j ≡ k = cc in rw q
-next-up-to t (open-at j) k e = let z : _≡_ {A = ℕ} 0 1 = cc in absurd (omega arith)
+  pub symbol-none : classOf b ≡ Other → cut (symbolAt t i) ≡ made 5 2 i 0
+  symbol-none c = ap cut (here Other c refl) ∙ none-cut (class-first b Other l c)
 
-pub next-open : (t : List ℕ) (g : rules.Gap) (k : ℕ) → gapOf g ≡ OpenAt k → cut (beyond t g) ≡ made 5 3 k 0
-next-open t (upTo j) k e = let z : _≡_ {A = ℕ} 0 1 = cc in absurd (omega arith)
-next-open t (open-at j) k e = let q : j ≡ k = cc in rw q
+  -- a separator or a comment
+  pub symbol-apart : classOf b ≡ Separator → symbolAt t i ≡ symbolAt t (i + 1)
+  unfolding symbolAt
+  symbol-apart c = ap (beyond t) (gap-separator t i h (class-first b Separator l c))
+
+  pub symbol-behind : (p : Pass) → classOf b ≡ Comment → commentAt t i ≡ p → symbolAt t i ≡ beyond t (onward t i p)
+  unfolding symbolAt
+  symbol-behind p c e =
+      let s = not-is (split {x = not (isSeparator b)} (class-first b Comment l c) .0) in
+      ap (beyond t) (gap-comment t i h s ∙ ap (onward t i) e)
+
+  pub symbol-passed : (j : ℕ) → classOf b ≡ Comment → commentAt t i ≡ To j → symbolAt t i ≡ symbolAt t j
+  unfolding symbolAt
+  symbol-passed j c e = symbol-behind (To j) c e
+
+  pub symbol-open : classOf b ≡ Comment → commentAt t i ≡ Open → cut (symbolAt t i) ≡ made 5 3 i 0
+  symbol-open c e = ap cut (symbol-behind Open c e)
+
+  pub symbol-slash : classOf b ≡ Comment → commentAt t i ≡ None → cut (symbolAt t i) ≡ made 5 2 i 0
+  symbol-slash c e = ap cut (symbol-behind None c e) ∙ none-cut (split {x = not (isSeparator b)} (class-first b Comment l c) .1)

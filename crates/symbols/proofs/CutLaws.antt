@@ -15,8 +15,9 @@ use Rattle.rules.specs.Symbols.{Fault, Kind, word, name, number, quoted, dots, 
 use Rattle.rules.proofs.Tests.{never, alike, or-split, split}
 use Rattle.rules.proofs.ByteLaws.{same-eq, same-refl}
 use Rattle.rules.proofs.SymbolLaws.{either}
-use Rattle.symbols.specs.Cut.{position, codeOf, Sound}
-use Rattle.symbols.proofs.RangeLaws.{test}
+use Rattle.words.specs.Words.{position}
+use Rattle.symbols.specs.Cut.{codeOf, Sound}
+use Rattle.ground.proofs.TableLaws.{test}
 
 -- ---- what holds of a symbol's kind and bytes
 pub record Cut (t : List ℕ) (y : Symbol) : Type 0 where

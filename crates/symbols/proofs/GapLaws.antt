@@ -8,19 +8,17 @@ use native.Mathlib.Numerals.{add-one}
 use native.Mathlib.Omega.{arith}
 use lib.ListN.{length, drop, getD, drop-of-length-le}
 use lib.Seq.{drop-cons}
-use lib.Dec.{eqb}
-use borrow.Author.Tests.{ne-eqb}
 use Rattle.rules.specs.Bytes.{is, isLineEnd, isSeparator, span}
 use Rattle.rules.specs.Symbols.{apart, line, closing, opening, inside, Gap, upTo, open-at, gap}
 use Rattle.rules.proofs.Tests.{never, or-r}
 use Rattle.rules.proofs.SymbolLaws.{either}
 use Rattle.symbols.specs.declared.Pass.{Pass}
 use Rattle.symbols.specs.declared.Pass.the-variants.{To, Open, None}
-use Rattle.symbols.specs.Scans.{notLineEnd, twoAt, closeOf, passAt}
-use Rattle.symbols.proofs.RangeLaws.{test, second}
-use Rattle.symbols.proofs.ScanLaws.{drop-tail, next-byte}
+use Rattle.symbols.specs.Scans.{notLineEnd, twoAt, closeOf, commentAt}
+use Rattle.ground.proofs.TableLaws.{test, second}
+use Rattle.ground.proofs.ScanLaws.{drop-tail, next-byte}
 
--- what is left to pass behind a separator or a comment that began at o
+-- what is left to pass behind a comment that began at o
 abbrev pub onward : List ℕ → ℕ → Pass → Gap
 onward t o (To j) = gap (drop j t) apart j
 onward t o Open = open-at o
@@ -49,25 +47,28 @@ gap-opening : (t s : List ℕ) (o k : ℕ) → drop k t ≡ s → is "*" (getD s
 gap-opening t [] o k e p = never p
 gap-opening t (b ∷ s) o k e p = rw (drop-tail t k e) (gap-inside t s o (suc k) (drop-tail t k e))
 
-abbrev Passes : List ℕ → ℕ → Type 0
-Passes t i = gap (drop i t) apart i ≡ onward t i (passAt t i)
+module _ (t : List ℕ) (i : ℕ) (h : i < length t) where
+  abbrev b : ℕ
+  b = getD t i 0
 
-pub gap-pass : (t : List ℕ) (i : ℕ) → i < length t → Passes t i
-unfolding passAt
-gap-pass t i h =
-    let two : i + 2 ≡ suc (suc i) = omega arith in
-    let e = drop-cons t i 0 h in
-    test {A = Passes t i} (isSeparator (getD t i 0)) (λ f. rw (e, f, add-one i))
-    (λ f. test {A = Passes t i} (twoAt t i 33 33) (λ g. rw (e, next-byte t i, f, g, add-one i) (gap-line t (drop (suc i) t) (suc i) refl))
-    (λ g. test {A = Passes t i} (twoAt t i 47 42)
-    (λ k. rw (e, next-byte t i, f, g, k, two) (gap-opening t (drop (suc i) t) i (suc i) refl (rw (next-byte t i) (second (is "/" (getD t i 0)) k))))
-    (λ k. rw (e, next-byte t i, f, g, k))))
+  pub gap-separator : isSeparator b ≡ true → gap (drop i t) apart i ≡ gap (drop (i + 1) t) apart (i + 1)
+  gap-separator f = rw (drop-cons t i 0 h, f, add-one i)
 
-pub pass-none : (t : List ℕ) (i : ℕ) → 47 < getD t i 0 → None ≡ passAt t i
-unfolding passAt
-pass-none t i h =
-    let other : (x : ℕ) → x ≤ 47 → eqb (getD t i 0) x ≡ false = λ x k. ne-eqb (getD t i 0) x (λ e. omega arith) in
-    rw (other 32 (omega arith), other 9 (omega arith), other 13 (omega arith), other 10 (omega arith), other 33 (omega arith), other 47 (omega arith))
+  abbrev Passes : Type 0
+  Passes = gap (drop i t) apart i ≡ onward t i (commentAt t i)
+
+  pub gap-comment : isSeparator b ≡ false → Passes
+  unfolding commentAt
+  gap-comment f =
+      let two : i + 2 ≡ suc (suc i) = omega arith in
+      let e = drop-cons t i 0 h in
+      test {A = Passes} (twoAt t i 33 33) (λ g. rw (e, next-byte t i, f, g, add-one i) (gap-line t (drop (suc i) t) (suc i) refl))
+      (λ g. test {A = Passes} (twoAt t i 47 42)
+      (λ k. rw (e, next-byte t i, f, g, k, two) (gap-opening t (drop (suc i) t) i (suc i) refl (rw (next-byte t i) (second (is "/" b) k))))
+      (λ k. rw (e, next-byte t i, f, g, k)))
+
+  pub gap-none : isSeparator b ≡ false → is "!" b ≡ false → is "/" b ≡ false → gap (drop i t) apart i ≡ upTo i
+  gap-none f g k = rw (drop-cons t i 0 h, f, g, k)
 
 pub gap-done : (t : List ℕ) (i : ℕ) → length t ≤ i → gap (drop i t) apart i ≡ upTo i
 gap-done t i h = rw (drop-of-length-le t h)
@@ -85,7 +86,7 @@ module _ (t : List ℕ) (i : ℕ) where
   pub close-done : length t ≤ i → closeOf (drop i t) i ≡ Open
   close-done h = rw (drop-of-length-le t h)
 
--- ---- a pass runs forward
+-- ---- a comment runs forward
 abbrev Ahead : ℕ → Pass → Type 0
 Ahead i (To j) = i < j
 Ahead i Open = Unit {0}
@@ -95,12 +96,11 @@ close-ahead : (o : ℕ) (s : List ℕ) (k : ℕ) → o ≤ k → Ahead o (closeO
 close-ahead o [] k h = tt
 close-ahead o (b ∷ s) k h = either (Ahead o) (is "*" b && is "/" (getD s 0 0)) (λ _. omega arith) (λ _. close-ahead o s (suc k) (omega arith))
 
-ahead : (t : List ℕ) (i : ℕ) → Ahead i (passAt t i)
-unfolding passAt
+ahead : (t : List ℕ) (i : ℕ) → Ahead i (commentAt t i)
+unfolding commentAt
 ahead t i =
-    either (Ahead i) (isSeparator (getD t i 0)) (λ _. omega arith)
-    (λ _. either (Ahead i) (twoAt t i 33 33) (λ _. omega arith)
-    (λ _. either (Ahead i) (twoAt t i 47 42) (λ _. close-ahead i (drop (i + 2) t) (i + 2) (omega arith)) (λ _. tt)))
+    either (Ahead i) (twoAt t i 33 33) (λ _. omega arith)
+    (λ _. either (Ahead i) (twoAt t i 47 42) (λ _. close-ahead i (drop (i + 2) t) (i + 2) (omega arith)) (λ _. tt))
 
-pub pass-ahead : (t : List ℕ) (i j : ℕ) → passAt t i ≡ To j → i < j
-pass-ahead t i j e = rw e at (ahead t i)
+pub comment-ahead : (t : List ℕ) (i j : ℕ) → commentAt t i ≡ To j → i < j
+comment-ahead t i j e = rw e at (ahead t i)

@@ -1,6 +1,4 @@
-pub mod RangeLaws
 pub mod ClassLaws
-pub mod ScanLaws
 pub mod GapLaws
 pub mod WordLaws
 pub mod NumberLaws

@@ -14,10 +14,11 @@ use Rattle.rules.specs.Bytes.{part, is, isDigit, span}
 use Rattle.rules.specs.Symbols.{unsignedLength, digitCount, aNumber}
 use Rattle.rules.proofs.Tests.{split, not-both}
 use Rattle.symbols.specs.Cut.{cut}
-use Rattle.symbols.specs.Scans.{runEnd, fractionEnd, numberCut}
-use Rattle.symbols.proofs.RangeLaws.{test}
+use Rattle.ground.specs.Parts.{runEnd}
+use Rattle.symbols.specs.Scans.{fractionEnd, numberCut}
+use Rattle.ground.proofs.TableLaws.{test}
 use Rattle.rules.proofs.PartLaws.{length-part}
-use Rattle.symbols.proofs.ScanLaws.{span-le}
+use Rattle.ground.proofs.ScanLaws.{span-le}
 
 count-append : (x y : List ℕ) → digitCount (x ++ y) ≡ digitCount x + digitCount y
 count-append [] y = sym (omega arith)

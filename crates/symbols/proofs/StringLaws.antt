@@ -16,8 +16,8 @@ use Rattle.rules.proofs.Tests.{fail-r, not-both}
 use Rattle.rules.proofs.SymbolLaws.{either}
 use Rattle.symbols.specs.declared.Symbol.{Symbol}
 use Rattle.symbols.specs.Cut.{made, cut}
-use Rattle.symbols.specs.Scans.{stepAt}
-use Rattle.symbols.proofs.RangeLaws.{second}
+use Rattle.symbols.specs.Scans.{hexAt, stepAt}
+use Rattle.ground.proofs.TableLaws.{second}
 use Rattle.symbols.proofs.NumberLaws.{stands}
 
 quote-pass : (s : List ℕ) (n k : ℕ) → n ≤ length s → quote s n k ≡ quote (drop n s) 0 (k + n)
@@ -130,9 +130,6 @@ module _ (t : List ℕ) (at i : ℕ) (h : at < i) (q : quote (drop (at + 1) t) 0
 -- ---- what belongs to a backslash, by the bytes behind it
 abbrev escapeBy : ℕ → Bool → Bool → Bool → Bool → ℕ
 escapeBy b o p q r = cond (is "\"" b || is "\\" b) 1 (cond (is "u" b && (o && (p && (q && r)))) 5 0)
-
-abbrev hexAt : List ℕ → ℕ → Bool
-hexAt t i = isHexadecimal (getD t i 0)
 
 pub escape-at : (t : List ℕ) (i : ℕ) → escape (drop i t) ≡ escapeBy (getD t i 0) (hexAt t (i + 1)) (hexAt t (i + 2)) (hexAt t (i + 3)) (hexAt t (i + 4))
 escape-at t i = rw (getD-drop i t 0 0, getD-drop i t 1 0, getD-drop i t 2 0, getD-drop i t 3 0, getD-drop i t 4 0, add-zero i)

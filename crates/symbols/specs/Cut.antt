@@ -1,20 +1,16 @@
 -- Document 01, "Symbols": a symbol of the rules as the code hands it on.
 use mathlib.Core.Path.{_≡_}
-use mathlib.Core.Bool.{true, cond}
-use mathlib.Core.List.{List, [], _∷_}
-use Prim.Native.Nat.{ℕ, suc, _+_, _≤_}
+use mathlib.Core.Bool.{true}
+use mathlib.Core.List.{List}
+use Prim.Native.Nat.{ℕ, _+_, _≤_}
 use lib.ListN.{length}
-use Rattle.rules.specs.Bytes.{same, isOneOf}
+use Rattle.rules.specs.Bytes.{isOneOf}
 use Rattle.rules.specs.Reserved.{forms}
 use Rattle.rules.specs.Readers.{faultOf}
 use Rattle.rules.specs.Symbols.{numberOf, Kind, word, name, number, quoted, dots, stop, mark, fault, digitCount, isNameText}
 use Rattle.rules.specs.Symbols as rules
+use Rattle.words.specs.Words.{position}
 use Rattle.symbols.specs.declared.Symbol.{Symbol}
-
--- the place of the first word of the list that is b, or else the list's length
-abbrev pub position : List ℕ → List (List ℕ) → ℕ
-position b [] = 0
-position b (w ∷ l) = let r = suc (position b l) in cond (same b w) 0 r
 
 -- what a symbol is, in one byte: a mark is its byte, 40 to 61, and a word of the forms 64 and its position among them
 abbrev pub codeOf : Kind → List ℕ → ℕ
@@ -29,7 +25,7 @@ codeOf word b = 64 + position b forms
 
 -- the code, the number to refuse with, the place and the length
 abbrev pub made : ℕ → ℕ → ℕ → ℕ → Symbol
-made c n p l = record { code = c; no = n; place = p; len = l; next = record { at = p + l } }
+made c n p l = record { code = c; refusal = n; place = p; len = l; next = record { at = p + l } }
 
 abbrev pub cut : rules.Symbol → Symbol
 cut y = made (codeOf (y .kind) (y .bytes)) (numberOf (faultOf (y .kind))) (y .place) (length (y .bytes))

@@ -16,10 +16,11 @@ use Rattle.rules.specs.Judge.{domainType, referenceIn}
 use Rattle.ground.specs.Parts.{part, splice}
 use Rattle.ground.proofs.BufferLaws.{splice-none}
 use Rattle.enumerations.specs.Standing.{Stands}
-use Rattle.enumerations.specs.Merging.{records, sizeOf, LaidAs}
+use Rattle.enumerations.specs.Records.{records, sizeOf}
+use Rattle.merging.specs.Merging.{LaidAs}
 use Rattle.enumerations.proofs.KeptLaws.{part-stands}
-use Rattle.enumerations.specs.declared.lists.Size.{Size}
-use Rattle.enumerations.specs.declared.walk.Laid.the-variants as laid
+use Rattle.enumerations.specs.declared.Size.{Size}
+use Rattle.merging.specs.declared.Laid.the-variants as laid
 use Rattle.parts.specs.declared.types.Meant.{Meant}
 use Rattle.parts.specs.Forms.{anyOf}
 use Rattle.types.specs.Values.{Valued, Typed, FairOrNone, Scratched, Once, mergeFits}

@@ -19,9 +19,9 @@ use Rattle.rules.specs.Types.{Ty, text, range, numeric, structure, enum}
 use Rattle.rules.specs.Book.{bit, lowFirst, twos, lengthOr, bytes, typeRecords, openRecord, elementRecords}
 use Rattle.rules.specs.Show.{read4}
 use Rattle.numbers.proofs.SignedLaws.{held, Holds, holds}
-use Rattle.members.specs.Held.{Stands}
+use Rattle.book.specs.Places.{Stands}
 use Rattle.rules.specs.All.{AnyIs}
-use Rattle.scope.specs.Scope.{FairLimit, Fair}
+use Rattle.wellformed.specs.Fairness.{FairLimit, Fair}
 use Rattle.types.specs.Values.{Typed}
 use Rattle.types.specs.Places.{signedOf, signedAt, textAt, rangeAt, typingAt}
 use Rattle.types.specs.declared.Typing.{Typing}

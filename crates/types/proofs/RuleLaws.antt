@@ -17,12 +17,12 @@ use Rattle.rules.specs.Judge.{rule, elementRule, doubled, typeRules}
 use Rattle.rules.proofs.NumberLaws.{in-order}
 use Rattle.book.specs.declared.Found.{Found}
 use Rattle.enumerations.specs.Standing.{Stands}
-use Rattle.enumerations.specs.Doubling.{foundOf}
+use Rattle.tables.specs.Doubling.{foundOf}
 use Rattle.elements.specs.Noted.{listBytes}
 use Rattle.parts.specs.declared.types.Meant.{Meant}
 use Rattle.parts.specs.Forms.{anyOf}
 use Rattle.rules.specs.All.{AnyIs}
-use Rattle.scope.specs.Scope.{Begins}
+use Rattle.wellformed.specs.Fairness.{Begins}
 use Rattle.types.specs.declared.Ruling.{Ruling}
 use Rattle.types.specs.Rulings.{rulingOf, rulingIf, elementRuling, typeRuling}
 use Rattle.types.specs.Values.{Scratched, Ordered}

@@ -15,13 +15,14 @@ use Rattle.rules.specs.Judge.{domainType, elementRule, doubled, referenceIn}
 use Rattle.ground.specs.Parts.{splice}
 use Rattle.parts.specs.Forms.{Scratches}
 use Rattle.rules.specs.All.{AnyIs}
-use Rattle.scope.specs.Scope.{FairType}
-use Rattle.scope.proofs.UseLaws.{fits-self}
+use Rattle.wellformed.specs.Fairness.{FairType}
+use Rattle.wellformed.proofs.UseLaws.{fits-self}
 use Rattle.elements.specs.Noted.{listBytes}
 use Rattle.enumerations.specs.Standing.{Named, Deep, Stands}
 use Rattle.types.specs.Rulings.{rulingOf}
 use Rattle.types.specs.Values.{Valued, Typed, Sized, FairOrNone, Scratched, Once, plainFits, mergeFits}
 use Rattle.types.specs.declared.Typing.{Typing}
+use Rattle.book.specs.Sizes.{headSize}
 
 -- ---- values
 pub typed-valued : (t b : List ℕ) (x : Ty) (c : Typing) → Typed t b x c → Valued x c
@@ -105,13 +106,13 @@ fits-split t (some (G.enum e)) structure f r k = absurd (omega arith)
 fits-split t (some (G.named x)) b f r k = let z : _≡_ {A = ℕ} 0 1 = cc in absurd (omega arith)
 
 -- ---- a type's records, and then the head before them, written behind the book B
-pub laid-book : (o o₁ o₂ B h l : List ℕ) (u : ℕ) → take u o ≡ B → u ≡ length B → u + 11 + length l ≤ length o → length h ≡ 11 → o₁ ≡ splice o (u + 11) l → o₂ ≡ splice o₁ u h →
-    take (u + 11 + length l) o₂ ≡ B ++ (h ++ l)
+pub laid-book : (o o₁ o₂ B h l : List ℕ) (u : ℕ) → take u o ≡ B → u ≡ length B → u + headSize + length l ≤ length o → length h ≡ headSize → o₁ ≡ splice o (u + headSize) l → o₂ ≡ splice o₁ u h →
+    take (u + headSize + length l) o₂ ≡ B ++ (h ++ l)
 laid-book o o₁ o₂ B h l u b e f g p q =
-    let d : List ℕ = drop (u + 11 + length l) o in
-    let n : length (take (u + 11) o) ≡ u + 11 = length-take-le (u + 11) o (omega arith) in
-    let p' : o₁ ≡ take (u + 11) o ++ (l ++ d) = p ∙ append-assoc (take (u + 11) o) l d in
-    let front : take u o₁ ≡ B = rw p' (take-append-le u (take (u + 11) o) (l ++ d) (omega arith) ∙ take-take u (u + 11) o (omega arith)) ∙ b in
-    let back : drop (u + length h) o₁ ≡ l ++ d = rw (g, p') (drop-at (take (u + 11) o) (l ++ d) (u + 11) n) in
+    let d : List ℕ = drop (u + headSize + length l) o in
+    let n : length (take (u + headSize) o) ≡ u + headSize = length-take-le (u + headSize) o (omega arith) in
+    let p' : o₁ ≡ take (u + headSize) o ++ (l ++ d) = p ∙ append-assoc (take (u + headSize) o) l d in
+    let front : take u o₁ ≡ B = rw p' (take-append-le u (take (u + headSize) o) (l ++ d) (omega arith) ∙ take-take u (u + headSize) o (omega arith)) ∙ b in
+    let back : drop (u + length h) o₁ ≡ l ++ d = rw (g, p') (drop-at (take (u + headSize) o) (l ++ d) (u + headSize) n) in
     let whole : o₂ ≡ (B ++ (h ++ l)) ++ d = q ∙ rw (front, back) (simp append-assoc) in
-    rw whole (take-at (B ++ (h ++ l)) d (u + 11 + length l) (simp length-append (omega arith)))
+    rw whole (take-at (B ++ (h ++ l)) d (u + headSize + length l) (simp length-append (omega arith)))

@@ -24,7 +24,7 @@ use Rattle.enumerations.specs.Standing.{Stands}
 use Rattle.parts.specs.declared.types.Meant.{Meant}
 use Rattle.parts.specs.Forms.{anyOf}
 use Rattle.rules.specs.All.{AnyIs}
-use Rattle.scope.specs.Scope.{FairLimit}
+use Rattle.wellformed.specs.Fairness.{FairLimit}
 use Rattle.types.specs.Values.{Valued, Typed, Sized, FairOrNone, Ordered, plainFits}
 use Rattle.types.specs.Fitting.{isEnumeration, placeIn, sortOf, limitFits, rangeFitsBy, isNumericBy, fitsBy, meantBy, plainFitsBy}
 use Rattle.types.specs.declared.Typing.{Typing}

@@ -15,7 +15,7 @@ use Rattle.rules.specs.Book.{lengthOr}
 use Rattle.rules.specs.Judge.{meant}
 use Rattle.enumerations.specs.Standing.{Stands}
 use Rattle.parts.specs.Forms.{kindOf}
-use Rattle.scope.specs.Scope.{Fair}
+use Rattle.wellformed.specs.Fairness.{Fair}
 use Rattle.types.specs.declared.Typing.{Typing}
 use Rattle.types.specs.declared.Typing.the-variants.{Text, Range, Numeric, Enumeration, Structure}
 

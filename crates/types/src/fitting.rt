@@ -3,21 +3,18 @@ ghost use mathlib.Core.Path.{_≡_};
 ghost use Prim.Native.Nat.{_≤_, _<_, _^_};
 ghost use lib.IntN.{natAbs};
 ghost use Rattle.types.specs.Values.{Sized};
-ghost use Rattle.types.specs.Fitting.{isEnumeration, placeIn, sortOf, limitFits, textFitsBy, rangeFitsBy, isNumericBy, fitsBy};
+ghost use Rattle.types.specs.Fitting.{isEnumeration, placeIn, sortOf, limitFits, textFitsBy, rangeFitsBy};
+ghost use Rattle.types.specs.Fitting.{isNumericBy, fitsBy};
 use crate::Typing;
 
 pub fn is_enumeration(x: Typing) -> bool
     ensures { λ r. ⌜ r ≡ isEnumeration x ⌝ }
 {
     match x {
-        Typing::Text { kind: _, length: _ } => false,
-        Typing::Range {
-            decimals: _,
-            low: _,
-            high: _,
-        } => false,
+        Typing::Text { .. } => false,
+        Typing::Range { .. } => false,
         Typing::Numeric => false,
-        Typing::Enumeration { place: _ } => true,
+        Typing::Enumeration { .. } => true,
         Typing::Structure => false,
     }
 }
@@ -27,31 +24,23 @@ pub fn place_of(x: Typing) -> usize
     ensures { λ r. ⌜ r ≡ placeIn x ⌝ }
 {
     match x {
-        Typing::Text { kind: _, length: _ } => 0,
-        Typing::Range {
-            decimals: _,
-            low: _,
-            high: _,
-        } => 0,
+        Typing::Text { .. } => 0,
+        Typing::Range { .. } => 0,
         Typing::Numeric => 0,
         Typing::Enumeration { place } => place,
         Typing::Structure => 0,
     }
 }
 
-// NUMERIC.
-pub fn is_number(x: Typing) -> bool
+// NUMERIC; a range is no such type.
+pub fn is_numeric(x: Typing) -> bool
     ensures { λ r. ⌜ r ≡ isNumericBy x ⌝ }
 {
     match x {
-        Typing::Text { kind: _, length: _ } => false,
-        Typing::Range {
-            decimals: _,
-            low: _,
-            high: _,
-        } => false,
+        Typing::Text { .. } => false,
+        Typing::Range { .. } => false,
         Typing::Numeric => true,
-        Typing::Enumeration { place: _ } => false,
+        Typing::Enumeration { .. } => false,
         Typing::Structure => false,
     }
 }
@@ -61,19 +50,15 @@ pub fn sort_of(x: Typing) -> u8
     ensures { λ r. ⌜ r ≡ sortOf x ⌝ }
 {
     match x {
-        Typing::Text { kind, length: _ } => {
+        Typing::Text { kind, .. } => {
             if kind == 9 {
                 return 2;
             }
             1
         }
-        Typing::Range {
-            decimals: _,
-            low: _,
-            high: _,
-        } => 3,
+        Typing::Range { .. } => 3,
         Typing::Numeric => 3,
-        Typing::Enumeration { place: _ } => 4,
+        Typing::Enumeration { .. } => 4,
         Typing::Structure => 5,
     }
 }
@@ -95,14 +80,10 @@ fn text_fits(own: u64, base: Typing) -> bool
     ensures { λ r. ⌜ r ≡ textFitsBy own base ⌝ }
 {
     match base {
-        Typing::Text { kind: _, length } => limit_fits(own, length),
-        Typing::Range {
-            decimals: _,
-            low: _,
-            high: _,
-        } => true,
+        Typing::Text { length, .. } => limit_fits(own, length),
+        Typing::Range { .. } => true,
         Typing::Numeric => true,
-        Typing::Enumeration { place: _ } => true,
+        Typing::Enumeration { .. } => true,
         Typing::Structure => true,
     }
 }
@@ -113,7 +94,7 @@ fn range_fits(own_decimals: u64, own_low: i64, own_high: i64, base: Typing) -> b
     ensures { λ r. ⌜ r ≡ rangeFitsBy «own_decimals» «own_low» «own_high» base ⌝ }
 {
     match base {
-        Typing::Text { kind: _, length: _ } => true,
+        Typing::Text { .. } => true,
         Typing::Range {
             decimals,
             low,
@@ -125,7 +106,7 @@ fn range_fits(own_decimals: u64, own_low: i64, own_high: i64, base: Typing) -> b
             false
         }
         Typing::Numeric => true,
-        Typing::Enumeration { place: _ } => true,
+        Typing::Enumeration { .. } => true,
         Typing::Structure => true,
     }
 }
@@ -136,14 +117,14 @@ pub fn fits(own: Typing, base: Typing) -> bool
     ensures { λ r. ⌜ r ≡ fitsBy own base ⌝ }
 {
     match own {
-        Typing::Text { kind: _, length } => text_fits(length, base),
+        Typing::Text { length, .. } => text_fits(length, base),
         Typing::Range {
             decimals,
             low,
             high,
         } => range_fits(decimals, low, high, base),
-        Typing::Numeric => is_number(base),
-        Typing::Enumeration { place: _ } => true,
+        Typing::Numeric => is_numeric(base),
+        Typing::Enumeration { .. } => true,
         Typing::Structure => true,
     }
 }

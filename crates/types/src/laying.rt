@@ -2,9 +2,10 @@
 use crate::Typing;
 use crate::fitting::is_enumeration;
 use crate::fitting::place_of;
-use enumerations::lists::Size;
-use enumerations::lists::size_of;
-use enumerations::walk::Laid;
+use enumerations::Size;
+use enumerations::size_of;
+use ground::put_if;
+use merging::Laid;
 ghost use mathlib.Core.Path.{_≡_};
 ghost use mathlib.Core.Bool.{true};
 ghost use mathlib.Core.List.{List, [], _∷_};
@@ -15,18 +16,10 @@ ghost use Rattle.rules.specs.Types.{Ty};
 ghost use Rattle.rules.specs.Book.{typeRecords};
 ghost use Rattle.ground.specs.Parts.{part, splice};
 ghost use Rattle.enumerations.specs.Standing.{Stands};
-ghost use Rattle.enumerations.specs.Merging.{records, LaidAs};
+ghost use Rattle.enumerations.specs.Records.{records};
+ghost use Rattle.merging.specs.Merging.{LaidAs};
 ghost use Rattle.types.specs.Values.{Valued, Typed, Sized};
 ghost use Rattle.types.specs.Fitting.{plainRecords};
-
-fn put_if(out: &mut [u8], at: usize, src: &[u8])
-    requires { ⌜ (at ≤ 65546) × (length (now src) ≤ 262144) ⌝ }
-    ensures { λ _. ⌜ (at + length (now (src .entry)) ≤ length (now (out .entry)) → now (out .exit) ≡ splice (now (out .entry)) at (now (src .entry))) ⌝ }
-{
-    if at + src.len() <= out.len() {
-        ground::put(out, at, src);
-    }
-}
 
 fn put_record(out: &mut [u8], at: usize, src: &[u8]) -> Laid
     requires { ⌜ (at ≤ 65546) × (length (now src) ≤ 262144) ⌝ }
@@ -62,7 +55,7 @@ pub fn plain(out: &mut [u8], at: usize, x: Typing) -> Laid
             let r = [11];
             put_record(out, at, &r)
         }
-        Typing::Enumeration { place: _ } => Laid::Whole(Size {
+        Typing::Enumeration { .. } => Laid::Whole(Size {
             bytes: 0,
             records: 0,
         }),
@@ -73,15 +66,16 @@ pub fn plain(out: &mut [u8], at: usize, x: Typing) -> Laid
     }
 }
 
-// The enumeration that stands at the start of x.
-pub fn copied(out: &mut [u8], at: usize, x: &[u8]) -> Laid
-    requires { ⌜ (at ≤ 65546) × (length (now x) ≤ 262144) ⌝ }
-    ensures { λ r. ⌜ ((t : List ℕ) (e : Enum) → Stands t (now (x .entry)) e 0 → LaidAs true (records e) at (now (out .entry)) (now (out .exit)) r) ⌝ }
+// The enumeration that stands at the start of the scratch.
+pub fn copied(out: &mut [u8], at: usize, scratch: &[u8]) -> Laid
+    requires { ⌜ (at ≤ 65546) × (length (now scratch) ≤ 262144) ⌝ }
+    ensures { λ r. ⌜ ((t : List ℕ) (e : Enum) → Stands t (now (scratch .entry)) e 0
+        → LaidAs true (records e) at (now (out .entry)) (now (out .exit)) r) ⌝ }
 {
-    let s = size_of(x, 0);
+    let s = size_of(scratch, 0);
     let n = s.bytes;
-    if n <= x.len() {
-        put_if(out, at, &x[..n]);
+    if n <= scratch.len() {
+        put_if(out, at, &scratch[..n]);
     }
     Laid::Whole(s)
 }
@@ -89,7 +83,8 @@ pub fn copied(out: &mut [u8], at: usize, x: &[u8]) -> Laid
 // Some of the first `used` bytes, behind them.
 fn copy_if(out: &mut [u8], used: usize, from: usize, n: usize, at: usize)
     requires { ⌜ (used ≤ at) × (used ≤ length (now out)) × (at ≤ 65546) ⌝ }
-    ensures { λ _. ⌜ (from + n ≤ used → at + n ≤ length (now (out .entry)) → now (out .exit) ≡ splice (now (out .entry)) at (part (now (out .entry)) from n)) ⌝ }
+    ensures { λ _. ⌜ (from + n ≤ used → at + n ≤ length (now (out .entry))
+        → now (out .exit) ≡ splice (now (out .entry)) at (part (now (out .entry)) from n)) ⌝ }
 {
     if used < from {
         return;
@@ -98,14 +93,15 @@ fn copy_if(out: &mut [u8], used: usize, from: usize, n: usize, at: usize)
         return;
     }
     if at + n <= out.len() {
-        enumerations::lists::copy_within(out, from, n, at);
+        enumerations::copy_within(out, from, n, at);
     }
 }
 
 // The enumeration that stands in the first `used` bytes, once more.
 fn again(out: &mut [u8], used: usize, at: usize, from: usize) -> Laid
     requires { ⌜ (used ≤ at) × (used ≤ length (now out)) × (at ≤ 65546) ⌝ }
-    ensures { λ r. ⌜ ((t : List ℕ) (e : Enum) → Stands t (take used (now (out .entry))) e from → LaidAs true (records e) at (now (out .entry)) (now (out .exit)) r) ⌝ }
+    ensures { λ r. ⌜ ((t : List ℕ) (e : Enum) → Stands t (take used (now (out .entry))) e from
+        → LaidAs true (records e) at (now (out .entry)) (now (out .exit)) r) ⌝ }
 {
     let s = size_of(&out[..used], from);
     copy_if(out, used, from, s.bytes, at);
@@ -116,7 +112,8 @@ fn again(out: &mut [u8], used: usize, at: usize, from: usize) -> Laid
 pub fn alone(out: &mut [u8], used: usize, at: usize, own: Typing, base: Typing) -> Laid
     requires { ⌜ Sized own ⌝ }
     requires { ⌜ (used ≤ at) × (used ≤ length (now out)) × (at ≤ 65546) ⌝ }
-    ensures { λ r. ⌜ ((t : List ℕ) (b : Ty) → Valued b own → Typed t (take used (now (out .entry))) b base → LaidAs true (typeRecords b) at (now (out .entry)) (now (out .exit)) r) ⌝ }
+    ensures { λ r. ⌜ ((t : List ℕ) (b : Ty) → Valued b own → Typed t (take used (now (out .entry))) b base
+        → LaidAs true (typeRecords b) at (now (out .entry)) (now (out .exit)) r) ⌝ }
 {
     if is_enumeration(own) {
         return again(out, used, at, place_of(base));

@@ -5,35 +5,37 @@ pub mod reading;
 
 use crate::fitting::fits;
 use crate::fitting::is_enumeration;
-use crate::fitting::is_number;
 use crate::fitting::place_of;
 use crate::fitting::sort_of;
 use crate::reading::typing_at;
 use book::Found;
-use enumerations::walk::Laid;
+use merging::Laid;
 use numbers::Number;
 use parts::types::Meant;
 ghost use mathlib.Core.Path.{_≡_};
 ghost use mathlib.Core.Bool.{true, false, not, _&&_, _||_};
 ghost use mathlib.Core.Option.{Option, none};
 ghost use mathlib.Core.List.{List, [], _∷_};
-ghost use Prim.Native.Nat.{ℕ, _+_, _*_, _≤_, _<_};
+ghost use Prim.Native.Nat.{ℕ, _+_, _≤_, _<_};
 ghost use lib.ListN.{length, take};
 ghost use lib.Dec.{eqb};
 ghost use lib.Signed.{ltZ};
 ghost use Rattle.rules.specs.Grammar.{WrittenType};
 ghost use Rattle.rules.specs.Types.{Ty, kindOf};
 ghost use Rattle.rules.specs.Types.{fits as Types·fits};
-ghost use Rattle.rules.specs.Book.{typeRecords};
+ghost use Rattle.rules.specs.Book.{Record, typeRecords};
 ghost use Rattle.rules.specs.Judge.{domainType, isNumeric, elementRule, typeRules, referenceIn};
-ghost use Rattle.members.specs.Held.{Stands};
+ghost use Rattle.book.specs.Places.{Stands};
 ghost use Rattle.parts.specs.Forms.{anyOf};
-ghost use Rattle.enumerations.specs.Merging.{LaidAs};
+ghost use Rattle.tables.specs.Tables.{TableFor, TablesFor};
+ghost use Rattle.merging.specs.Merging.{LaidAs};
 ghost use Rattle.rules.specs.All.{AnyIs};
-ghost use Rattle.scope.specs.Scope.{Begins, Fair};
+ghost use Rattle.wellformed.specs.Fairness.{Begins, Fair};
 ghost use Rattle.types.specs.Rulings.{rulingOf, rulingIf};
-ghost use Rattle.types.specs.Values.{Valued, Typed, Sized, FairOrNone, Scratched, Once, Ordered, plainFits, mergeFits};
+ghost use Rattle.types.specs.Values.{Valued, Typed, Sized, FairOrNone, Scratched, Once, Ordered, plainFits};
+ghost use Rattle.types.specs.Values.{mergeFits};
 ghost use Rattle.types.specs.Fitting.{isAlone, isListed};
+ghost use Rattle.book.specs.Sizes.{headSize};
 
 // A rule that is broken, and its place; 0 for none.
 pub struct Ruling {
@@ -50,11 +52,21 @@ pub enum Typing {
     Structure,
 }
 
-// The type whose records stand at a place.
-pub fn type_at(book: &[u8], at: usize) -> Typing
-    ensures { λ r. ⌜ ((t : List ℕ) (x : Ty) → Fair t x → Stands (now (book .entry)) at (typeRecords x) → Typed t (now (book .entry)) x r) ⌝ }
+// A type over its base's, if it has a base; else the base's is a structure.
+pub struct Over {
+    pub based: bool,
+    pub own: Typing,
+    pub base: Typing,
+}
+
+// The type whose records stand behind the head at a place.
+pub fn type_behind(book: &[u8], head: usize) -> Typing
+    requires { ⌜ head < 65536 ⌝ }
+    ensures { λ r. ⌜ ((t : List ℕ) (h : Record) (x : Ty) → length h ≡ headSize → Fair t x
+        → Stands (now (book .entry)) head (h ∷ typeRecords x)
+        → Typed t (now (book .entry)) x r) ⌝ }
 {
-    typing_at(book, at)
+    typing_at(book, head + book::HEAD_SIZE)
 }
 
 // The type that is written, over a base's.
@@ -64,18 +76,14 @@ pub fn meant(m: Meant, base: Typing) -> Typing
     match m {
         Meant::Alone => base,
         Meant::Text { kind } => Typing::Text { kind, length: 0 },
-        Meant::Limited {
-            kind,
-            length,
-            place: _,
-        } => Typing::Text { kind, length },
+        Meant::Limited { kind, length, .. } => Typing::Text { kind, length },
         Meant::Range { first, second } => Typing::Range {
             decimals: first.decimals,
             low: first.value,
             high: second.value,
         },
         Meant::Numeric => Typing::Numeric,
-        Meant::Enumeration { bytes: _ } => Typing::Enumeration { place: 0 },
+        Meant::Enumeration { .. } => Typing::Enumeration { place: 0 },
         Meant::Named(_) => Typing::Structure,
     }
 }
@@ -83,7 +91,7 @@ pub fn meant(m: Meant, base: Typing) -> Typing
 pub fn is_numeric(x: Typing) -> bool
     ensures { λ r. ⌜ ((y : Ty) → Valued y x → r ≡ isNumeric y) ⌝ }
 {
-    is_number(x)
+    fitting::is_numeric(x)
 }
 
 // ---- rules
@@ -104,18 +112,11 @@ fn is_alone(m: Meant) -> bool
 {
     match m {
         Meant::Alone => true,
-        Meant::Text { kind: _ } => false,
-        Meant::Limited {
-            kind: _,
-            length: _,
-            place: _,
-        } => false,
-        Meant::Range {
-            first: _,
-            second: _,
-        } => false,
+        Meant::Text { .. } => false,
+        Meant::Limited { .. } => false,
+        Meant::Range { .. } => false,
         Meant::Numeric => false,
-        Meant::Enumeration { bytes: _ } => false,
+        Meant::Enumeration { .. } => false,
         Meant::Named(_) => false,
     }
 }
@@ -126,18 +127,11 @@ fn is_listed(m: Meant) -> bool
 {
     match m {
         Meant::Alone => false,
-        Meant::Text { kind: _ } => false,
-        Meant::Limited {
-            kind: _,
-            length: _,
-            place: _,
-        } => false,
-        Meant::Range {
-            first: _,
-            second: _,
-        } => false,
+        Meant::Text { .. } => false,
+        Meant::Limited { .. } => false,
+        Meant::Range { .. } => false,
         Meant::Numeric => false,
-        Meant::Enumeration { bytes: _ } => true,
+        Meant::Enumeration { .. } => true,
         Meant::Named(_) => false,
     }
 }
@@ -166,12 +160,13 @@ fn is_lone(bytes: usize, based: bool) -> bool
 }
 
 // 9 of the elements.
-pub fn element_ruling(text: &[u8], x: &[u8], m: Meant, table: &mut [u32]) -> Ruling
-    requires { ⌜ (length (now x) ≤ 262144) × (length (now x) + 6 ≤ 2 * length (now table)) ⌝ }
-    ensures { λ r. ⌜ ((w : Option WrittenType) → m ≡ anyOf w → Scratched (now (text .entry)) (now (x .entry)) w → r ≡ rulingOf (elementRule w ∷ [])) ⌝ }
+pub fn element_ruling(text: &[u8], scratch: &[u8], m: Meant, tables: &mut [u32]) -> Ruling
+    requires { ⌜ (length (now scratch) ≤ 262144) × TableFor (length (now scratch)) (length (now tables)) ⌝ }
+    ensures { λ r. ⌜ ((w : Option WrittenType) → m ≡ anyOf w → Scratched (now (text .entry)) (now (scratch .entry)) w
+        → r ≡ rulingOf (elementRule w ∷ [])) ⌝ }
 {
     if is_listed(m) {
-        let d = enumerations::twice::doubled(text, x, 0, table);
+        let d = tables::twice::doubled(text, scratch, 0, tables);
         return match d {
             Found::At(place) => broken_if(9, place, true),
             Found::Nothing => broken_if(9, 0, false),
@@ -182,15 +177,16 @@ pub fn element_ruling(text: &[u8], x: &[u8], m: Meant, table: &mut [u32]) -> Rul
 
 // 14 of bounds and lengths; 15 of an outermost `(FINAL)` without a base.
 pub fn type_ruling(m: Meant, place: usize, based: bool) -> Ruling
-    ensures { λ r. ⌜ ((w : Option WrittenType) → m ≡ anyOf w → AnyIs (Begins place) w → r ≡ rulingOf (typeRules based place w)) ⌝ }
+    ensures { λ r. ⌜ ((w : Option WrittenType) → m ≡ anyOf w → AnyIs (Begins place) w
+        → r ≡ rulingOf (typeRules based place w)) ⌝ }
 {
     match m {
         Meant::Alone => broken_if(0, 0, false),
-        Meant::Text { kind: _ } => broken_if(0, 0, false),
+        Meant::Text { .. } => broken_if(0, 0, false),
         Meant::Limited {
-            kind: _,
             length,
             place: at,
+            ..
         } => broken_if(14, at, length == 0),
         Meant::Range { first, second } => broken_if(14, place, is_bad(first, second)),
         Meant::Numeric => broken_if(0, 0, false),
@@ -209,82 +205,71 @@ pub fn differ(own: Typing, base: Typing) -> bool
 // 17 of what is written, but for an enumeration; of the base's kind.
 pub fn plain_fits(m: Meant, own: Typing, base: Typing) -> bool
     requires { ⌜ Sized own × Sized base ⌝ }
-    ensures { λ r. ⌜ ((t : List ℕ) (w : Option WrittenType) (b : Ty) → m ≡ anyOf w → Ordered w → FairOrNone t b → Valued (domainType w b) own → Valued b base → kindOf (domainType w b) ≡ kindOf b → r ≡ plainFits w b) ⌝ }
+    ensures { λ r. ⌜ ((t : List ℕ) (w : Option WrittenType) (b : Ty) → m ≡ anyOf w → Ordered w → FairOrNone t b
+        → Valued (domainType w b) own → Valued b base → kindOf (domainType w b) ≡ kindOf b → r ≡ plainFits w b) ⌝ }
 {
     match m {
         Meant::Alone => true,
-        Meant::Text { kind: _ } => fits(own, base),
-        Meant::Limited {
-            kind: _,
-            length,
-            place: _,
-        } => {
+        Meant::Text { .. } => fits(own, base),
+        Meant::Limited { length, .. } => {
             if length == 0 {
                 return true;
             }
             fits(own, base)
         }
-        Meant::Range {
-            first: _,
-            second: _,
-        } => fits(own, base),
+        Meant::Range { .. } => fits(own, base),
         Meant::Numeric => fits(own, base),
-        Meant::Enumeration { bytes: _ } => true,
+        Meant::Enumeration { .. } => true,
         Meant::Named(_) => true,
     }
 }
 
 // 17 of one type in the book held against another of its kind.
-pub fn fits_in_book(text: &[u8], book: &[u8], own: Typing, base: Typing, table: &mut [u32]) -> bool
+pub fn fits_in_book(text: &[u8], book: &[u8], own: Typing, base: Typing, tables: &mut [u32]) -> bool
     requires { ⌜ Sized own × Sized base ⌝ }
-    requires { ⌜ (length (now book) < 4294967295) × (length (now book) + 6 ≤ 2 * length (now table)) ⌝ }
-    ensures { λ r. ⌜ ((x b : Ty) → FairOrNone (now (text .entry)) x → FairOrNone (now (text .entry)) b → Typed (now (text .entry)) (now (book .entry)) x own → Typed (now (text .entry)) (now (book .entry)) b base → kindOf x ≡ kindOf b
+    requires { ⌜ (length (now book) < 4294967295) × TableFor (length (now book)) (length (now tables)) ⌝ }
+    ensures { λ r. ⌜ ((x b : Ty) → FairOrNone (now (text .entry)) x → FairOrNone (now (text .entry)) b
+        → Typed (now (text .entry)) (now (book .entry)) x own → Typed (now (text .entry)) (now (book .entry)) b base
+        → kindOf x ≡ kindOf b
         → r ≡ Types·fits x b) ⌝ }
 {
     if is_enumeration(own) {
-        return enumerations::held::fits(text, book, place_of(own), place_of(base), table);
+        return holding::fits(text, book, place_of(own), place_of(base), tables);
     }
     fits(own, base)
 }
 
-// The records of the type that is written over a base's, at a place behind the first `used` bytes, where they fit; a Misfit is 17 of a written enumeration.
+// The records of the type that is written over a base's, behind room for a head where the first `used` bytes end, if
+// they fit; a Misfit is 17 of a written enumeration.
 pub fn lay(
     text: &[u8],
     out: &mut [u8],
     used: usize,
-    at: usize,
-    x: &[u8],
+    scratch: &[u8],
     m: Meant,
-    own: Typing,
-    base: Typing,
-    own_table: &mut [u32],
-    base_table: &mut [u32],
+    over: Over,
+    tables: &mut [u32],
 ) -> Laid
-    requires { ⌜ Sized own ⌝ }
-    requires { ⌜ (used ≤ at) × (used ≤ length (now out)) × (at ≤ 65546) × (length (now out) ≤ 65535) × (length (now x) ≤ 262144) ⌝ }
-    requires { ⌜ (length (now x) + 6 ≤ 2 * length (now «own_table»)) × (length (now out) + 6 ≤ 2 * length (now «base_table»)) ⌝ }
-    ensures { λ r. ⌜ ((w : Option WrittenType) (b : Ty) → m ≡ anyOf w → referenceIn w ≡ none → Scratched (now (text .entry)) (now (x .entry)) w → Once w → FairOrNone (now (text .entry)) b
-        → Valued (domainType w b) own → Typed (now (text .entry)) (take used (now (out .entry))) b base → LaidAs (mergeFits w b) (typeRecords (domainType w b)) at (now (out .entry)) (now (out .exit)) r) ⌝ }
+    requires { ⌜ Sized (over .own) ⌝ }
+    requires { ⌜ (used ≤ length (now out)) × (length (now out) ≤ 65535) × (length (now scratch) ≤ 262144) ⌝ }
+    requires { ⌜ TablesFor (length (now scratch)) (length (now out)) (length (now tables)) ⌝ }
+    ensures { λ r. ⌜ ((w : Option WrittenType) (b : Ty) → m ≡ anyOf w → referenceIn w ≡ none
+        → Scratched (now (text .entry)) (now (scratch .entry)) w → Once w → FairOrNone (now (text .entry)) b
+        → Valued (domainType w b) (over .own) → Typed (now (text .entry)) (take used (now (out .entry))) b (over .base)
+        → LaidAs (mergeFits w b) (typeRecords (domainType w b)) (used + headSize) (now (out .entry))
+        (now (out .exit)) r) ⌝ }
 {
+    let own = over.own;
+    let base = over.base;
+    let at = used + book::HEAD_SIZE;
     if is_alone(m) {
         return laying::alone(out, used, at, own, base);
     }
     if is_listed(m) {
         if is_enumeration(base) {
-            let from = place_of(base);
-            return enumerations::walk::merged(
-                text,
-                out,
-                used,
-                from,
-                x,
-                0,
-                at,
-                own_table,
-                base_table,
-            );
+            return merging::merged(text, out, used, place_of(base), scratch, at, tables);
         }
-        return laying::copied(out, at, x);
+        return laying::copied(out, at, scratch);
     }
     laying::plain(out, at, own)
 }

@@ -4,6 +4,8 @@ ghost use Prim.Native.Nat.{_+_, _≤_};
 ghost use lib.ListN.{length};
 ghost use Rattle.types.specs.Places.{signedOf, signedAt, textAt, rangeAt, typingAt};
 use crate::Typing;
+use book::LENGTH_SIZE;
+use book::RANGE_SIZE;
 use ground::get4;
 use ground::wide;
 use ground::wide4;
@@ -32,7 +34,7 @@ fn text_at(kind: u8, book: &[u8], at: usize) -> Typing
     requires { ⌜ at ≤ length (now book) ⌝ }
     ensures { λ r. ⌜ r ≡ textAt kind (now (book .entry)) at ⌝ }
 {
-    if at + 5 <= book.len() {
+    if at + LENGTH_SIZE <= book.len() {
         return Typing::Text {
             kind,
             length: wide4(get4(book, at + 1)) as u64,
@@ -45,7 +47,7 @@ fn range_at(book: &[u8], at: usize) -> Typing
     requires { ⌜ at ≤ length (now book) ⌝ }
     ensures { λ r. ⌜ r ≡ rangeAt (now (book .entry)) at ⌝ }
 {
-    if at + 18 <= book.len() {
+    if at + RANGE_SIZE <= book.len() {
         return Typing::Range {
             decimals: wide(book[at + 1]) as u64,
             low: signed_at(book, at + 2),

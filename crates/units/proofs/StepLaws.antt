@@ -84,7 +84,7 @@ module _ {t o p : List ℕ} {r : Step} where
       at z f = rw f (go (eqb (cut z .code) k))
         where
           go : (b : Bool) → StepIs t o p (andThen t (cond b (done z (symbolAt t (endOf z))) (refused (faultOf (z .kind)) (z .place))) (λ e. step x w e))
-              (cond b (Read u (whereOf w) (cut (symbolAt t (endOf z)))) (Unread (cut z .no) (cut z .place)))
+              (cond b (Read u (whereOf w) (cut (symbolAt t (endOf z)))) (Unread (cut z .refusal) (cut z .place)))
           go true = (u, refl, i)
           go false = refl
 
@@ -173,7 +173,7 @@ module _ {t : List ℕ} (o : List ℕ) {y : Symbol} {r : Step} where
       (through (second .passes) end)
 
   pub model-steps : {n l a s v w e : Symbol} (head : ModelHead) → n ≡ passed t y 65 → l ≡ passed t n 1 → head .name ≡ named n → Reads t language anything l a → s ≡ passed t a 66 →
-      v ≡ passed t s 3 → head .at ≡ named s → w ≡ passed t v 67 → e ≡ passed t w 3 → head .version ≡ named w → r ≡ endedOf t e 61 (Model head) (Body false false) → Steps t o o modelUnit y r
+      v ≡ passed t s 3 → head .address ≡ named s → w ≡ passed t v 67 → e ≡ passed t w 3 → head .version ≡ named w → r ≡ endedOf t e 61 (Model head) (Body false false) → Steps t o o modelUnit y r
   unfolding modelUnit
   model-steps head e₁ e₂ f m e₃ e₄ x e₅ e₆ z g =
       let r₂ = a-name e₂ in

@@ -69,7 +69,7 @@ partOf s = record { offset = s .place; len = length (s .bytes) }
 -- u is the unit, and the scratch o has become p
 abbrev pub Is : List ℕ → List ℕ → U.Unit → code.Unit → Type 0
 Is o p (U.header s) u = u ≡ Header (partOf s)
-Is o p (U.model n q) u = (h : ModelHead) × (u ≡ Model h) × (h .name ≡ nameCut n) × (h .at ≡ partOf (q .address)) × (h .version ≡ partOf (q .version))
+Is o p (U.model n q) u = (h : ModelHead) × (u ≡ Model h) × (h .name ≡ nameCut n) × (h .address ≡ partOf (q .address)) × (h .version ≡ partOf (q .version))
 Is o p (U.topic n) u = u ≡ Topic (nameCut n)
 Is o p (U.close n) u = u ≡ Close (nameCut n)
 Is o p (U.class c n ps b) u =
@@ -95,4 +95,4 @@ pub record Steps (t o p : List ℕ) (R : Reader U.Step) (y : Symbol) (r : Step) 
 
 -- what the last symbol of a unit, y, makes of it
 abbrev pub endedOf : List ℕ → Symbol → ℕ → code.Unit → Where → Step
-endedOf t y k u w = cond (eqb (y .code) k) (Read u w (cut (symbolAt t (y .next .at)))) (Unread (y .no) (y .place))
+endedOf t y k u w = cond (eqb (y .code) k) (Read u w (cut (symbolAt t (y .next .at)))) (Unread (y .refusal) (y .place))

@@ -1,5 +1,5 @@
-// The readers of units: a unit is read from its first symbol on, and the symbol behind it is handed on. A fault goes on as a faulty symbol, which
-// no reader takes; the unit's end finds it.
+// The readers of units: a unit is read from its first symbol on, and the symbol behind it is handed on. A fault goes on
+// as a faulty symbol, which no reader takes; the unit's end finds it.
 use ground::Name;
 use parts::Extends;
 use parts::Properties;
@@ -13,12 +13,14 @@ ghost use mathlib.Core.List.{List};
 ghost use Prim.Native.Nat.{ℕ, _*_, _≤_};
 ghost use lib.ListN.{length};
 ghost use lib.Dec.{eqb};
-ghost use Rattle.rules.specs.Units.{headerUnit, modelUnit, topicUnit, classUnit, domainUnit, attributeUnit, endUnit, bodyEnd, bodyUnit, memberUnit, unitAt};
+ghost use Rattle.rules.specs.Units.{headerUnit, modelUnit, topicUnit, classUnit, domainUnit, attributeUnit, endUnit};
+ghost use Rattle.rules.specs.Units.{bodyEnd, bodyUnit, memberUnit, unitAt};
 ghost use Rattle.readers.specs.Reads.{Held, Reads};
-ghost use Rattle.units.specs.Steps.{aroundOf, runOf, behindOf, placeOf, endMark, language, anything, Steps, endedOf};
+ghost use Rattle.units.specs.Steps.{aroundOf, runOf, behindOf, placeOf, endMark, language, anything};
+ghost use Rattle.units.specs.Steps.{Steps, endedOf};
 
-// Where the next unit stands: before the header; behind it; in the model or a topic, perhaps in a run of domains; in a class, perhaps right
-// after its head; behind the model's END.
+// Where the next unit stands: before the header; behind it; in the model or a topic, perhaps in a run of domains; in a
+// class, perhaps right after its head; behind the model's END.
 pub enum Where {
     Start,
     AfterHeader,
@@ -30,7 +32,7 @@ pub enum Where {
 // The model's name, and where the strings behind AT and VERSION stand.
 pub struct ModelHead {
     pub name: Name,
-    pub at: Name,
+    pub address: Name,
     pub version: Name,
 }
 
@@ -85,7 +87,7 @@ fn ended(text: &[u8], y: Symbol, code: u8, unit: Unit, at: Where) -> Step
         };
     }
     Step::Unread {
-        number: y.no,
+        number: y.refusal,
         place: y.place,
     }
 }
@@ -93,10 +95,10 @@ fn ended(text: &[u8], y: Symbol, code: u8, unit: Unit, at: Where) -> Step
 fn header(text: &[u8], y: Symbol) -> Step
     ensures { λ r. ⌜ ((o : List ℕ) → Steps (now (text .entry)) o o headerUnit y r) ⌝ }
 {
-    let v = expect(text, y, readers::INTERLIS);
-    let e = expect(text, v, readers::NUMBER);
-    let unit = Unit::Header(name_of(v));
-    ended(text, e, readers::SEMICOLON, unit, Where::AfterHeader)
+    let number = expect(text, y, readers::INTERLIS);
+    let end = expect(text, number, readers::NUMBER);
+    let unit = Unit::Header(name_of(number));
+    ended(text, end, readers::SEMICOLON, unit, Where::AfterHeader)
 }
 
 // A name in parentheses, if there is one.
@@ -104,9 +106,9 @@ fn language_part(text: &[u8], y: Symbol) -> Symbol
     ensures { λ r. ⌜ Reads (now (text .entry)) language anything y r ⌝ }
 {
     if y.code == readers::ROUND {
-        let n = expect(text, y, readers::ROUND);
-        let c = expect(text, n, readers::NAME);
-        return expect(text, c, readers::CLOSE);
+        let name = expect(text, y, readers::ROUND);
+        let close = expect(text, name, readers::NAME);
+        return expect(text, close, readers::CLOSE);
     }
     y
 }
@@ -114,36 +116,36 @@ fn language_part(text: &[u8], y: Symbol) -> Symbol
 fn model(text: &[u8], y: Symbol) -> Step
     ensures { λ r. ⌜ ((o : List ℕ) → Steps (now (text .entry)) o o modelUnit y r) ⌝ }
 {
-    let n = expect(text, y, readers::MODEL);
-    let l = expect(text, n, readers::NAME);
-    let a = language_part(text, l);
-    let s = expect(text, a, readers::AT);
-    let v = expect(text, s, readers::QUOTED);
-    let w = expect(text, v, readers::VERSION);
-    let e = expect(text, w, readers::QUOTED);
+    let name = expect(text, y, readers::MODEL);
+    let behind = expect(text, name, readers::NAME);
+    let behind = language_part(text, behind);
+    let address = expect(text, behind, readers::AT);
+    let behind = expect(text, address, readers::QUOTED);
+    let version = expect(text, behind, readers::VERSION);
+    let end = expect(text, version, readers::QUOTED);
     let head = ModelHead {
-        name: name_of(n),
-        at: name_of(s),
-        version: name_of(w),
+        name: name_of(name),
+        address: name_of(address),
+        version: name_of(version),
     };
     let at = Where::Body {
         topic: false,
         run: false,
     };
-    ended(text, e, readers::EQUALS, Unit::Model(head), at)
+    ended(text, end, readers::EQUALS, Unit::Model(head), at)
 }
 
 fn topic(text: &[u8], y: Symbol) -> Step
     ensures { λ r. ⌜ ((o : List ℕ) → Steps (now (text .entry)) o o topicUnit y r) ⌝ }
 {
-    let n = expect(text, y, readers::TOPIC);
-    let e = expect(text, n, readers::NAME);
+    let name = expect(text, y, readers::TOPIC);
+    let end = expect(text, name, readers::NAME);
     let at = Where::Body {
         topic: true,
         run: false,
     };
-    let unit = Unit::Topic(name_of(n));
-    ended(text, e, readers::EQUALS, unit, at)
+    let unit = Unit::Topic(name_of(name));
+    ended(text, end, readers::EQUALS, unit, at)
 }
 
 fn is_class(code: u8) -> bool
@@ -158,18 +160,19 @@ fn is_class(code: u8) -> bool
 // CLASS or STRUCTURE, which is y.
 fn class(text: &[u8], y: Symbol, in_topic: bool) -> Step
     requires { ⌜ Held (now text) y ⌝ }
-    ensures { λ r. ⌜ ((o : List ℕ) → (eqb (y .code) 69 || eqb (y .code) 70) ≡ true → Steps (now (text .entry)) o o (classUnit (aroundOf «in_topic»)) y r) ⌝ }
+    ensures { λ r. ⌜ ((o : List ℕ) → (eqb (y .code) 69 || eqb (y .code) 70) ≡ true
+        → Steps (now (text .entry)) o o (classUnit (aroundOf «in_topic»)) y r) ⌝ }
 {
-    let n = expect(text, y, y.code);
-    let l = expect(text, n, readers::NAME);
-    let p = parts::read_properties(text, l, false);
-    let o = p.next;
-    let b = parts::read_extends(text, o);
+    let name = expect(text, y, y.code);
+    let behind = expect(text, name, readers::NAME);
+    let p = parts::read_properties(text, behind, false);
+    let behind = p.next;
+    let b = parts::read_extends(text, behind);
     let properties = p.properties;
     let base = b.base;
     let head = ClassHead {
         structure: y.code == readers::STRUCTURE,
-        name: name_of(n),
+        name: name_of(name),
         properties: properties,
         base: base,
     };
@@ -177,24 +180,25 @@ fn class(text: &[u8], y: Symbol, in_topic: bool) -> Step
         topic: in_topic,
         first: true,
     };
-    let m = b.next;
-    ended(text, m, readers::EQUALS, Unit::Class(head), at)
+    let end = b.next;
+    ended(text, end, readers::EQUALS, Unit::Class(head), at)
 }
 
-fn domain(text: &[u8], records: &mut [u8], y: Symbol, in_topic: bool) -> Step
+fn domain(text: &[u8], scratch: &mut [u8], y: Symbol, in_topic: bool) -> Step
     requires { ⌜ Held (now text) y ⌝ }
-    requires { ⌜ 3 * length (now text) ≤ length (now records) ⌝ }
-    ensures { λ r. ⌜ Steps (now (text .entry)) (now (records .entry)) (now (records .exit)) (domainUnit (aroundOf «in_topic»)) y r ⌝ }
+    requires { ⌜ 3 * length (now text) ≤ length (now scratch) ⌝ }
+    ensures { λ r. ⌜ Steps (now (text .entry)) (now (scratch .entry)) (now (scratch .exit))
+        (domainUnit (aroundOf «in_topic»)) y r ⌝ }
 {
-    let l = expect(text, y, readers::NAME);
-    let p = parts::read_properties(text, l, false);
-    let o = p.next;
-    let b = parts::read_extends(text, o);
-    let m = b.next;
-    let q = expect(text, m, readers::EQUALS);
+    let behind = expect(text, y, readers::NAME);
+    let p = parts::read_properties(text, behind, false);
+    let behind = p.next;
+    let b = parts::read_extends(text, behind);
+    let behind = b.next;
+    let first = expect(text, behind, readers::EQUALS);
     let properties = p.properties;
     let base = b.base;
-    let w = parts::types::read_written(text, records, q, parts::is_given(base), false);
+    let w = parts::types::read_written(text, scratch, first, parts::is_given(base), false);
     let written = w.written;
     let unit = DomainUnit {
         name: name_of(y),
@@ -206,21 +210,22 @@ fn domain(text: &[u8], records: &mut [u8], y: Symbol, in_topic: bool) -> Step
         topic: in_topic,
         run: true,
     };
-    let e = w.next;
-    ended(text, e, readers::SEMICOLON, Unit::Domain(unit), at)
+    let end = w.next;
+    ended(text, end, readers::SEMICOLON, Unit::Domain(unit), at)
 }
 
-fn attribute(text: &[u8], records: &mut [u8], y: Symbol, in_topic: bool) -> Step
+fn attribute(text: &[u8], scratch: &mut [u8], y: Symbol, in_topic: bool) -> Step
     requires { ⌜ Held (now text) y ⌝ }
-    requires { ⌜ 3 * length (now text) ≤ length (now records) ⌝ }
-    ensures { λ r. ⌜ Steps (now (text .entry)) (now (records .entry)) (now (records .exit)) (attributeUnit (aroundOf «in_topic»)) y r ⌝ }
+    requires { ⌜ 3 * length (now text) ≤ length (now scratch) ⌝ }
+    ensures { λ r. ⌜ Steps (now (text .entry)) (now (scratch .entry)) (now (scratch .exit))
+        (attributeUnit (aroundOf «in_topic»)) y r ⌝ }
 {
-    let l = expect(text, y, readers::NAME);
-    let p = parts::read_properties(text, l, true);
-    let m = p.next;
-    let q = expect(text, m, readers::COLON);
+    let behind = expect(text, y, readers::NAME);
+    let p = parts::read_properties(text, behind, true);
+    let behind = p.next;
+    let first = expect(text, behind, readers::COLON);
     let properties = p.properties;
-    let w = parts::types::read_written(text, records, q, properties.extended, true);
+    let w = parts::types::read_written(text, scratch, first, properties.extended, true);
     let written = w.written;
     let unit = AttributeUnit {
         name: name_of(y),
@@ -231,10 +236,11 @@ fn attribute(text: &[u8], records: &mut [u8], y: Symbol, in_topic: bool) -> Step
         topic: in_topic,
         first: false,
     };
-    let e = w.next;
-    ended(text, e, readers::SEMICOLON, Unit::Attribute(unit), at)
+    let end = w.next;
+    ended(text, end, readers::SEMICOLON, Unit::Attribute(unit), at)
 }
 
+// Behind END and the name: the model's END is the last.
 fn end_mark(last: bool) -> u8
     ensures { λ r. ⌜ r ≡ cond last 46 59 ⌝ }
 {
@@ -248,10 +254,10 @@ fn end_mark(last: bool) -> u8
 fn close(text: &[u8], y: Symbol, last: bool, at: Where) -> Step
     ensures { λ r. ⌜ ((o : List ℕ) → Steps (now (text .entry)) o o (endUnit (endMark last) (placeOf at)) y r) ⌝ }
 {
-    let n = expect(text, y, readers::END);
-    let e = expect(text, n, readers::NAME);
-    let unit = Unit::Close(name_of(n));
-    ended(text, e, end_mark(last), unit, at)
+    let name = expect(text, y, readers::END);
+    let end = expect(text, name, readers::NAME);
+    let unit = Unit::Close(name_of(name));
+    ended(text, end, end_mark(last), unit, at)
 }
 
 // A topic ends with `;`, the model with `.`.
@@ -287,10 +293,11 @@ fn allowed(may: bool, code: u8, wanted: u8) -> bool
     false
 }
 
-fn body_unit(text: &[u8], records: &mut [u8], y: Symbol, in_topic: bool, run: bool) -> Step
+fn body_unit(text: &[u8], scratch: &mut [u8], y: Symbol, in_topic: bool, run: bool) -> Step
     requires { ⌜ Held (now text) y ⌝ }
-    requires { ⌜ 3 * length (now text) ≤ length (now records) ⌝ }
-    ensures { λ r. ⌜ Steps (now (text .entry)) (now (records .entry)) (now (records .exit)) (bodyUnit (aroundOf «in_topic») (runOf run)) y r ⌝ }
+    requires { ⌜ 3 * length (now text) ≤ length (now scratch) ⌝ }
+    ensures { λ r. ⌜ Steps (now (text .entry)) (now (scratch .entry)) (now (scratch .exit))
+        (bodyUnit (aroundOf «in_topic») (runOf run)) y r ⌝ }
 {
     if opens_topic(y.code, in_topic) {
         return topic(text, y);
@@ -306,15 +313,16 @@ fn body_unit(text: &[u8], records: &mut [u8], y: Symbol, in_topic: bool, run: bo
         return ended(text, y, readers::DOMAIN, Unit::Mark, at);
     }
     if allowed(run, y.code, readers::NAME) {
-        return domain(text, records, y, in_topic);
+        return domain(text, scratch, y, in_topic);
     }
     body_end(text, y, in_topic)
 }
 
-fn member_unit(text: &[u8], records: &mut [u8], y: Symbol, in_topic: bool, first: bool) -> Step
+fn member_unit(text: &[u8], scratch: &mut [u8], y: Symbol, in_topic: bool, first: bool) -> Step
     requires { ⌜ Held (now text) y ⌝ }
-    requires { ⌜ 3 * length (now text) ≤ length (now records) ⌝ }
-    ensures { λ r. ⌜ Steps (now (text .entry)) (now (records .entry)) (now (records .exit)) (memberUnit (aroundOf «in_topic») (behindOf first)) y r ⌝ }
+    requires { ⌜ 3 * length (now text) ≤ length (now scratch) ⌝ }
+    ensures { λ r. ⌜ Steps (now (text .entry)) (now (scratch .entry)) (now (scratch .exit))
+        (memberUnit (aroundOf «in_topic») (behindOf first)) y r ⌝ }
 {
     if allowed(first, y.code, readers::ATTRIBUTE) {
         let at = Where::Members {
@@ -324,7 +332,7 @@ fn member_unit(text: &[u8], records: &mut [u8], y: Symbol, in_topic: bool, first
         return ended(text, y, readers::ATTRIBUTE, Unit::Mark, at);
     }
     if y.code == readers::NAME {
-        return attribute(text, records, y, in_topic);
+        return attribute(text, scratch, y, in_topic);
     }
     let at = Where::Body {
         topic: in_topic,
@@ -334,16 +342,17 @@ fn member_unit(text: &[u8], records: &mut [u8], y: Symbol, in_topic: bool, first
 }
 
 // The unit that stands at y. The scratch has three bytes for a byte of text.
-pub fn read_unit(text: &[u8], records: &mut [u8], at: Where, y: Symbol) -> Step
+pub fn read_unit(text: &[u8], scratch: &mut [u8], at: Where, y: Symbol) -> Step
     requires { ⌜ Held (now text) y ⌝ }
-    requires { ⌜ 3 * length (now text) ≤ length (now records) ⌝ }
-    ensures { λ r. ⌜ Steps (now (text .entry)) (now (records .entry)) (now (records .exit)) (unitAt (placeOf at)) y r ⌝ }
+    requires { ⌜ 3 * length (now text) ≤ length (now scratch) ⌝ }
+    ensures { λ r. ⌜ Steps (now (text .entry)) (now (scratch .entry)) (now (scratch .exit))
+        (unitAt (placeOf at)) y r ⌝ }
 {
     match at {
         Where::Start => header(text, y),
         Where::AfterHeader => model(text, y),
-        Where::Body { topic: t, run: r } => body_unit(text, records, y, t, r),
-        Where::Members { topic: t, first: f } => member_unit(text, records, y, t, f),
+        Where::Body { topic: t, run: r } => body_unit(text, scratch, y, t, r),
+        Where::Members { topic: t, first: f } => member_unit(text, scratch, y, t, f),
         Where::Over => ended(text, y, readers::STOP, Unit::Mark, Where::Over),
     }
 }

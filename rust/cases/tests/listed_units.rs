@@ -12,7 +12,16 @@ fn program(file: &str) -> PathBuf {
         .join(file)
 }
 
-/// The byte strings of `main`, in which only `\"` is escaped.
+/// What a byte string says in which only `"` is escaped; behind a backslash at
+/// the end of a line it goes on with the next line's first letter.
+fn said(literal: &str) -> Vec<u8> {
+    let mut lines = literal.split("\\\n");
+    let first = lines.next().unwrap_or_default().to_string();
+    let whole = lines.fold(first, |text, line| text + line.trim_start());
+    whole.replace("\\\"", "\"").into_bytes()
+}
+
+/// The byte strings of `main`.
 fn texts() -> Vec<Vec<u8>> {
     let source = fs::read_to_string(program("src/main.rt")).expect("the program is there");
     let main = source.split("fn main()").nth(1).expect("it has a main");
@@ -24,7 +33,7 @@ fn texts() -> Vec<Vec<u8>> {
         while literal[..end].ends_with('\\') {
             end += 1 + literal[end + 1..].find('"').expect("it is closed");
         }
-        texts.push(literal[..end].replace("\\\"", "\"").into_bytes());
+        texts.push(said(&literal[..end]));
         rest = &literal[end + 1..];
     }
     texts

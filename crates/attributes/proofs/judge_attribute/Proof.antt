@@ -1,70 +1,209 @@
 use mathlib.Core.Path.{sym, _∙_}
-use lib.Seq.{length-take-le}
 use Rattle.rules.specs.Units as U
 use Rattle.rules.specs.Declarations.{known}
 use Rattle.rules.specs.Judge.{orNoAttribute}
 use Rattle.names.specs.Index.{entry}
 use Rattle.members.specs.Held.{attributesIn}
 use Rattle.state.proofs.JudgeLaws.{small, judged-refused}
-use Rattle.attributes.proofs.StageLaws.{ready, is-meant, name-inside}
+use Rattle.attribute_names.proofs.GivenLaws.{is-meant, name-inside}
+use Rattle.attribute_types.proofs.UseLaws.{ready}
 use Rattle.attributes.proofs.WholeLaws.{unit-is, class-is, judged-first, refers-to, judged-second, lays, judged-third, size-solid, passes, judged-end}
 use native.Mathlib.Omega.{arith}
 use borrow.Author.Needs.{needs}
 use Rattle.attributes.proofs.judge_attribute.Statement.{statement}
 use Rattle.attributes.proofs.judge_attribute.Tie as tie
 
-judge-early-requires : tie.Need-judge-early-requires
-judge-early-requires c κs = let a = c .before .before .before .before .before .before .before .before .before .before .before .before .before .before .args in let pre = c .before .before .before .before .before .before .before .before .before .before .before .before .before .before .pre in let (s, n, p, w, k, m) = pre .1 .1 .1 .1 .1 in let g = unit-is (a .text .now) s (a .st) (a .book .now) (a .index .now) (a .chains .now) (a .members .now) (a .numbers .now) (a .positions .now) n p w (a .a) (a .records .now) k m in ((k .model .inside, name-inside (a .text .now) n p w (a .records .now) (a .a) g, omega (arith, pre .0 .0, pre .0 .1, pre .1 .0 .0, pre .1 .0 .1, pre .1 .0 .2, pre .1 .1 .0 .0, pre .1 .1 .0 .1, pre .1 .1 .1 .0 .0, pre .1 .1 .1 .0 .1, pre .1 .1 .1 .1 .0 .0, pre .1 .1 .1 .1 .0 .1), omega (arith, pre .0 .0, pre .0 .1, pre .1 .0 .0, pre .1 .0 .1, pre .1 .0 .2, pre .1 .1 .0 .0, pre .1 .1 .0 .1, pre .1 .1 .1 .0 .0, pre .1 .1 .1 .0 .1, pre .1 .1 .1 .1 .0 .0, pre .1 .1 .1 .1 .0 .1)), ((omega (arith, pre .0 .0, pre .0 .1, pre .1 .0 .0, pre .1 .0 .1, pre .1 .0 .2, pre .1 .1 .0 .0, pre .1 .1 .0 .1, pre .1 .1 .1 .0 .0, pre .1 .1 .1 .0 .1, pre .1 .1 .1 .1 .0 .0, pre .1 .1 .1 .1 .0 .1), k .hand, pre .1 .1 .0 .0, pre .1 .1 .0 .1), ((pre .1 .1 .1 .0 .1, pre .1 .1 .1 .1 .0 .0), (w .type, (is-meant (a .text .now) n p w (a .records .now) (a .a) g), g .fair .type))))
+judge-name-requires : tie.Need-judge-name-requires
+judge-name-requires c κs =
+    let s = c .before .before .before .before .before .before .before .before .before in
+    let (q, n, p, w, k, m) = s .pre .1 .1 in
+    let g = unit-is k m in (
+      (k .model .inside, name-inside (s .args .text .now) n p w (s .args .scratch .now) (s .args .a) g, s .pre .0 .3),
+      (
+        (k .hand, s .pre .0 .4),
+        ((s .pre .0 .2, omega (arith, s .pre .1 .0)), (w .type, is-meant (s .args .text .now) n p w (s .args .scratch .now) (s .args .a) g, g .fair .type)),
+      ),
+    )
 
 returns : tie.Need-returns
-returns c = let a = c .before .before .before .before .before .before .before .before .before .before .before .before .before .before .before .before .before .before .before .before .before .args in λ s n p w k m. let g = unit-is (a .text .now) s (a .st) (a .book .now) (a .index .now) (a .chains .now) (a .members .now) (a .numbers .now) (a .positions .now) n p w (a .a) (a .records .now) k m in let e = c .before .before .before .before .before .before .judge-early in let (d, ed) = class-is (a .text .now) s (a .st) (a .book .now) (a .index .now) (a .chains .now) (a .members .now) (a .numbers .now) (a .positions .now) n p w (a .a) (a .records .now) k m in let ei = e .ensures .4 s d n p w (a .book .now) k ed g in judged-refused (a .text .now) s (U.attribute n p w) (a .book .now) (a .st) (c .refused .result) _ _ _ _ _ _ _ _ (judged-first (a .text .now) s (a .st) (a .book .now) (a .index .now) (a .chains .now) (a .members .now) (a .numbers .now) (a .positions .now) n p w (a .a) (a .records .now) k m (e .result) ei (c .before .if1 .taken)) (c .refused .ensures)
-
-slice-reshare-prefix-judge-types : tie.Need-slice-reshare-prefix-judge-types
-slice-reshare-prefix-judge-types c = let a = c .before .before .before .before .before .before .before .before .before .before .before .before .before .before .before .before .before .before .before .before .before .before .before .args in let pre = c .before .before .before .before .before .before .before .before .before .before .before .before .before .before .before .before .before .before .before .before .before .before .before .pre in let (s, n, p, w, k, m) = pre .1 .1 .1 .1 .1 in k .within
-
-slice-aggregate-judge-types : tie.Need-slice-aggregate-judge-types
-slice-aggregate-judge-types c = let a = c .before .before .before .before .before .before .before .before .before .before .before .before .before .before .before .before .before .before .before .before .before .before .before .before .args in let pre = c .before .before .before .before .before .before .before .before .before .before .before .before .before .before .before .before .before .before .before .before .before .before .before .before .pre in let (s, n, p, w, k, m) = pre .1 .1 .1 .1 .1 in sym (length-take-le (a .st .used) (a .book .now) (k .within))
+returns c =
+    let back = c .before .before .before .before .before .before .before .before .before .before in
+    let s = back .before .before .before .before .before in
+    let judge-name = c .before .before .before .before .before .judge-name in
+    λ q n p w k m.
+    let g = unit-is k m in
+    let (d, ed) = class-is k m in
+    let ei = judge-name .ensures .1 q d n p w (s .args .book .now) k ed g in
+    judged-refused (s .args .text .now) q (U.attribute n p w) (s .args .book .now) (s .args .st)
+    (c .refused .result) _ _ _ _ _ _ _ (judged-first k m ei (c .before .if1 .taken)) (c .refused .ensures)
 
 judge-types-requires : tie.Need-judge-types-requires
-judge-types-requires c κs = let pre = c .before .before .before .before .before .before .before .before .before .before .before .before .before .before .before .before .before .before .before .before .before .before .before .before .before .pre in let e = c .before .before .before .before .before .before .before .before .before .before .judge-early in (omega (arith, pre .0 .0, pre .0 .1, pre .1 .0 .0, pre .1 .0 .1, pre .1 .0 .2, pre .1 .1 .0 .0, pre .1 .1 .0 .1, pre .1 .1 .1 .0 .0, pre .1 .1 .1 .0 .1, pre .1 .1 .1 .1 .0 .0, pre .1 .1 .1 .1 .0 .1, e .ensures .1), e .ensures .2, omega (arith, pre .0 .0, pre .0 .1, pre .1 .0 .0, pre .1 .0 .1, pre .1 .0 .2, pre .1 .1 .0 .0, pre .1 .1 .0 .1, pre .1 .1 .1 .0 .0, pre .1 .1 .1 .0 .1, pre .1 .1 .1 .1 .0 .0, pre .1 .1 .1 .1 .0 .1))
+judge-types-requires c κs =
+    let back = c .before .before .before .before .before .before .before .before .before .before in
+    let s = back .before .before .before .before .before .before in
+    let judge-name = c .before .before .before .before .before .before .judge-name in
+    let (q, n, p, w, k, m) = s .pre .1 .1 in
+    (k .within, s .pre .0 .3, judge-name .ensures .0)
 
 returns-2 : tie.Need-returns-2
-returns-2 c = let a = c .before .before .before .before .before .before .before .before .before .before .before .before .before .before .before .before .before .before .before .before .before .before .before .before .before .before .before .before .before .before .args in λ s n p w k m. let g = unit-is (a .text .now) s (a .st) (a .book .now) (a .index .now) (a .chains .now) (a .members .now) (a .numbers .now) (a .positions .now) n p w (a .a) (a .records .now) k m in let e = c .before .before .before .before .before .before .before .before .before .before .before .before .before .before .before .judge-early in let (d, ed) = class-is (a .text .now) s (a .st) (a .book .now) (a .index .now) (a .chains .now) (a .members .now) (a .numbers .now) (a .positions .now) n p w (a .a) (a .records .now) k m in let ei = e .ensures .4 s d n p w (a .book .now) k ed g in let r = c .before .before .before .before .judge-types in let z = c .before .before .before .before .before .before .before .before .before .before .if1 .left in let rt = refers-to (a .text .now) s (a .st) (a .book .now) (a .index .now) (a .chains .now) (a .members .now) (a .numbers .now) (a .positions .now) n p w (a .a) (a .records .now) k m (e .result) ei z in let ri = r .ensures .1 (a .text .now) (known (s .decls)) (attributesIn s) (a .st .total) (w .type) (ready (a .text .now) s (a .st) (a .book .now) (a .index .now) (a .chains .now) (a .members .now) (a .numbers .now) (a .positions .now) k) (e .ensures .1) (is-meant (a .text .now) n p w (a .records .now) (a .a) g) (g .fair .type) rt in judged-refused (a .text .now) s (U.attribute n p w) (a .book .now) (a .st) (c .refused2 .result) _ _ _ _ _ _ _ _ (judged-second (a .text .now) s (a .st) (a .book .now) (a .index .now) (a .chains .now) (a .members .now) (a .numbers .now) (a .positions .now) n p w (a .a) (a .records .now) k m (e .result) ei z (r .result) ri (c .before .if2 .taken)) (c .refused2 .ensures)
+returns-2 c =
+    let back = c .before .before .before .before .before .before .before .before .before .before in
+    let s = back .before .before .before .before .before .before .before .before .before .before in
+    let judge-name = back .judge-name in
+    let judge-types = c .before .before .before .judge-types in
+    let z = c .before .before .before .before .before .before .if1 .left in
+    λ q n p w k m.
+    let g = unit-is k m in
+    let (d, ed) = class-is k m in
+    let ei = judge-name .ensures .1 q d n p w (s .args .book .now) k ed g in
+    let rt = refers-to k m ei z in
+    let me = is-meant (s .args .text .now) n p w (s .args .scratch .now) (s .args .a) g in
+    let bi = judge-types .ensures .0 in
+    let ri = judge-types .ensures .1 (s .args .text .now) (known (q .decls)) (attributesIn q) (w .type)
+    (ready (s .args .text .now) q (s .args .st) (s .args .book .now) _ _ _ (s .args .hand .now) k) me (g .fair .type) rt in
+    judged-refused (s .args .text .now) q (U.attribute n p w) (s .args .book .now) (s .args .st)
+    (c .refused2 .result) _ _ _ _ _ _ _ (judged-second k m ei z bi ri (c .before .if2 .taken)) (c .refused2 .ensures)
 
 lay-use-requires : tie.Need-lay-use-requires
-lay-use-requires c κs = let a = c .before .before .before .before .before .before .before .before .before .before .before .before .before .before .before .before .before .before .before .before .before .before .before .before .before .before .before .before .before .before .before .before .args in let pre = c .before .before .before .before .before .before .before .before .before .before .before .before .before .before .before .before .before .before .before .before .before .before .before .before .before .before .before .before .before .before .before .before .pre in let (s, n, p, w, k, m) = pre .1 .1 .1 .1 .1 in let g = unit-is (a .text .now) s (a .st) (a .book .now) (a .index .now) (a .chains .now) (a .members .now) (a .numbers .now) (a .positions .now) n p w (a .a) (a .records .now) k m in let e = c .before .before .before .before .before .before .before .before .before .before .before .before .before .before .before .before .before .judge-early in let (d, ed) = class-is (a .text .now) s (a .st) (a .book .now) (a .index .now) (a .chains .now) (a .members .now) (a .numbers .now) (a .positions .now) n p w (a .a) (a .records .now) k m in let ei = e .ensures .4 s d n p w (a .book .now) k ed g in let r = c .before .before .before .before .before .before .judge-types in let z = c .before .before .before .before .before .before .before .before .before .before .before .before .if1 .left in let rt = refers-to (a .text .now) s (a .st) (a .book .now) (a .index .now) (a .chains .now) (a .members .now) (a .numbers .now) (a .positions .now) n p w (a .a) (a .records .now) k m (e .result) ei z in let ri = r .ensures .1 (a .text .now) (known (s .decls)) (attributesIn s) (a .st .total) (w .type) (ready (a .text .now) s (a .st) (a .book .now) (a .index .now) (a .chains .now) (a .members .now) (a .numbers .now) (a .positions .now) k) (e .ensures .1) (is-meant (a .text .now) n p w (a .records .now) (a .a) g) (g .fair .type) rt in let same = e .kept .1 .1 .1 .1 .1 .1 .1 .0 in ((ri .sized-own, ri .sized-base), ((e .ensures .2, r .ensures .0, omega (arith, pre .0 .0, pre .0 .1, pre .1 .0 .0, pre .1 .0 .1, pre .1 .0 .2, pre .1 .1 .0 .0, pre .1 .1 .0 .1, pre .1 .1 .1 .0 .0, pre .1 .1 .1 .0 .1, pre .1 .1 .1 .1 .0 .0, pre .1 .1 .1 .1 .0 .1), k .within, omega (arith, pre .0 .0, pre .0 .1, pre .1 .0 .0, pre .1 .0 .1, pre .1 .0 .2, pre .1 .1 .0 .0, pre .1 .1 .0 .1, pre .1 .1 .1 .0 .0, pre .1 .1 .1 .0 .1, pre .1 .1 .1 .1 .0 .0, pre .1 .1 .1 .1 .0 .1), omega (arith, pre .0 .0, pre .0 .1, pre .1 .0 .0, pre .1 .0 .1, pre .1 .0 .2, pre .1 .1 .0 .0, pre .1 .1 .0 .1, pre .1 .1 .1 .0 .0, pre .1 .1 .1 .0 .1, pre .1 .1 .1 .1 .0 .0, pre .1 .1 .1 .1 .0 .1)), (omega (arith, pre .0 .0, pre .0 .1, pre .1 .0 .0, pre .1 .0 .1, pre .1 .0 .2, pre .1 .1 .0 .0, pre .1 .1 .0 .1, pre .1 .1 .1 .0 .0, pre .1 .1 .1 .0 .1, pre .1 .1 .1 .1 .0 .0, pre .1 .1 .1 .1 .0 .1, same), omega (arith, pre .0 .0, pre .0 .1, pre .1 .0 .0, pre .1 .0 .1, pre .1 .0 .2, pre .1 .1 .0 .0, pre .1 .1 .0 .1, pre .1 .1 .1 .0 .0, pre .1 .1 .1 .0 .1, pre .1 .1 .1 .1 .0 .0, pre .1 .1 .1 .1 .0 .1))))
+lay-use-requires c κs =
+    let back = c .before .before .before .before .before .before .before .before .before .before in
+    let further = back .before .before .before .before .before .before .before .before .before .before in
+    let s = further .before .before .before in
+    let judge-name = back .before .before .before .judge-name in
+    let judge-types = c .before .before .before .before .before .before .judge-types in
+    let z = c .before .before .before .before .before .before .before .before .before .if1 .left in
+    let (q, n, p, w, k, m) = s .pre .1 .1 in
+    let g = unit-is k m in
+    let (d, ed) = class-is k m in
+    let ei = judge-name .ensures .1 q d n p w (s .args .book .now) k ed g in
+    let rt = refers-to k m ei z in
+    let me = is-meant (s .args .text .now) n p w (s .args .scratch .now) (s .args .a) g in
+    let bi = judge-types .ensures .0 in
+    let ri = judge-types .ensures .1 (s .args .text .now) (known (q .decls)) (attributesIn q) (w .type)
+    (ready (s .args .text .now) q (s .args .st) (s .args .book .now) _ _ _ (s .args .hand .now) k) me (g .fair .type) rt in
+    let same = judge-name .kept .1 .1 .1 .1 .0 in (
+      (ri .sized-own, ri .sized-base, omega (arith, bi .named, judge-name .ensures .0 .named), bi .kept, s .pre .0 .3),
+      (k .within, s .pre .0 .1, s .pre .0 .2, omega (arith, s .pre .1 .0, same)),
+    )
 
 end-attribute-requires : tie.Need-end-attribute-requires
-end-attribute-requires c κs = let a = c .before .before .before .before .before .before .before .before .before .before .before .before .before .before .before .before .before .before .before .before .before .before .before .before .before .before .before .before .before .before .before .before .before .before .before .before .before .before .before .before .before .before .before .before .before .before .before .args in let pre = c .before .before .before .before .before .before .before .before .before .before .before .before .before .before .before .before .before .before .before .before .before .before .before .before .before .before .before .before .before .before .before .before .before .before .before .before .before .before .before .before .before .before .before .before .before .before .before .pre in let (s, n, p, w, k, m) = pre .1 .1 .1 .1 .1 in let g = unit-is (a .text .now) s (a .st) (a .book .now) (a .index .now) (a .chains .now) (a .members .now) (a .numbers .now) (a .positions .now) n p w (a .a) (a .records .now) k m in let e = c .before .before .before .before .before .before .before .before .before .before .before .before .before .before .before .before .before .before .before .before .before .before .before .before .before .before .before .before .before .before .before .before .judge-early in let (d, ed) = class-is (a .text .now) s (a .st) (a .book .now) (a .index .now) (a .chains .now) (a .members .now) (a .numbers .now) (a .positions .now) n p w (a .a) (a .records .now) k m in let ei = e .ensures .4 s d n p w (a .book .now) k ed g in let r = c .before .before .before .before .before .before .before .before .before .before .before .before .before .before .before .before .before .before .before .before .before .judge-types in let z = c .before .before .before .before .before .before .before .before .before .before .before .before .before .before .before .before .before .before .before .before .before .before .before .before .before .before .before .if1 .left in let rt = refers-to (a .text .now) s (a .st) (a .book .now) (a .index .now) (a .chains .now) (a .members .now) (a .numbers .now) (a .positions .now) n p w (a .a) (a .records .now) k m (e .result) ei z in let ri = r .ensures .1 (a .text .now) (known (s .decls)) (attributesIn s) (a .st .total) (w .type) (ready (a .text .now) s (a .st) (a .book .now) (a .index .now) (a .chains .now) (a .members .now) (a .numbers .now) (a .positions .now) k) (e .ensures .1) (is-meant (a .text .now) n p w (a .records .now) (a .a) g) (g .fair .type) rt in let l = c .before .before .before .before .before .before .before .before .before .before .before .before .before .before .lay-use in let y = c .before .before .before .before .before .before .before .before .before .before .before .before .before .before .before .before .before .before .if2 .left in let ls = lays (a .text .now) s (a .st) (a .book .now) (a .index .now) (a .chains .now) (a .members .now) (a .numbers .now) (a .positions .now) n p w (a .a) (a .records .now) k m (e .result) ei z (r .result) ri y (e .ensures .1) (e .ensures .2) in let li = l .ensures (known (s .decls)) (attributesIn s) (a .members .now) (a .st .total) (w .type) ls in let v = small (a .text .now) s (a .st) (a .book .now) (a .index .now) (a .chains .now) (a .members .now) (a .numbers .now) (a .positions .now) k in let q = k .within in let i = name-inside (a .text .now) n p w (a .records .now) (a .a) g in let u = c .use-at .ensures .1 (a .st .count) (e .ensures .2) (r .ensures .0) in let same = l .kept .1 .0 in ((omega (arith, q, same), omega (arith, pre .0 .0, pre .0 .1, pre .1 .0 .0, pre .1 .0 .1, pre .1 .0 .2, pre .1 .1 .0 .0, pre .1 .1 .0 .1, pre .1 .1 .1 .0 .0, pre .1 .1 .1 .0 .1, pre .1 .1 .1 .1 .0 .0, pre .1 .1 .1 .1 .0 .1, same), v .fewer, v .defined, v .rows), ((omega (arith, pre .0 .0, pre .0 .1, pre .1 .0 .0, pre .1 .0 .1, pre .1 .0 .2, pre .1 .1 .0 .0, pre .1 .1 .0 .1, pre .1 .1 .1 .0 .0, pre .1 .1 .1 .0 .1, pre .1 .1 .1 .1 .0 .0, pre .1 .1 .1 .1 .0 .1), omega (arith, pre .0 .0, pre .0 .1, pre .1 .0 .0, pre .1 .0 .1, pre .1 .0 .2, pre .1 .1 .0 .0, pre .1 .1 .0 .1, pre .1 .1 .1 .0 .0, pre .1 .1 .1 .0 .1, pre .1 .1 .1 .1 .0 .0, pre .1 .1 .1 .1 .0 .1), e .ensures .1, e .ensures .2, u), ((e .ensures .0, k .hand, e .ensures .3 (omega (arith, z)), pre .1 .1 .0 .0, pre .1 .1 .0 .1), (omega (arith, pre .0 .0, pre .0 .1, pre .1 .0 .0, pre .1 .0 .1, pre .1 .0 .2, pre .1 .1 .0 .0, pre .1 .1 .0 .1, pre .1 .1 .1 .0 .0, pre .1 .1 .1 .0 .1, pre .1 .1 .1 .1 .0 .0, pre .1 .1 .1 .1 .0 .1, i), size-solid (a .text .now) s (a .st) (a .book .now) (a .index .now) (a .chains .now) (a .members .now) (a .numbers .now) (a .positions .now) n p w (a .a) (a .records .now) k m (e .result) ei z (r .result) ri y (l .result) _ li _ (c .before .before .before .before .before .before .l2 .given .1)))))
-
-same-length-14 : tie.Need-same-length-14
-same-length-14 c = c .before .before .before .before .before .before .before .before .before .before .lay-use .kept .1 .1 .1 .1 .1 .1 .1 .1 .1 .1 .1 .1 .0 ∙ c .before .before .before .before .before .before .before .before .before .before .before .before .before .before .before .before .before .before .before .before .before .before .before .before .before .before .before .before .judge-early .kept .1 .1 .1 .1 .1 .1 .1 .0
+end-attribute-requires c κs =
+    let back = c .before .before .before .before .before .before .before .before .before .before in
+    let further = back .before .before .before .before .before .before .before .before .before .before in
+    let furthest = further .before .before .before .before .before .before .before .before .before .before in
+    let s = furthest .before .before .before .before .before in
+    let judge-name = further .before .before .before .before .before .judge-name in
+    let judge-types = back .before .before .before .before .before .before .before .before .judge-types in
+    let lay-use = back .before .lay-use in
+    let l2 = c .before .before .before .before .before .l2 in
+    let use-at = c .before .before .before .use-at in
+    let z = further .before .if1 .left in
+    let y = back .before .before .before .before .before .before .if2 .left in
+    let (q, n, p, w, k, m) = s .pre .1 .1 in
+    let g = unit-is k m in
+    let (d, ed) = class-is k m in
+    let ei = judge-name .ensures .1 q d n p w (s .args .book .now) k ed g in
+    let rt = refers-to k m ei z in
+    let me = is-meant (s .args .text .now) n p w (s .args .scratch .now) (s .args .a) g in
+    let bi = judge-types .ensures .0 in
+    let ri = judge-types .ensures .1 (s .args .text .now) (known (q .decls)) (attributesIn q) (w .type)
+    (ready (s .args .text .now) q (s .args .st) (s .args .book .now) _ _ _ (s .args .hand .now) k) me (g .fair .type) rt in
+    let ls = lays k m ei z bi ri y (judge-name .ensures .0 .base) (judge-name .ensures .0 .named) in
+    let li = lay-use .ensures (known (q .decls)) (attributesIn q) _ (s .args .st .listing .total) (w .type) ls in
+    let u = use-at .ensures .1 (s .args .st .listing .count) (judge-name .ensures .0 .named) (bi .kept) in
+    let i = name-inside (s .args .text .now) n p w (s .args .scratch .now) (s .args .a) g in
+    let same = lay-use .kept .1 .0 in (
+      (
+        omega (arith, k .within, same),
+        omega (arith, s .pre .0 .1, same),
+        small (s .args .text .now) q (s .args .st) (s .args .book .now) _ _ _ (s .args .hand .now) k,
+        s .pre .0 .3,
+        s .pre .0 .4,
+      ),
+      (
+        (judge-name .ensures .0, omega (arith, z), k .hand, u),
+        (omega (arith, s .pre .0 .0, i), size-solid k m ei z bi ri y (lay-use .result) _ li _ (l2 .given .1)),
+      ),
+    )
 
 returns-3 : tie.Need-returns-3
-returns-3 c = let a = c .before .before .before .before .before .before .before .before .before .before .before .before .before .before .before .before .before .before .before .before .before .before .before .before .before .before .before .before .before .before .before .before .before .before .before .before .before .before .before .before .before .before .before .args in λ s n p w k m. let g = unit-is (a .text .now) s (a .st) (a .book .now) (a .index .now) (a .chains .now) (a .members .now) (a .numbers .now) (a .positions .now) n p w (a .a) (a .records .now) k m in let e = c .before .before .before .before .before .before .before .before .before .before .before .before .before .before .before .before .before .before .before .before .before .before .before .before .before .before .before .before .judge-early in let (d, ed) = class-is (a .text .now) s (a .st) (a .book .now) (a .index .now) (a .chains .now) (a .members .now) (a .numbers .now) (a .positions .now) n p w (a .a) (a .records .now) k m in let ei = e .ensures .4 s d n p w (a .book .now) k ed g in let r = c .before .before .before .before .before .before .before .before .before .before .before .before .before .before .before .before .before .judge-types in let z = c .before .before .before .before .before .before .before .before .before .before .before .before .before .before .before .before .before .before .before .before .before .before .before .if1 .left in let rt = refers-to (a .text .now) s (a .st) (a .book .now) (a .index .now) (a .chains .now) (a .members .now) (a .numbers .now) (a .positions .now) n p w (a .a) (a .records .now) k m (e .result) ei z in let ri = r .ensures .1 (a .text .now) (known (s .decls)) (attributesIn s) (a .st .total) (w .type) (ready (a .text .now) s (a .st) (a .book .now) (a .index .now) (a .chains .now) (a .members .now) (a .numbers .now) (a .positions .now) k) (e .ensures .1) (is-meant (a .text .now) n p w (a .records .now) (a .a) g) (g .fair .type) rt in let l = c .before .before .before .before .before .before .before .before .before .before .lay-use in let y = c .before .before .before .before .before .before .before .before .before .before .before .before .before .before .if2 .left in let ls = lays (a .text .now) s (a .st) (a .book .now) (a .index .now) (a .chains .now) (a .members .now) (a .numbers .now) (a .positions .now) n p w (a .a) (a .records .now) k m (e .result) ei z (r .result) ri y (e .ensures .1) (e .ensures .2) in let li = l .ensures (known (s .decls)) (attributesIn s) (a .members .now) (a .st .total) (w .type) ls in judged-refused (a .text .now) s (U.attribute n p w) (a .book .now) (a .st) (c .refused3 .result) _ _ _ _ _ _ _ _ (judged-third (a .text .now) s (a .st) (a .book .now) (a .index .now) (a .chains .now) (a .members .now) (a .numbers .now) (a .positions .now) n p w (a .a) (a .records .now) k m (e .result) ei z (r .result) ri y (l .result) _ li _ (c .before .before .l .given .1)) (c .refused3 .ensures)
+returns-3 c =
+    let back = c .before .before .before .before .before .before .before .before .before .before in
+    let further = back .before .before .before .before .before .before .before .before .before .before in
+    let s = further .before .before .before .before .before .before .before .before .before .before .before .before in
+    let judge-name = further .before .before .judge-name in
+    let judge-types = back .before .before .before .before .before .judge-types in
+    let lay-use = c .before .before .before .before .before .before .before .before .lay-use in
+    let l = c .before .before .l in
+    let z = back .before .before .before .before .before .before .before .before .if1 .left in
+    let y = back .before .before .before .if2 .left in
+    λ q n p w k m.
+    let g = unit-is k m in
+    let (d, ed) = class-is k m in
+    let ei = judge-name .ensures .1 q d n p w (s .args .book .now) k ed g in
+    let rt = refers-to k m ei z in
+    let me = is-meant (s .args .text .now) n p w (s .args .scratch .now) (s .args .a) g in
+    let bi = judge-types .ensures .0 in
+    let ri = judge-types .ensures .1 (s .args .text .now) (known (q .decls)) (attributesIn q) (w .type)
+    (ready (s .args .text .now) q (s .args .st) (s .args .book .now) _ _ _ (s .args .hand .now) k) me (g .fair .type) rt in
+    let ls = lays k m ei z bi ri y (judge-name .ensures .0 .base) (judge-name .ensures .0 .named) in
+    let li = lay-use .ensures (known (q .decls)) (attributesIn q) _ (s .args .st .listing .total) (w .type) ls in
+    judged-refused (s .args .text .now) q (U.attribute n p w) (s .args .book .now) (s .args .st)
+    (c .refused3 .result) _ _ _ _ _ _ _ (judged-third k m ei z bi ri y (lay-use .result) _ li _ (l .given .1)) (c .refused3 .ensures)
 
-same-length-20 : tie.Need-same-length-20
-same-length-20 c = c .before .before .before .before .before .before .before .before .before .before .before .before .before .before .before .before .before .before .before .before .before .before .before .lay-use .kept .1 .1 .1 .1 .1 .1 .1 .1 .1 .1 .1 .1 .0 ∙ c .before .before .before .before .before .before .before .before .before .before .before .before .before .before .before .before .before .before .before .before .before .before .before .before .before .before .before .before .before .before .before .before .before .before .before .before .before .before .before .before .before .judge-early .kept .1 .1 .1 .1 .1 .1 .1 .0
+same-length-15 : tie.Need-same-length-15
+same-length-15 c =
+    let back = c .before .before .before .before .before .before .before .before .before .before in
+    let further = back .before .before .before .before .before .before .before .before .before .before in
+    let furthest = further .before .before .before .before .before .before .before .before .before .before in
+    let judge-name = furthest .before .before .judge-name in
+    let lay-use = back .before .before .before .before .before .before .before .before .lay-use in
+    lay-use .kept .1 .1 .1 .1 .0 ∙ judge-name .kept .1 .1 .1 .1 .0
 
 returns-4 : tie.Need-returns-4
-returns-4 c = let a = c .before .before .before .before .before .before .before .before .before .before .before .before .before .before .before .before .before .before .before .before .before .before .before .before .before .before .before .before .before .before .before .before .before .before .before .before .before .before .before .before .before .before .before .before .before .before .before .before .before .before .before .before .before .before .before .before .args in λ s n p w k m. let g = unit-is (a .text .now) s (a .st) (a .book .now) (a .index .now) (a .chains .now) (a .members .now) (a .numbers .now) (a .positions .now) n p w (a .a) (a .records .now) k m in let e = c .before .before .before .before .before .before .before .before .before .before .before .before .before .before .before .before .before .before .before .before .before .before .before .before .before .before .before .before .before .before .before .before .before .before .before .before .before .before .before .before .before .judge-early in let (d, ed) = class-is (a .text .now) s (a .st) (a .book .now) (a .index .now) (a .chains .now) (a .members .now) (a .numbers .now) (a .positions .now) n p w (a .a) (a .records .now) k m in let ei = e .ensures .4 s d n p w (a .book .now) k ed g in let r = c .before .before .before .before .before .before .before .before .before .before .before .before .before .before .before .before .before .before .before .before .before .before .before .before .before .before .before .before .before .before .judge-types in let z = c .before .before .before .before .before .before .before .before .before .before .before .before .before .before .before .before .before .before .before .before .before .before .before .before .before .before .before .before .before .before .before .before .before .before .before .before .if1 .left in let rt = refers-to (a .text .now) s (a .st) (a .book .now) (a .index .now) (a .chains .now) (a .members .now) (a .numbers .now) (a .positions .now) n p w (a .a) (a .records .now) k m (e .result) ei z in let ri = r .ensures .1 (a .text .now) (known (s .decls)) (attributesIn s) (a .st .total) (w .type) (ready (a .text .now) s (a .st) (a .book .now) (a .index .now) (a .chains .now) (a .members .now) (a .numbers .now) (a .positions .now) k) (e .ensures .1) (is-meant (a .text .now) n p w (a .records .now) (a .a) g) (g .fair .type) rt in let l = c .before .before .before .before .before .before .before .before .before .before .before .before .before .before .before .before .before .before .before .before .before .before .before .lay-use in let y = c .before .before .before .before .before .before .before .before .before .before .before .before .before .before .before .before .before .before .before .before .before .before .before .before .before .before .before .if2 .left in let ls = lays (a .text .now) s (a .st) (a .book .now) (a .index .now) (a .chains .now) (a .members .now) (a .numbers .now) (a .positions .now) n p w (a .a) (a .records .now) k m (e .result) ei z (r .result) ri y (e .ensures .1) (e .ensures .2) in let li = l .ensures (known (s .decls)) (attributesIn s) (a .members .now) (a .st .total) (w .type) ls in let u = c .before .before .before .before .before .before .before .before .before .use-at .ensures .0 (known (s .decls)) (w .type) (orNoAttribute (entry (attributesIn s) (e .result .base)) .use-of) (is-meant (a .text .now) n p w (a .records .now) (a .a) g) (let q = k .held .all-defs in omega (arith, e .ensures .2)) rt (ls .used) in judged-end (a .text .now) s (a .st) (a .book .now) (a .index .now) (a .chains .now) (a .members .now) (a .numbers .now) (a .positions .now) n p w (a .a) (a .records .now) k m (e .result) ei z (r .result) ri y (l .result) _ li _ (c .before .before .before .before .before .before .before .before .before .before .before .before .before .before .before .l2 .given .1) (c .before .before .before .before .before .before .before .before .end-attribute .result) _ _ _ _ (c .before .before .before .before .before .before .before .before .end-attribute .ensures (a .text .now) s (a .book .now) (a .chains .now) (a .records .now) d n p w (sym (l .kept .1 .0)) (passes (a .text .now) s (a .st) (a .book .now) (a .index .now) (a .chains .now) (a .members .now) (a .numbers .now) (a .positions .now) n p w (a .a) (a .records .now) k m (e .result) ei z (r .result) ri y (l .result) _ li _ (c .before .before .before .before .before .before .before .before .before .before .before .before .before .before .before .l2 .given .1) (c .before .before .before .before .before .before .before .before .before .use-at .result) u))
+returns-4 c =
+    let back = c .before .before .before .before .before .before .before .before .before .before in
+    let further = back .before .before .before .before .before .before .before .before .before .before in
+    let furthest = further .before .before .before .before .before .before .before .before .before .before in
+    let s = furthest .before .before .before .before .before .before .before .before .before .before .before .before in
+    let judge-name = furthest .before .before .judge-name in
+    let judge-types = further .before .before .before .before .before .judge-types in
+    let lay-use = back .before .before .before .before .before .before .before .before .lay-use in
+    let l2 = back .before .before .l2 in
+    let use-at = back .use-at in
+    let end-attribute = c .before .before .before .before .before .before .end-attribute in
+    let z = further .before .before .before .before .before .before .before .before .if1 .left in
+    let y = further .before .before .before .if2 .left in
+    λ q n p w k m.
+    let g = unit-is k m in
+    let (d, ed) = class-is k m in
+    let ei = judge-name .ensures .1 q d n p w (s .args .book .now) k ed g in
+    let rt = refers-to k m ei z in
+    let me = is-meant (s .args .text .now) n p w (s .args .scratch .now) (s .args .a) g in
+    let bi = judge-types .ensures .0 in
+    let ri = judge-types .ensures .1 (s .args .text .now) (known (q .decls)) (attributesIn q) (w .type)
+    (ready (s .args .text .now) q (s .args .st) (s .args .book .now) _ _ _ (s .args .hand .now) k) me (g .fair .type) rt in
+    let ls = lays k m ei z bi ri y (judge-name .ensures .0 .base) (judge-name .ensures .0 .named) in
+    let li = lay-use .ensures (known (q .decls)) (attributesIn q) _ (s .args .st .listing .total) (w .type) ls in
+    let u = use-at .ensures .0 (known (q .decls)) (w .type)
+    (orNoAttribute (entry (attributesIn q) (judge-name .result .base)) .use-of) me
+    (let i = k .held .all-defs in omega (arith, judge-name .ensures .0 .named)) rt (ri .kept) in
+    judged-end k m ei z bi ri y (lay-use .result) _ li _ (l2 .given .1) (end-attribute .result) _ _ _ _ _
+    (end-attribute .ensures (s .args .text .now) q (s .args .book .now) (s .args .scratch .now) d n p w
+    (sym (lay-use .kept .1 .0)) (passes k m ei z bi ri y (lay-use .result) _ li _ (l2 .given .1) (use-at .result) u))
 
 pub judge-attribute-spec : {M : Type 1} → statement M
 judge-attribute-spec =
     tie.close
     (tie.spec
-    judge-early-requires
+    judge-name-requires
     (λ c κs. search needs)
-    (λ c. search needs)
     (λ c. search needs)
     (λ c. search needs)
     (λ c. search needs)
     returns
-    slice-reshare-prefix-judge-types
-    slice-aggregate-judge-types
     judge-types-requires
     (λ c κs. search needs)
-    (λ c. search needs)
     (λ c. search needs)
     (λ c. search needs)
     (λ c. search needs)
@@ -80,13 +219,9 @@ judge-attribute-spec =
     (λ c. search needs)
     (λ c. search needs)
     (λ c. search needs)
-    same-length-14
-    (λ c. search needs)
     returns-3
     (λ c. search needs)
     (λ c. search needs)
     (λ c. search needs)
-    (λ c. search needs)
-    same-length-20
-    (λ c. search needs)
+    same-length-15
     returns-4)

@@ -5,7 +5,15 @@ use Rattle.auzuplens.proofs.auzuplens_check.Statement.{statement}
 use Rattle.auzuplens.proofs.auzuplens_check.Tie as tie
 
 returns : tie.Need-returns
-returns c = (c .pack .ensures ∙ ap packed (c .before .before .before .check-text .ensures .answer), c .before .before .before .check-text .ensures .buffer)
+returns c =
+    let check-text = c .before .before .before .check-text in
+    (c .pack .ensures ∙ ap packed (check-text .ensures .answer), check-text .ensures .buffer)
 
 pub auzuplens-check-spec : {M : Type 1} → statement M
-auzuplens-check-spec = tie.close (tie.spec (λ c κs. search needs) (λ c κs. search needs) (λ c. search needs) returns)
+auzuplens-check-spec =
+    tie.close
+    (tie.spec
+    (λ c κs. search needs)
+    (λ c κs. search needs)
+    (λ c. search needs)
+    returns)

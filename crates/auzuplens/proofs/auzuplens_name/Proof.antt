@@ -1,4 +1,4 @@
-use Rattle.auzuplens.proofs.EndLaws.{packed-part}
+use Rattle.auzuplens.proofs.PackLaws.{packed-part}
 use borrow.Author.Needs.{needs}
 use Rattle.auzuplens.proofs.auzuplens_name.Statement.{statement}
 use Rattle.auzuplens.proofs.auzuplens_name.Tie as tie
@@ -7,4 +7,10 @@ returns : tie.Need-returns
 returns c = packed-part _ _ (c .before .before .name-part .ensures)
 
 pub auzuplens-name-spec : {M : Type 1} → statement M
-auzuplens-name-spec = tie.close (tie.spec (λ c κs. search needs) (λ c. search needs) (λ c. search needs) returns)
+auzuplens-name-spec =
+    tie.close
+    (tie.spec
+    (λ c κs. search needs)
+    (λ c. search needs)
+    (λ c. search needs)
+    returns)

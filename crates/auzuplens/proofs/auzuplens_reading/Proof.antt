@@ -6,7 +6,14 @@ use Rattle.auzuplens.proofs.auzuplens_reading.Statement.{statement}
 use Rattle.auzuplens.proofs.auzuplens_reading.Tie as tie
 
 returns : tie.Need-returns
-returns c = let p = rw (toZ-ofZ (c .before .before .fits .value)) at (c .before .read-number .ensures) in kept (c .value .result) (c .value .ok) ∙ c .value .ensures ∙ p .value
+returns c =
+    let fits = c .before .before .fits in
+    let p = rw (toZ-ofZ (fits .value)) at (c .before .read-number .ensures) in kept (c .value .result) (c .value .ok) ∙ c .value .ensures ∙ p .value
 
 pub auzuplens-reading-spec : {M : Type 1} → statement M
-auzuplens-reading-spec = tie.close (tie.spec (λ c κs. search needs) (λ c κs. search needs) returns)
+auzuplens-reading-spec =
+    tie.close
+    (tie.spec
+    (λ c κs. search needs)
+    (λ c κs. search needs)
+    returns)

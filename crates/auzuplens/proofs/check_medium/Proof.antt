@@ -3,21 +3,22 @@ use native.Mathlib.Omega.{arith}
 use borrow.Author.Needs.{needs}
 use Rattle.auzuplens.proofs.check_medium.Statement.{statement}
 use Rattle.auzuplens.proofs.check_medium.Tie as tie
+use Rattle.state.proofs.RoomLaws.{laid-out}
+use Rattle.auzuplens.proofs.PackLaws.{all-zero}
 
 check-with-requires : tie.Need-check-with-requires
-check-with-requires c κs = ((omega arith, omega arith, λ n k p q. (omega arith, omega arith, omega arith)), ((refl, refl, (7171, refl)), ((omega arith, omega arith), (omega arith, omega arith))))
+check-with-requires c κs = (
+  record { text-short = omega arith; book-short = omega arith; scratch-wide = omega arith; scratch-short = omega arith; tables-wide = omega arith },
+  ((λ st e p q. laid-out st _ _ e (omega arith) (omega arith) (omega arith) (omega arith), refl), all-zero _ _ refl),
+)
 
 returns : tie.Need-returns
-returns c = c .before .before .before .before .before .before .before .before .before .before .check-with .ensures .unless-full
+returns c = c .before .before .before .before .before .before .check-with .ensures .unless-full
 
 pub check-medium-spec : {M : Type 1} → statement M
 check-medium-spec =
     tie.close
     (tie.spec
-    (λ c. search needs)
-    (λ c. search needs)
-    (λ c. search needs)
-    (λ c. search needs)
     (λ c. search needs)
     (λ c. search needs)
     (λ c. search needs)

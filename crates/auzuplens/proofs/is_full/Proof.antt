@@ -1,4 +1,4 @@
-use Rattle.auzuplens.proofs.EndLaws.{full-refused}
+use Rattle.trying.proofs.EndLaws.{full-refused}
 use borrow.Author.Needs.{needs}
 use Rattle.auzuplens.proofs.is_full.Statement.{statement}
 use Rattle.auzuplens.proofs.is_full.Tie as tie
@@ -7,4 +7,10 @@ returns-2 : tie.Need-returns-2
 returns-2 c = full-refused (c .before .a .given .1)
 
 pub is-full-spec : {M : Type 1} → statement M
-is-full-spec = tie.close (tie.spec (λ c. search needs) (λ c. search needs) (λ c. search needs) returns-2)
+is-full-spec =
+    tie.close
+    (tie.spec
+    (λ c. search needs)
+    (λ c. search needs)
+    (λ c. search needs)
+    returns-2)

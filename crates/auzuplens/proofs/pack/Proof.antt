@@ -1,4 +1,4 @@
-use Rattle.auzuplens.proofs.EndLaws.{packed-accepted, packed-refused}
+use Rattle.auzuplens.proofs.PackLaws.{packed-accepted, packed-refused}
 use borrow.Author.Needs.{needs}
 use Rattle.auzuplens.proofs.pack.Statement.{statement}
 use Rattle.auzuplens.proofs.pack.Tie as tie

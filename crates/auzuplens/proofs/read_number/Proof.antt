@@ -7,4 +7,8 @@ returns : tie.Need-returns
 returns c = rw (toZ-ofZ (c .before .fits .value)) at (c .read-number .ensures)
 
 pub read-number-spec : {M : Type 1} → statement M
-read-number-spec = tie.close (tie.spec (λ c κs. search needs) returns)
+read-number-spec =
+    tie.close
+    (tie.spec
+    (λ c κs. search needs)
+    returns)

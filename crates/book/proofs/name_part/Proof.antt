@@ -6,13 +6,16 @@ use Rattle.book.proofs.name_part.Tie as tie
 
 returns : tie.Need-returns
 returns c =
-    let a = c .before .before .before .before .before .before .before .args in
-    c .name-at .ensures ∙ shown-by (a .text .now) (a .book .now) (a .k) _ _ (c .before .before .before .before .record-start .ensures) (c .before .before .f .given .1)
+    let f = c .before .before in
+    let s = f .before .before in
+    let a = s .before .before .before .args in
+    c .name-at .ensures ∙ shown-by (a .text .now) (a .book .now) (a .k) _ _ (s .record-start .ensures) (f .f .given .1)
 
 returns-2 : tie.Need-returns-2
 returns-2 c =
-    let a = c .before .before .before .before .before .args in
-    shown-by (a .text .now) (a .book .now) (a .k) _ _ (c .before .before .record-start .ensures) (c .enum-told .given .1)
+    let s = c .before .before in
+    let a = s .before .before .before .args in
+    shown-by (a .text .now) (a .book .now) (a .k) _ _ (s .record-start .ensures) (c .enum-told .given .1)
 
 pub name-part-spec : {M : Type 1} → statement M
 name-part-spec =

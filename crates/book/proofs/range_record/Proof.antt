@@ -5,7 +5,9 @@ use Rattle.book.proofs.range_record.Tie as tie
 
 returns : tie.Need-returns
 returns c =
-    rw (simp (toZ-ofZ (c .before .before .fits .low)) at (c .before .low8 .ensures), simp (toZ-ofZ (c .before .before .fits .high)) at (c .low82 .ensures))
+    let s = c .before in
+    let f = s .before .fits in
+    rw (simp (toZ-ofZ (f .low)) at (s .low8 .ensures), simp (toZ-ofZ (f .high)) at (c .low82 .ensures))
 
 pub range-record-spec : {M : Type 1} → statement M
 range-record-spec =

@@ -20,25 +20,28 @@ loop-holds c = (omega arith, refl)
 
 returns : tie.Need-returns Inv-loop μ-loop
 returns c =
-    let v = c .before .before .loop in
-    sym (v .inv .1 ∙ start-none _ _ _ (none-at _ _ (sym (c .before .size-at .ensures) ∙ c .if1 .taken)))
+    let s = c .before in
+    sym (s .before .loop .inv .1 ∙ start-none _ _ _ (none-at _ _ (sym (s .size-at .ensures) ∙ c .if1 .taken)))
 
 returns-2 : tie.Need-returns-2 Inv-loop μ-loop
 returns-2 c =
-    let v = c .before .before .before .loop in
-    let w = whole-at _ _ _ (c .before .before .size-at .ensures) (omega arith) in
+    let s = c .before .before in
+    let v = s .before .loop in
+    let w = whole-at _ _ _ (s .size-at .ensures) (omega arith) in
     sym (v .inv .1 ∙ rw (c .if2 .taken) (start-here w))
 
 add-at : tie.Need-add-at Inv-loop μ-loop
 add-at c =
-    let v = c .before .before .before .loop in
-    let w = whole-at _ _ _ (c .before .before .size-at .ensures) (omega arith) in
+    let s = c .before .before in
+    let v = s .before .loop in
+    let w = whole-at _ _ _ (s .size-at .ensures) (omega arith) in
     omega (arith, w .within)
 
 loop-again : tie.Need-loop-again Inv-loop μ-loop
 loop-again c =
-    let v = c .before .before .before .loop in
-    let w = whole-at _ _ _ (c .before .before .size-at .ensures) (omega arith) in
+    let s = c .before .before in
+    let v = s .before .loop in
+    let w = whole-at _ _ _ (s .size-at .ensures) (omega arith) in
     (w .within, v .inv .1 ∙ start-next (v .left) (omega arith) w)
 
 pub record-start-spec : {M : Type 1} → statement M

@@ -7,18 +7,22 @@ use Rattle.book.proofs.show_name.Tie as tie
 
 add-end : tie.Need-add-end
 add-end c =
-    let a = c .before .before .before .before .args in
-    omega (arith, shown-within (a .text .now) (a .book .now) (a .k) _ (c .before .name-part .ensures))
+    let s = c .before in
+    let a = s .before .before .before .args in
+    omega (arith, shown-within (a .text .now) (a .book .now) (a .k) _ (s .name-part .ensures))
 
 part-result-end : tie.Need-part-result-end
 part-result-end c =
-    let a = c .before .before .before .before .args in
-    omega (arith, shown-within (a .text .now) (a .book .now) (a .k) _ (c .before .name-part .ensures))
+    let s = c .before in
+    let a = s .before .before .before .args in
+    omega (arith, shown-within (a .text .now) (a .book .now) (a .k) _ (s .name-part .ensures))
 
 returns : tie.Need-returns
 returns c =
-    let e = c .before .before .name-part .ensures in
-    record { block = refl; place = omega (arith, starts-at _ _ e); bytes = cut (c .before .before .before .before .before .args .text .now) _ _ e }
+    let s = c .before .before in
+    let e = s .name-part .ensures in
+    let a = s .before .before .before .args in
+    record { block = refl; place = omega (arith, starts-at _ _ e); bytes = cut (a .text .now) _ _ e }
 
 pub show-name-spec : {M : Type 1} → statement M
 show-name-spec =

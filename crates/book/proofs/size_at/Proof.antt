@@ -6,17 +6,19 @@ use Rattle.book.proofs.size_at.Statement.{statement}
 use Rattle.book.proofs.size_at.Tie as tie
 
 returns : tie.Need-returns
-returns c = sym (size-out (c .before .before .args .book .now) (c .before .before .args .at) (c .if1 .taken))
+returns c = let a = c .before .before .args in sym (size-out (a .book .now) (a .at) (c .if1 .taken))
 
 returns-2 : tie.Need-returns-2
 returns-2 c =
-    let a = c .before .before .before .before .before .args in
-    sym (size-whole (a .book .now) (a .at) (c .before .record-size .result) (omega arith) (c .before .record-size .ensures) (c .if2 .taken))
+    let s = c .before in
+    let a = s .before .before .before .before .args in
+    sym (size-whole (a .book .now) (a .at) (s .record-size .result) (omega arith) (s .record-size .ensures) (c .if2 .taken))
 
 returns-3 : tie.Need-returns-3
 returns-3 c =
-    let a = c .before .before .before .before .before .args in
-    sym (size-short (a .book .now) (a .at) (c .before .record-size .result) (omega arith) (c .before .record-size .ensures) (c .if2 .left))
+    let s = c .before in
+    let a = s .before .before .before .before .args in
+    sym (size-short (a .book .now) (a .at) (s .record-size .result) (omega arith) (s .record-size .ensures) (c .if2 .left))
 
 pub size-at-spec : {M : Type 1} → statement M
 size-at-spec =

@@ -5,14 +5,29 @@ use Rattle.domains.proofs.is_mandatory.Statement.{statement}
 use Rattle.domains.proofs.is_mandatory.Tie as tie
 
 returns : tie.Need-returns
-returns c = λ t ks n l k. mandatory-written ks (c .before .before .args .base) (c .before .before .args .written) (c .if1 .taken)
+returns c =
+    let s = c .before .before in
+    λ t ks n l k. mandatory-written ks (s .args .base) (s .args .written) (c .if1 .taken)
 
 returns-2 : tie.Need-returns-2
-returns-2 c = λ t ks n l k. mandatory-none ks (c .before .before .before .args .base) (c .before .before .before .args .written) (c .before .if1 .left) (c .if2 .taken)
+returns-2 c =
+    let s = c .before .before .before in
+    λ t ks n l k. mandatory-none ks (s .args .base) (s .args .written) (c .before .if1 .left) (c .if2 .taken)
 
 returns-3 : tie.Need-returns-3
-returns-3 c = λ t ks n l k. mandatory-base ks (c .before .before .before .before .before .args .base) (c .before .before .before .before .before .args .written) t (c .before .before .before .before .before .args .index .now) n l k (c .before .before .before .if1 .left) (omega (arith, c .before .before .if2 .left)) (c .before .flags-of .result) (c .before .flags-of .ensures) (c .is-mandatory .result) (c .is-mandatory .ensures)
+returns-3 c =
+    let s = c .before .before .before .before .before in
+    let if1 = c .before .before .before .if1 in
+    let if2 = c .before .before .if2 in
+    λ t ks n l k. mandatory-base ks (s .args .base) (s .args .written) t (s .args .index .now) n l k (if1 .left)
+    (omega (arith, if2 .left)) (c .before .flags-of .result) (c .before .flags-of .ensures) (c .is-mandatory .result) (c .is-mandatory .ensures)
 
 pub is-mandatory-spec : {M : Type 1} → statement M
 is-mandatory-spec =
-    tie.close (tie.spec returns returns-2 (λ c κs. search needs) (λ c κs. search needs) returns-3)
+    tie.close
+    (tie.spec
+    returns
+    returns-2
+    (λ c κs. search needs)
+    (λ c κs. search needs)
+    returns-3)

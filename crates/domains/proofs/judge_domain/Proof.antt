@@ -2,29 +2,100 @@ use mathlib.Core.Path.{refl, sym, ap, _∙_}
 use Rattle.units.specs.declared.DomainUnit.{DomainUnit}
 use Rattle.rules.specs.Declarations.{domain}
 use Rattle.types.specs.declared.Ruling.{Ruling}
-use Rattle.domains.proofs.StageLaws.{domain-is, unit-inside, unit-scratch, refused-name, refused-extends, judged-late, based-of, still}
+use Rattle.domains.proofs.StageLaws.{domain-is, unit-inside, unit-scratch, refused-name, refused-extends, judged-late, based-of}
 use native.Mathlib.Omega.{arith}
 use borrow.Author.Needs.{needs}
 use Rattle.domains.proofs.judge_domain.Statement.{statement}
 use Rattle.domains.proofs.judge_domain.Tie as tie
+use Rattle.state.proofs.RoomLaws.{loaned}
 
 name-ruling-requires : tie.Need-name-ruling-requires
-name-ruling-requires c κs = let (s, n, p, b, w, y, ns, ps, k, h) = c .before .before .before .before .before .before .before .before .before .before .before .before .pre .1 .1 .1 .1 in ((unit-inside h, search needs, search needs), search needs)
+name-ruling-requires c κs =
+    let start = c .before .before .before .before .before .before .before .before .before in
+    let (s, n, p, b, w, hs, k, h) = start .pre .1 .1 in
+    ((unit-inside h, start .pre .1 .0), (start .pre .0 .scratch-short, omega (arith, start .pre .0 .tables-wide)))
 
 returns : tie.Need-returns
-returns c = λ s n p b w y ns ps k h. let a = c .before .before .before .before .before .before .before .before .before .before .before .before .before .before .before .before .before .before .args in refused-name s n p b w (a .text .now) (a .st) (c .refused .result) (a .book .now) _ _ _ y ns ps (c .before .before .before .before .before .name-ruling .result) (c .before .before .before .before .before .name-ruling .ensures s n (w .type) (a .book .now) y ns ps k (ap (λ (u : DomainUnit). u .name) (domain-is h)) (h .fair .0) (ap (λ (u : DomainUnit). u .written .meant) (domain-is h)) (unit-scratch h)) (c .before .if1 .taken) (c .refused .ensures)
+returns c =
+    let back = c .before .before .before .before .before .before .before .before .before .before in
+    let start = back .before .before .before .before .before in
+    let name-ruling = c .before .before .before .before .before .name-ruling in
+    λ s n p b w hs k h.
+    refused-name s n p b w (start .args .text .now) (start .args .st) (c .refused .result) (start .args .book .now) _ _ _ _ hs (name-ruling .result)
+    (name-ruling .ensures s n (w .type) (start .args .book .now) hs k (ap (λ (u : DomainUnit). u .name) (domain-is h))
+    (h .fair .0) (ap (λ (u : DomainUnit). u .written .meant) (domain-is h)) (unit-scratch h)) (c .before .if1 .taken) (c .refused .ensures)
 
 extends-requires : tie.Need-extends-requires
-extends-requires c κs = let (s, n, p, b, w, y, ns, ps, k, h) = c .before .before .before .before .before .before .before .before .before .before .before .before .before .before .before .before .before .before .before .pre .1 .1 .1 .1 in ((k .model .inside, search needs, search needs), (b, ap (λ (u : DomainUnit). u .base) (domain-is h), h .fair .1))
+extends-requires c κs =
+    let back = c .before .before .before .before .before .before .before .before .before .before in
+    let start = back .before .before .before .before .before in
+    let (s, n, p, b, w, hs, k, h) = start .pre .1 .1 in
+    ((k .model .inside, start .pre .1 .0), (b, ap (λ (u : DomainUnit). u .base) (domain-is h), h .fair .1))
 
 returns-2 : tie.Need-returns-2
-returns-2 c = λ s n p b w y ns ps k h. let a = c .before .before .before .before .before .before .before .before .before .before .before .before .before .before .before .before .before .before .before .before .before .before .before .before .args in refused-extends s n p b w (a .text .now) (a .st) (c .refused2 .result) (a .book .now) _ _ _ y ns ps (c .before .before .before .before .extends .result .ruling) (ap (λ (r : Ruling). r .number) (sym (c .before .before .before .before .before .before .before .before .before .before .before .name-ruling .ensures s n (w .type) (a .book .now) y ns ps k (ap (λ (u : DomainUnit). u .name) (domain-is h)) (h .fair .0) (ap (λ (u : DomainUnit). u .written .meant) (domain-is h)) (unit-scratch h))) ∙ (omega (arith, c .before .before .before .before .before .before .before .if1 .left))) (c .before .before .before .before .extends .ensures .1 s domain b (a .book .now) y ns ps k refl (ap (λ (u : DomainUnit). u .base) (domain-is h)) (h .fair .1) .0) (c .before .if2 .taken) (c .refused2 .ensures)
+returns-2 c =
+    let back = c .before .before .before .before .before .before .before .before .before .before in
+    let start = back .before .before .before .before .before .before .before .before .before .before in
+    let name-ruling = back .name-ruling in
+    let if1 = c .before .before .before .before .before .before .if1 in
+    let extends = c .before .before .before .before .extends in
+    λ s n p b w hs k h.
+    refused-extends s n p b w (start .args .text .now) (start .args .st) (c .refused2 .result) (start .args .book .now) _ _ _ _ hs
+    (extends .result .ruling)
+    (ap (λ (r : Ruling). r .number)
+    (sym (name-ruling .ensures s n (w .type) (start .args .book .now) hs k (ap (λ (u : DomainUnit). u .name) (domain-is h))
+    (h .fair .0) (ap (λ (u : DomainUnit). u .written .meant) (domain-is h)) (unit-scratch h)))
+    ∙ (omega (arith, if1 .left)))
+    (extends .ensures .1 s domain b (start .args .book .now) hs k refl (ap (λ (u : DomainUnit). u .base) (domain-is h))
+    (h .fair .1) .0) (c .before .if2 .taken) (c .refused2 .ensures)
 
 typed-domain-requires : tie.Need-typed-domain-requires
-typed-domain-requires c κs = let (s, n, p, b, w, y, ns, ps, k, h) = c .before .before .before .before .before .before .before .before .before .before .before .before .before .before .before .before .before .before .before .before .before .before .before .before .before .before .before .before .pre .1 .1 .1 .1 in let a = c .before .before .before .before .before .before .before .before .before .before .before .before .before .before .before .before .before .before .before .before .before .before .before .before .before .before .before .before .args in let e = c .before .before .before .before .before .before .before .before .extends .ensures .1 s domain b (a .book .now) y ns ps k refl (ap (λ (u : DomainUnit). u .base) (domain-is h)) (h .fair .1) in ((c .before .before .before .before .before .before .before .before .before .before .before .before .before .before .before .before .before .before .before .before .before .before .before .before .before .before .before .before .pre .0 .0, c .before .before .before .before .before .before .before .before .before .before .before .before .before .before .before .before .before .before .before .before .before .before .before .before .before .before .before .before .pre .0 .1, c .before .before .before .before .before .before .before .before .extends .ensures .0), ((c .before .before .before .before .before .before .before .before .before .before .before .before .before .before .before .before .before .before .before .before .before .before .before .before .before .before .before .before .pre .1 .0 .0, c .before .before .before .before .before .before .before .before .before .before .before .before .before .before .before .before .before .before .before .before .before .before .before .before .before .before .before .before .pre .1 .0 .1, c .before .before .before .before .before .before .before .before .before .before .before .before .before .before .before .before .before .before .before .before .before .before .before .before .before .before .before .before .pre .1 .1 .0 .1), ((still (c .before .before .before .before .before .before .before .before .before .before .before .before .before .before .before .name-ruling .kept .1 .1 .1 .1 .0) (c .before .before .before .before .before .before .before .before .before .before .before .before .before .before .before .before .before .before .before .before .before .before .before .before .before .before .before .before .pre .1 .1 .1 .0 .0), c .before .before .before .before .before .before .before .before .before .before .before .before .before .before .before .before .before .before .before .before .before .before .before .before .before .before .before .before .pre .1 .1 .1 .0 .1), (s, n, p, b, w, y, ns, ps, based-of k h (c .before .before .before .before .before .before .before .before .before .before .before .before .before .before .before .name-ruling .result) (c .before .before .before .before .before .before .before .before .extends .result .ruling) (c .before .before .before .before .before .before .before .before .before .before .before .before .before .before .before .name-ruling .ensures s n (w .type) (a .book .now) y ns ps k (ap (λ (u : DomainUnit). u .name) (domain-is h)) (h .fair .0) (ap (λ (u : DomainUnit). u .written .meant) (domain-is h)) (unit-scratch h)) (omega (arith, c .before .before .before .before .before .before .before .before .before .before .before .if1 .left)) (e .0) (omega (arith, c .before .before .before .before .before .if2 .left)) (e .1)))))
+typed-domain-requires c κs =
+    let back = c .before .before .before .before .before .before .before .before .before .before in
+    let start = back .before .before .before .before .before .before .before .before .before .before .before .before in
+    let name-ruling = back .before .before .name-ruling in
+    let if1 = c .before .before .before .before .before .before .before .before .if1 in
+    let extends = c .before .before .before .before .before .before .extends in
+    let if2 = c .before .before .before .if2 in
+    let (s, n, p, b, w, hs, k, h) = start .pre .1 .1 in
+    let e = extends .ensures .1 s domain b (start .args .book .now) hs k refl (ap (λ (u : DomainUnit). u .base) (domain-is h)) (h .fair .1) in (
+      loaned refl refl (name-ruling .kept .1 .1 .1 .0) (start .pre .0),
+      (
+        (start .pre .1 .0, extends .ensures .0),
+        (
+          s,
+          n,
+          p,
+          b,
+          w,
+          hs,
+          based-of k h (name-ruling .result) (extends .result .ruling)
+              (name-ruling .ensures s n (w .type) (start .args .book .now) hs k
+              (ap (λ (u : DomainUnit). u .name) (domain-is h)) (h .fair .0)
+              (ap (λ (u : DomainUnit). u .written .meant) (domain-is h)) (unit-scratch h)) (omega (arith, if1 .left))
+              (e .0) (omega (arith, if2 .left)) (e .1),
+        ),
+      ),
+    )
 
 returns-3 : tie.Need-returns-3
-returns-3 c = λ s n p b w y ns ps k h. let a = c .before .before .before .before .before .before .before .before .before .before .before .before .before .before .before .before .before .before .before .before .before .before .before .before .before .before .before .before .before .before .before .before .before .before .before .before .before .before .before .args in let e = c .before .before .before .before .before .before .before .before .before .before .before .before .before .before .before .before .before .before .before .extends .ensures .1 s domain b (a .book .now) y ns ps k refl (ap (λ (u : DomainUnit). u .base) (domain-is h)) (h .fair .1) in let v = based-of k h (c .before .before .before .before .before .before .before .before .before .before .before .before .before .before .before .before .before .before .before .before .before .before .before .before .before .before .name-ruling .result) (c .before .before .before .before .before .before .before .before .before .before .before .before .before .before .before .before .before .before .before .extends .result .ruling) (c .before .before .before .before .before .before .before .before .before .before .before .before .before .before .before .before .before .before .before .before .before .before .before .before .before .before .name-ruling .ensures s n (w .type) (a .book .now) y ns ps k (ap (λ (u : DomainUnit). u .name) (domain-is h)) (h .fair .0) (ap (λ (u : DomainUnit). u .written .meant) (domain-is h)) (unit-scratch h)) (omega (arith, c .before .before .before .before .before .before .before .before .before .before .before .before .before .before .before .before .before .before .before .before .before .before .if1 .left)) (e .0) (omega (arith, c .before .before .before .before .before .before .before .before .before .before .before .before .before .before .before .before .if2 .left)) (e .1) in judged-late s n p b w (a .text .now) (a .st) (c .before .before .before .before .before .before .before .before .before .before .typed-domain .result) (a .book .now) _ _ _ y ns ps (v .named) (v .extends) (c .before .before .before .before .before .before .before .before .before .before .typed-domain .ensures s n p b w y ns ps v)
+returns-3 c =
+    let back = c .before .before .before .before .before .before .before .before .before .before in
+    let further = back .before .before .before .before .before .before .before .before .before .before in
+    let start = further .before .before .before .before .before .before .before .before .before in
+    let name-ruling = back .before .before .before .before .before .before .before .before .before .name-ruling in
+    let if1 = back .before .before .before .before .before .if1 in
+    let extends = back .before .before .before .extends in
+    let if2 = back .if2 in
+    let typed-domain = c .before .before .before .before .before .before .typed-domain in
+    λ s n p b w hs k h.
+    let e = extends .ensures .1 s domain b (start .args .book .now) hs k refl (ap (λ (u : DomainUnit). u .base) (domain-is h)) (h .fair .1) in
+    let v = based-of k h (name-ruling .result) (extends .result .ruling)
+    (name-ruling .ensures s n (w .type) (start .args .book .now) hs k (ap (λ (u : DomainUnit). u .name) (domain-is h))
+    (h .fair .0) (ap (λ (u : DomainUnit). u .written .meant) (domain-is h)) (unit-scratch h))
+    (omega (arith, if1 .left)) (e .0) (omega (arith, if2 .left)) (e .1) in
+    judged-late s n p b w (start .args .text .now) (start .args .st) (typed-domain .result) (start .args .book .now) _ _ _ _ hs (v .named)
+    (v .extends) (typed-domain .ensures s n p b w hs v)
 
 pub judge-domain-spec : {M : Type 1} → statement M
 judge-domain-spec =
@@ -34,17 +105,13 @@ judge-domain-spec =
     (λ c κs. search needs)
     (λ c. search needs)
     (λ c. search needs)
-    (λ c. search needs)
     returns
     extends-requires
     (λ c κs. search needs)
     (λ c. search needs)
     (λ c. search needs)
-    (λ c. search needs)
     returns-2
     typed-domain-requires
-    (λ c. search needs)
-    (λ c. search needs)
     (λ c. search needs)
     (λ c. search needs)
     (λ c. search needs)

@@ -1,4 +1,4 @@
-use mathlib.Core.Path.{_≡_, _∙_}
+use mathlib.Core.Path.{_∙_}
 use lib.ListN.{length}
 use Rattle.readers.proofs.CodeLaws.{is-name}
 use Rattle.readers.proofs.ReadLaws.{held, expected}
@@ -6,7 +6,7 @@ use Rattle.elements.proofs.ListLaws.{leaf, branch}
 use Rattle.elements.proofs.LoopLaws.{Loop, loop-first, loop-on, loop-falls, whole-deep, whole-final, whole-list}
 use native.Mathlib.Omega.{arith}
 use borrow.Author.Needs.{needs}
-use Prim.Native.Nat.{ℕ, suc, _+_, _-_, _*_, _<_}
+use Prim.Native.Nat.{ℕ, _+_, _-_, _*_, _<_}
 use borrow.Fn.Kinds.{In}
 use borrow.Fn.PlainCycle.{Measures, is, falls, and}
 use Rattle.elements.proofs.element.Reads as element
@@ -20,7 +20,7 @@ use Rattle.elements.proofs.list_end.Reads as list-end-reads
 use Rattle.elements.proofs.put_element.Reads as put-element-reads
 use Rattle.elements.proofs.put_opening.Reads as put-opening-reads
 use Rattle.readers.proofs.expect.Reads as expect-reads
-use Rattle.readers.proofs.faulty.Reads as faulty-reads
+use Rattle.symbols.proofs.faulty.Reads as faulty-reads
 use Rattle.readers.proofs.name_of.Reads as name-of-reads
 use Rattle.elements.proofs.+element+enumeration.{statement}
 use Rattle.elements.proofs.+element+enumeration.Tie.{close}
@@ -55,7 +55,10 @@ element-enumeration-requires : (t : ℕ) → element-lts.Need-enumeration-requir
   enumeration-below t,
   enumeration.Post,
 ) (element-at t) element.Post
-element-enumeration-requires t c κs = (omega (arith, c .before .before .before .before .before .before .before .before .before .before .before .pre .0), (held (expected is-name (c .before .before .before .before .before .before .before .before .expect .ensures)) (c .before .before .before .before .before .before .before .before .before .before .before .pre .1 .0), (c .before .if1 .taken, omega (arith, c .before .before .before .before .before .before .before .before .before .before .before .pre .1 .1))))
+element-enumeration-requires t c κs =
+    let expect = c .before .before .before .before .before .before .before .before .expect in
+    let a = c .before .before .before .before .before .before .before .before .before .before .before in
+    (omega (arith, a .pre .0), (held (expected is-name (expect .ensures)) (a .pre .1), c .before .if1 .taken))
 
 element-same-length : (t : ℕ) → element-lts.Need-same-length (
   expect-reads.Asked,
@@ -67,7 +70,10 @@ element-same-length : (t : ℕ) → element-lts.Need-same-length (
   enumeration-below t,
   enumeration.Post,
 ) (element-at t) element.Post
-element-same-length t c = c .before .before .enumeration .kept .1 .0 ∙ c .before .before .before .before .before .before .before .before .put-element .kept .0
+element-same-length t c =
+    let put-element = c .before .before .before .before .before .before .before .before .put-element in
+    let enumeration = c .before .before .enumeration in
+    enumeration .kept .1 .0 ∙ put-element .kept .0
 
 element-returns : (t : ℕ) → element-lts.Need-returns (
   expect-reads.Asked,
@@ -79,7 +85,15 @@ element-returns : (t : ℕ) → element-lts.Need-returns (
   enumeration-below t,
   enumeration.Post,
 ) (element-at t) element.Post
-element-returns t c = let h : 8 - c .before .before .before .before .before .before .before .before .before .before .before .before .before .before .args .nesting ≡ suc (7 - c .before .before .before .before .before .before .before .before .before .before .before .before .before .before .args .nesting) = omega (arith, c .before .before .before .before .before .before .before .before .before .before .before .before .before .before .pre .1 .1) in branch (c .before .before .before .before .before .before .before .before .before .before .before .before .before .before .args .text .now) (7 - c .before .before .before .before .before .before .before .before .before .before .before .before .before .before .args .nesting) (c .before .before .before .before .before .before .before .before .before .before .before .expect .ensures) _ _ _ _ (rw (c .before .before .before .before .before .before .before .before .before .name-of .ensures) at (c .before .before .before .before .before .before .before .before .put-element .ensures)) _ _ (c .before .before .before .before .before .before .before .before .put-element .kept .0) (c .before .before .before .before .if1 .taken) (rw h at (c .before .before .enumeration .ensures))
+element-returns t c =
+    let if1 = c .before .before .before .before .if1 in
+    let enumeration = c .before .before .enumeration in
+    let m = c .before .before .before .before .before .before .before .before in
+    let r = m .before .before .before in
+    let a = r .before .before .before .args in
+    branch (a .text .now) (a .nesting) (r .expect .ensures) _ _ _ _
+    (rw (m .before .name-of .ensures) at (m .put-element .ensures)) _ _ (m .put-element .kept .0)
+    (if1 .taken) (enumeration .ensures)
 
 element-same-length-2 : (t : ℕ) → element-lts.Need-same-length-2 (
   expect-reads.Asked,
@@ -103,13 +117,17 @@ element-returns-2 : (t : ℕ) → element-lts.Need-returns-2 (
   enumeration-below t,
   enumeration.Post,
 ) (element-at t) element.Post
-element-returns-2 t c = leaf (c .before .before .before .before .before .before .before .before .before .before .args .text .now) (7 - c .before .before .before .before .before .before .before .before .before .before .args .nesting) (c .before .before .before .before .before .before .before .expect .ensures) _ _ _ _ (rw (c .before .before .before .before .before .name-of .ensures) at (c .before .before .before .before .put-element .ensures)) (c .if1 .left)
+element-returns-2 t c =
+    let m = c .before .before .before .before in
+    let r = m .before .before .before in
+    let a = r .before .before .before .args in
+    leaf (a .text .now) (a .nesting) (r .expect .ensures) _ _ _ _ (rw (m .before .name-of .ensures) at (m .put-element .ensures)) (c .if1 .left)
 
 abbrev enumeration-Inv-loop : enumeration-lts.InvT-loop
-enumeration-Inv-loop text records₀ start nesting z₀ at₀ records z at = Loop text start nesting records₀ z₀ at₀ records z at
+enumeration-Inv-loop text scratch₀ start nesting z₀ at₀ scratch z at = Loop text start nesting scratch₀ z₀ at₀ scratch z at
 
 abbrev enumeration-μ-loop : enumeration-lts.MeasureT-loop
-enumeration-μ-loop text records₀ start nesting z₀ at₀ records z at = length text - z .place
+enumeration-μ-loop text scratch₀ start nesting z₀ at₀ scratch z at = length text - z .place
 
 enumeration-returns : (t : ℕ) → enumeration-lts.Need-returns (
   faulty-reads.Asked,
@@ -125,7 +143,9 @@ enumeration-returns : (t : ℕ) → enumeration-lts.Need-returns (
   list-end-reads.Asked,
   list-end-reads.Learnt,
 ) (enumeration-at t) enumeration.Post enumeration-Inv-loop enumeration-μ-loop
-enumeration-returns t c = whole-deep (c .before .before .before .before .args .text .now) (c .before .before .before .before .args .start) (c .before .before .before .before .args .nesting) _ _ _ _ (c .before .if1 .taken) (c .before .before .before .before .pre .1 .1 .0) (c .faulty .ensures)
+enumeration-returns t c =
+    let a = c .before .before .before .before in
+    whole-deep (a .args .text .now) (a .args .start) (a .args .nesting) _ _ _ _ (c .before .if1 .taken) (a .pre .1 .1) (c .faulty .ensures)
 
 enumeration-same-length : (t : ℕ) → enumeration-lts.Need-same-length (
   faulty-reads.Asked,
@@ -141,7 +161,10 @@ enumeration-same-length : (t : ℕ) → enumeration-lts.Need-same-length (
   list-end-reads.Asked,
   list-end-reads.Learnt,
 ) (enumeration-at t) enumeration.Post enumeration-Inv-loop enumeration-μ-loop
-enumeration-same-length t c = c .before .before .close-final .kept .1 .0 ∙ c .before .before .before .before .before .before .before .before .put-opening .kept .0
+enumeration-same-length t c =
+    let put-opening = c .before .before .before .before .before .before .before .before .put-opening in
+    let close-final = c .before .before .close-final in
+    close-final .kept .1 .0 ∙ put-opening .kept .0
 
 enumeration-returns-2 : (t : ℕ) → enumeration-lts.Need-returns-2 (
   faulty-reads.Asked,
@@ -157,7 +180,14 @@ enumeration-returns-2 : (t : ℕ) → enumeration-lts.Need-returns-2 (
   list-end-reads.Asked,
   list-end-reads.Learnt,
 ) (enumeration-at t) enumeration.Post enumeration-Inv-loop enumeration-μ-loop
-enumeration-returns-2 t c = whole-final (c .before .before .before .before .before .before .before .before .before .before .before .before .before .before .args .text .now) (c .before .before .before .before .before .before .before .before .before .before .before .before .before .before .args .start) (c .before .before .before .before .before .before .before .before .before .before .before .before .before .before .args .nesting) _ _ _ _ _ _ _ _ (c .before .before .before .before .before .before .before .before .before .before .expect .ensures) (c .before .before .before .before .before .before .before .before .put-opening .ensures) (c .before .before .before .before .before .before .before .before .put-opening .kept .0) (omega (arith, c .before .before .before .before .before .before .before .before .before .before .before .if1 .left)) (c .before .before .before .before .if2 .taken) (c .before .before .close-final .ensures)
+enumeration-returns-2 t c =
+    let if2 = c .before .before .before .before .if2 in
+    let close-final = c .before .before .close-final in
+    let m = c .before .before .before .before .before .before .before .before in
+    let r = m .before .before in
+    let a = r .before .before .before .before .args in
+    whole-final (a .text .now) (a .start) (a .nesting) _ _ _ _ _ _ _ _ (r .expect .ensures) (m .put-opening .ensures) (m .put-opening .kept .0)
+    (omega (arith, r .before .if1 .left)) (if2 .taken) (close-final .ensures)
 
 enumeration-loop-holds : (t : ℕ) → enumeration-lts.Need-loop-holds (
   faulty-reads.Asked,
@@ -173,7 +203,10 @@ enumeration-loop-holds : (t : ℕ) → enumeration-lts.Need-loop-holds (
   list-end-reads.Asked,
   list-end-reads.Learnt,
 ) (enumeration-at t) enumeration.Post enumeration-Inv-loop enumeration-μ-loop
-enumeration-loop-holds t c = loop-first (c .before .before .before .before .before .before .before .before .before .before .args .text .now) (c .before .before .before .before .before .before .before .before .before .before .args .start) (c .before .before .before .before .before .before .before .before .before .before .args .nesting) _ (c .before .before .before .before .before .before .before .before .before .before .args .y) _ _ (c .before .before .before .before .before .before .before .before .before .before .pre .1 .0) (c .before .before .before .before .before .before .expect .ensures)
+enumeration-loop-holds t c =
+    let r = c .before .before .before .before .before .before in
+    let a = r .before .before .before .before in
+    loop-first (a .args .text .now) (a .args .start) (a .args .nesting) _ (a .args .y) _ _ (a .pre .1 .0) (r .expect .ensures)
 
 enumeration-element-requires : (t : ℕ) → enumeration-lts.Need-element-requires (
   faulty-reads.Asked,
@@ -189,7 +222,9 @@ enumeration-element-requires : (t : ℕ) → enumeration-lts.Need-element-requir
   list-end-reads.Asked,
   list-end-reads.Learnt,
 ) (enumeration-at t) enumeration.Post enumeration-Inv-loop enumeration-μ-loop
-enumeration-element-requires t c κs = (omega (arith, c .before .before .before .before .before .before .before .before .before .before .before .before .pre .0, c .before .before .before .before .before .before .before .before .before .if1 .left), (c .before .loop .inv .1, omega (arith, c .before .before .before .before .before .before .before .before .before .before .before .before .pre .1 .1 .1)))
+enumeration-element-requires t c κs =
+    let m = c .before .before .before .before .before .before .before .before .before in
+    (omega (arith, m .before .before .before .pre .0, m .if1 .left), c .before .loop .inv .1)
 
 enumeration-loop-less : (t : ℕ) → enumeration-lts.Need-loop-less (
   faulty-reads.Asked,
@@ -205,7 +240,12 @@ enumeration-loop-less : (t : ℕ) → enumeration-lts.Need-loop-less (
   list-end-reads.Asked,
   list-end-reads.Learnt,
 ) (enumeration-at t) enumeration.Post enumeration-Inv-loop enumeration-μ-loop
-enumeration-loop-less t c = loop-falls (c .before .before .before .before .before .before .before .before .before .before .before .before .before .before .before .before .before .before .before .args .text .now) (c .before .before .before .before .before .before .before .before .before .before .before .before .before .before .before .before .before .before .before .args .start) (c .before .before .before .before .before .before .before .before .before .before .before .before .before .before .before .before .before .before .before .args .nesting) _ _ _ _ _ _ _ _ _ _ (c .before .before .before .before .before .before .before .before .loop .inv) (omega (arith, c .before .before .before .before .before .before .before .before .before .before .before .before .before .before .before .before .if1 .left)) (c .before .before .before .before .before .before .element .ensures) (c .before .if3 .taken) (c .expect2 .ensures)
+enumeration-loop-less t c =
+    let e = c .before .before .before .before .before .before in
+    let m = e .before .before .before .before .before .before .before .before .before .before in
+    let a = m .before .before .before .args in
+    loop-falls (a .text .now) (a .start) (a .nesting) _ _ _ _ _ _ _ _ _ _ (e .before .before .loop .inv) (omega (arith, m .if1 .left)) (e .element .ensures)
+    (c .before .if3 .taken) (c .expect2 .ensures)
 
 enumeration-loop-again : (t : ℕ) → enumeration-lts.Need-loop-again (
   faulty-reads.Asked,
@@ -221,7 +261,12 @@ enumeration-loop-again : (t : ℕ) → enumeration-lts.Need-loop-again (
   list-end-reads.Asked,
   list-end-reads.Learnt,
 ) (enumeration-at t) enumeration.Post enumeration-Inv-loop enumeration-μ-loop
-enumeration-loop-again t c = loop-on (c .before .before .before .before .before .before .before .before .before .before .before .before .before .before .before .before .before .before .before .args .text .now) (c .before .before .before .before .before .before .before .before .before .before .before .before .before .before .before .before .before .before .before .args .start) (c .before .before .before .before .before .before .before .before .before .before .before .before .before .before .before .before .before .before .before .args .nesting) _ _ _ _ _ _ _ _ _ _ (c .before .before .before .before .before .before .before .before .loop .inv) (omega (arith, c .before .before .before .before .before .before .before .before .before .before .before .before .before .before .before .before .if1 .left)) (c .before .before .before .before .before .before .element .ensures) (c .before .if3 .taken) (c .expect2 .ensures) (c .before .before .before .before .before .before .element .kept .1 .0)
+enumeration-loop-again t c =
+    let e = c .before .before .before .before .before .before in
+    let m = e .before .before .before .before .before .before .before .before .before .before in
+    let a = m .before .before .before .args in
+    loop-on (a .text .now) (a .start) (a .nesting) _ _ _ _ _ _ _ _ _ _ (e .before .before .loop .inv) (omega (arith, m .if1 .left)) (e .element .ensures)
+    (c .before .if3 .taken) (c .expect2 .ensures) (e .element .kept .1 .0)
 
 enumeration-same-length-2 : (t : ℕ) → enumeration-lts.Need-same-length-2 (
   faulty-reads.Asked,
@@ -237,7 +282,11 @@ enumeration-same-length-2 : (t : ℕ) → enumeration-lts.Need-same-length-2 (
   list-end-reads.Asked,
   list-end-reads.Learnt,
 ) (enumeration-at t) enumeration.Post enumeration-Inv-loop enumeration-μ-loop
-enumeration-same-length-2 t c = c .before .before .list-end .kept .1 .0 ∙ c .before .before .before .before .before .before .before .before .before .element .kept .1 .0 ∙ c .before .before .before .before .before .before .before .before .before .before .before .loop .inv .0 ∙ c .before .before .before .before .before .before .before .before .before .before .before .before .before .before .before .before .put-opening .kept .0
+enumeration-same-length-2 t c =
+    let list-end = c .before .before .list-end in
+    let e = c .before .before .before .before .before .before .before .before .before in
+    let l = e .before .before in
+    list-end .kept .1 .0 ∙ e .element .kept .1 .0 ∙ l .loop .inv .0 ∙ l .before .before .before .before .before .put-opening .kept .0
 
 enumeration-returns-3 : (t : ℕ) → enumeration-lts.Need-returns-3 (
   faulty-reads.Asked,
@@ -253,7 +302,17 @@ enumeration-returns-3 : (t : ℕ) → enumeration-lts.Need-returns-3 (
   list-end-reads.Asked,
   list-end-reads.Learnt,
 ) (enumeration-at t) enumeration.Post enumeration-Inv-loop enumeration-μ-loop
-enumeration-returns-3 t c = whole-list (c .before .before .before .before .before .before .before .before .before .before .before .before .before .before .before .before .before .before .before .before .before .before .args .text .now) (c .before .before .before .before .before .before .before .before .before .before .before .before .before .before .before .before .before .before .before .before .before .before .args .start) (c .before .before .before .before .before .before .before .before .before .before .before .before .before .before .before .before .before .before .before .before .before .before .args .nesting) _ _ _ _ _ _ _ _ (c .before .before .before .before .before .before .before .before .before .before .before .before .before .before .before .before .before .before .expect .ensures) (c .before .before .before .before .before .before .before .before .before .before .before .before .before .before .before .before .put-opening .ensures) (c .before .before .before .before .before .before .before .before .before .before .before .before .before .before .before .before .put-opening .kept .0) (omega (arith, c .before .before .before .before .before .before .before .before .before .before .before .before .before .before .before .before .before .before .before .if1 .left)) (c .before .before .before .before .before .before .before .before .before .before .before .before .if2 .left) _ _ _ _ _ _ (c .before .before .before .before .before .before .before .before .before .before .before .loop .inv) (c .before .before .before .before .before .before .before .before .before .element .ensures) (c .before .before .before .before .before .before .before .before .before .element .kept .1 .0) (c .before .before .before .before .if3 .left) (c .before .before .list-end .ensures)
+enumeration-returns-3 t c =
+    let if3 = c .before .before .before .before .if3 in
+    let list-end = c .before .before .list-end in
+    let e = c .before .before .before .before .before .before .before .before .before in
+    let l = e .before .before in
+    let o = l .before .before .before .before .before in
+    let r = o .before .before in
+    let a = r .before .before .before .before .args in
+    whole-list (a .text .now) (a .start) (a .nesting) _ _ _ _ _ _ _ _ (r .expect .ensures) (o .put-opening .ensures) (o .put-opening .kept .0)
+    (omega (arith, r .before .if1 .left)) (l .before .if2 .left) _ _ _ _ _ _ (l .loop .inv) (e .element .ensures) (e .element .kept .1 .0)
+    (if3 .left) (list-end .ensures)
 
 pub +element+enumeration-spec : {M : Type 1} → statement M
 +element+enumeration-spec = close μ-element μ-enumeration (λ t. element-lts.spec (

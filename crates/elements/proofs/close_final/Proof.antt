@@ -4,7 +4,11 @@ use Rattle.elements.proofs.close_final.Statement.{statement}
 use Rattle.elements.proofs.close_final.Tie as tie
 
 returns : tie.Need-returns
-returns c = closes-final (c .before .before .before .before .before .expect .ensures) (c .before .before .before .before .expect2 .ensures) (c .before .before .put-close .ensures)
+returns c =
+    let expect = c .before .before .before .before .before .expect in
+    let expect2 = c .before .before .before .before .expect2 in
+    let put-close = c .before .before .put-close in
+    closes-final (expect .ensures) (expect2 .ensures) (put-close .ensures)
 
 pub close-final-spec : {M : Type 1} → statement M
 close-final-spec =

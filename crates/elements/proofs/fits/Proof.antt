@@ -9,10 +9,14 @@ returns : tie.Need-returns
 returns c = sym (lt-leb (c .before .args .at + c .before .args .n) (c .before .args .total) (omega arith))
 
 returns-2 : tie.Need-returns-2
-returns-2 c = sym (lt-leb (c .before .before .args .at + c .before .before .args .n) (c .before .before .args .total) (omega arith))
+returns-2 c =
+    let s = c .before .before in
+    sym (lt-leb (s .args .at + s .args .n) (s .args .total) (omega arith))
 
 returns-3 : tie.Need-returns-3
-returns-3 c = sym (le-leb (c .before .before .args .at + c .before .before .args .n) (c .before .before .args .total) (omega arith))
+returns-3 c =
+    let s = c .before .before in
+    sym (le-leb (s .args .at + s .args .n) (s .args .total) (omega arith))
 
 pub fits-spec : {M : Type 1} → statement M
 fits-spec = tie.close (tie.spec returns returns-2 returns-3)

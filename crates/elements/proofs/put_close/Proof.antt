@@ -9,26 +9,46 @@ use borrow.Author.Needs.{needs}
 use Rattle.elements.proofs.put_close.Statement.{statement}
 use Rattle.elements.proofs.put_close.Tie as tie
 
-slice-write-records : tie.Need-slice-write-records
-slice-write-records c = let h : c .before .before .before .before .before .before .args .at + 1 ≤ length (c .before .before .before .before .before .before .args .records .now) = leb-true _ _ (sym (c .before .before .before .before .fits2 .ensures) ∙ c .before .before .before .if1 .taken) in omega arith
+slice-write-scratch : tie.Need-slice-write-scratch
+slice-write-scratch c =
+    let s = c .before .before .before .before .before .before in
+    let fits2 = c .before .before .before .before .fits2 in
+    let if1 = c .before .before .before .if1 in
+    let h : s .args .at + 1 ≤ length (s .args .scratch .now) = leb-true _ _ (sym (fits2 .ensures) ∙ if1 .taken) in omega arith
 
-slice-write-records-2 : tie.Need-slice-write-records-2
-slice-write-records-2 c = let h : c .before .before .before .before .before .before .args .at + 1 ≤ length (c .before .before .before .before .before .before .args .records .now) = leb-true _ _ (sym (c .before .before .before .before .fits2 .ensures) ∙ c .before .before .before .if1 .taken) in simp length-set (omega arith)
+slice-write-scratch-2 : tie.Need-slice-write-scratch-2
+slice-write-scratch-2 c =
+    let s = c .before .before .before .before .before .before in
+    let fits2 = c .before .before .before .before .fits2 in
+    let if1 = c .before .before .before .if1 in
+    let h : s .args .at + 1 ≤ length (s .args .scratch .now) = leb-true _ _ (sym (fits2 .ensures) ∙ if1 .taken) in simp length-set (omega arith)
 
 add-result : tie.Need-add-result
-add-result c = let h : c .before .before .before .before .before .before .args .at + 1 ≤ length (c .before .before .before .before .before .before .args .records .now) = leb-true _ _ (sym (c .before .before .before .before .fits2 .ensures) ∙ c .before .before .before .if1 .taken) in omega arith
+add-result c =
+    let s = c .before .before .before .before .before .before in
+    let fits2 = c .before .before .before .before .fits2 in
+    let if1 = c .before .before .before .if1 in
+    let h : s .args .at + 1 ≤ length (s .args .scratch .now) = leb-true _ _ (sym (fits2 .ensures) ∙ if1 .taken) in omega arith
 
 returns : tie.Need-returns
-returns c = close-law _ _ _ (c .before .before .before .before .before .before .args .last) _ (c .flag .ensures)
+returns c =
+    let s = c .before .before .before .before .before .before in
+    close-law _ _ _ (s .args .is-final) _ (c .flag .ensures)
 
 returns-2 : tie.Need-returns-2
-returns-2 c = close-not _ _ _ (c .before .before .before .before .before .args .last) (inr (omega arith)) _ _
+returns-2 c =
+    let s = c .before .before .before .before .before in
+    close-not _ _ _ (s .args .is-final) (inr (omega arith)) _ _
 
 returns-3 : tie.Need-returns-3
-returns-3 c = close-not _ _ _ (c .before .before .before .before .args .last) (inr (omega arith)) _ _
+returns-3 c =
+    let s = c .before .before .before .before in
+    close-not _ _ _ (s .args .is-final) (inr (omega arith)) _ _
 
 returns-4 : tie.Need-returns-4
-returns-4 c = close-not _ _ _ (c .before .before .before .args .last) (inl (leb-false _ _ (sym (c .before .fits2 .ensures) ∙ c .if1 .left))) _ _
+returns-4 c =
+    let s = c .before .before .before in
+    close-not _ _ _ (s .args .is-final) (inl (leb-false _ _ (sym (c .before .fits2 .ensures) ∙ c .if1 .left))) _ _
 
 pub put-close-spec : {M : Type 1} → statement M
 put-close-spec =
@@ -38,8 +58,8 @@ put-close-spec =
     (λ c. search needs)
     (λ c κs. search needs)
     (λ c. search needs)
-    slice-write-records
-    slice-write-records-2
+    slice-write-scratch
+    slice-write-scratch-2
     add-result
     (λ c. search needs)
     returns

@@ -6,18 +6,33 @@ use native.Mathlib.Omega.{arith}
 use borrow.Author.Needs.{needs}
 use Rattle.elements.proofs.put_element.Statement.{statement}
 use Rattle.elements.proofs.put_element.Tie as tie
+use Rattle.book.specs.Sizes.{elementSize}
 
 put-requires : tie.Need-put-requires
-put-requires c κs = let h : c .before .before .before .before .before .before .args .at + 6 ≤ length (c .before .before .before .before .before .before .args .records .now) = leb-true _ _ (sym (c .before .before .before .before .fits2 .ensures) ∙ c .before .before .before .if1 .taken) in rw (c .before .before .name-record .ensures) (omega arith)
+put-requires c κs =
+    let s = c .before .before .before .before .before .before in
+    let fits2 = c .before .before .before .before .fits2 in
+    let if1 = c .before .before .before .if1 in
+    let name-record = c .before .before .name-record in
+    let h : s .args .at + elementSize ≤ length (s .args .scratch .now) = leb-true _ _ (sym (fits2 .ensures) ∙ if1 .taken) in rw (name-record .ensures) (omega arith)
 
 add-result : tie.Need-add-result
-add-result c = let h : c .before .before .before .before .before .before .before .before .before .args .at + 6 ≤ length (c .before .before .before .before .before .before .before .before .before .args .records .now) = leb-true _ _ (sym (c .before .before .before .before .before .before .before .fits2 .ensures) ∙ c .before .before .before .before .before .before .if1 .taken) in omega arith
+add-result c =
+    let s = c .before .before .before .before .before .before .before .before .before in
+    let fits2 = c .before .before .before .before .before .before .before .fits2 in
+    let if1 = c .before .before .before .before .before .before .if1 in
+    let h : s .args .at + elementSize ≤ length (s .args .scratch .now) = leb-true _ _ (sym (fits2 .ensures) ∙ if1 .taken) in omega arith
 
 returns : tie.Need-returns
-returns c = λ _. (refl, c .before .before .put .ensures ∙ rw (c .before .before .before .before .before .name-record .ensures))
+returns c =
+    let name-record = c .before .before .before .before .before .name-record in
+    let put = c .before .before .put in
+    λ _. (refl, put .ensures ∙ rw (name-record .ensures))
 
 returns-2 : tie.Need-returns-2
-returns-2 c = let h : length (c .before .before .before .args .records .now) < c .before .before .before .args .at + 6 = leb-false _ _ (sym (c .before .fits2 .ensures) ∙ c .if1 .left) in λ k. absurd (omega arith)
+returns-2 c =
+    let s = c .before .before .before in
+    let h : length (s .args .scratch .now) < s .args .at + elementSize = leb-false _ _ (sym (c .before .fits2 .ensures) ∙ c .if1 .left) in λ k. absurd (omega arith)
 
 pub put-element-spec : {M : Type 1} → statement M
 put-element-spec =

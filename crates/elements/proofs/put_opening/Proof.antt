@@ -7,33 +7,44 @@ use native.Mathlib.Omega.{arith}
 use borrow.Author.Needs.{needs}
 use Rattle.elements.proofs.put_opening.Statement.{statement}
 use Rattle.elements.proofs.put_opening.Tie as tie
+use Rattle.book.specs.Sizes.{listSize}
 
-slice-write-records : tie.Need-slice-write-records
-slice-write-records c = let h : c .before .before .before .args .at + 2 ≤ length (c .before .before .before .args .records .now) = leb-true _ _ (sym (c .before .fits2 .ensures) ∙ c .if1 .taken) in omega arith
+slice-write-scratch : tie.Need-slice-write-scratch
+slice-write-scratch c =
+    let s = c .before .before .before in
+    let h : s .args .at + listSize ≤ length (s .args .scratch .now) = leb-true _ _ (sym (c .before .fits2 .ensures) ∙ c .if1 .taken) in omega arith
 
-add-records : tie.Need-add-records
-add-records c = let h : c .before .before .before .args .at + 2 ≤ length (c .before .before .before .args .records .now) = leb-true _ _ (sym (c .before .fits2 .ensures) ∙ c .if1 .taken) in omega arith
+add-scratch : tie.Need-add-scratch
+add-scratch c =
+    let s = c .before .before .before in
+    let h : s .args .at + listSize ≤ length (s .args .scratch .now) = leb-true _ _ (sym (c .before .fits2 .ensures) ∙ c .if1 .taken) in omega arith
 
-slice-write-records-2 : tie.Need-slice-write-records-2
-slice-write-records-2 c = let h : c .before .before .before .args .at + 2 ≤ length (c .before .before .before .args .records .now) = leb-true _ _ (sym (c .before .fits2 .ensures) ∙ c .if1 .taken) in simp length-set (omega arith)
+slice-write-scratch-2 : tie.Need-slice-write-scratch-2
+slice-write-scratch-2 c =
+    let s = c .before .before .before in
+    let h : s .args .at + listSize ≤ length (s .args .scratch .now) = leb-true _ _ (sym (c .before .fits2 .ensures) ∙ c .if1 .taken) in simp length-set (omega arith)
 
 add-result : tie.Need-add-result
-add-result c = let h : c .before .before .before .args .at + 2 ≤ length (c .before .before .before .args .records .now) = leb-true _ _ (sym (c .before .fits2 .ensures) ∙ c .if1 .taken) in omega arith
+add-result c =
+    let s = c .before .before .before in
+    let h : s .args .at + listSize ≤ length (s .args .scratch .now) = leb-true _ _ (sym (c .before .fits2 .ensures) ∙ c .if1 .taken) in omega arith
 
 returns : tie.Need-returns
 returns c = λ h. (refl, put-two _ _ _ _ h)
 
 returns-2 : tie.Need-returns-2
-returns-2 c = let h : length (c .before .before .before .args .records .now) < c .before .before .before .args .at + 2 = leb-false _ _ (sym (c .before .fits2 .ensures) ∙ c .if1 .left) in λ k. absurd (omega arith)
+returns-2 c =
+    let s = c .before .before .before in
+    let h : length (s .args .scratch .now) < s .args .at + listSize = leb-false _ _ (sym (c .before .fits2 .ensures) ∙ c .if1 .left) in λ k. absurd (omega arith)
 
 pub put-opening-spec : {M : Type 1} → statement M
 put-opening-spec =
     tie.close
     (tie.spec
     (λ c κs. search needs)
-    slice-write-records
-    add-records
-    slice-write-records-2
+    slice-write-scratch
+    add-scratch
+    slice-write-scratch-2
     add-result
     (λ c. search needs)
     returns

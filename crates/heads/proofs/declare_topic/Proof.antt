@@ -1,30 +1,64 @@
 use mathlib.Core.Path.{ap, _∙_}
-use Prim.Native.Nat.{ℕ, _+_}
+use Prim.Native.Nat.{_+_}
 use Rattle.rules.specs.Declarations.{known}
 use Rattle.rules.specs.Judge.{newTopic}
-use Rattle.ground.specs.declared.Name.{Name}
-use Rattle.names.specs.Chains.{keyOf}
 use Rattle.names.specs.References.{bytesOf}
 use Rattle.state.specs.declared.State.{State}
 use Rattle.state.specs.Next.{inTopicBy}
-use Rattle.heads.proofs.UnitLaws.{topic-declared}
+use Rattle.state.proofs.RoomLaws.{definition-rows}
+use Rattle.heads.proofs.UnitLaws.{topic-narrow, topic-declared}
 use native.Mathlib.Omega.{arith}
 use borrow.Author.Needs.{needs}
 use Rattle.heads.proofs.declare_topic.Statement.{statement}
 use Rattle.heads.proofs.declare_topic.Tie as tie
 
+declare-requires : tie.Need-declare-requires
+declare-requires c κs =
+    let s = c .before .before .before .before .before .before .before .before .before .before in (
+      s .pre .1 .2,
+      topic-narrow (s .args .text .now) (s .args .st) (s .args .name) _ (s .pre .0 .0) (s .pre .0 .1) (s .pre .1 .0) (s .pre .0 .2) (s .pre .1 .1),
+      s .pre .0 .0,
+      omega (arith, s .pre .1 .0, s .pre .0 .2, s .pre .1 .1 .rows),
+    )
+
 add-home : tie.Need-add-home
-add-home c = omega (arith, c .before .before .before .before .before .before .before .before .before .before .before .before .before .before .before .before .before .before .before .before .before .pre .0 .2, c .before .before .before .before .before .before .before .before .before .before .before .before .before .before .before .before .before .before .before .before .before .pre .0 .3, c .before .before .before .before .before .before .before .before .before .before .before .before .before .before .before .before .before .before .before .before .before .pre .0 .4 .fewer, c .before .before .before .before .before .before .before .before .before .before .before .before .before .before .before .before .before .before .before .before .before .pre .0 .4 .defined, c .before .before .before .before .before .before .before .before .before .before .before .before .before .before .before .before .before .before .before .before .before .pre .0 .4 .rows)
+add-home c =
+    let back = c .before .before .before .before .before .before .before .before .before .before in
+    let s = back .before .before .before .before in
+    omega (arith, s .pre .1 .0, s .pre .0 .2, s .pre .1 .1 .fewer)
 
 declared-requires : tie.Need-declared-requires
-declared-requires c κs = (omega (arith, c .before .before .before .before .before .before .before .before .before .before .before .before .before .before .before .before .before .before .before .before .before .pre .0 .2, c .before .before .before .before .before .before .before .before .before .before .before .before .before .before .before .before .before .before .before .before .before .pre .0 .3, c .before .before .before .before .before .before .before .before .before .before .before .before .before .before .before .before .before .before .before .before .before .pre .0 .4 .fewer, c .before .before .before .before .before .before .before .before .before .before .before .before .before .before .before .before .before .before .before .before .before .pre .0 .4 .defined, c .before .before .before .before .before .before .before .before .before .before .before .before .before .before .before .before .before .before .before .before .before .pre .0 .4 .rows), omega (arith, c .before .before .before .before .before .before .before .before .before .before .before .before .before .before .before .before .before .before .before .before .before .pre .0 .2, c .before .before .before .before .before .before .before .before .before .before .before .before .before .before .before .before .before .before .before .before .before .pre .0 .3, c .before .before .before .before .before .before .before .before .before .before .before .before .before .before .before .before .before .before .before .before .before .pre .0 .4 .fewer, c .before .before .before .before .before .before .before .before .before .before .before .before .before .before .before .before .before .before .before .before .before .pre .0 .4 .defined, c .before .before .before .before .before .before .before .before .before .before .before .before .before .before .before .before .before .before .before .before .before .pre .0 .4 .rows), omega (arith, c .before .before .before .before .before .before .before .before .before .before .before .before .before .before .before .before .before .before .before .before .before .pre .0 .2, c .before .before .before .before .before .before .before .before .before .before .before .before .before .before .before .before .before .before .before .before .before .pre .0 .3, c .before .before .before .before .before .before .before .before .before .before .before .before .before .before .before .before .before .before .before .before .before .pre .0 .4 .fewer, c .before .before .before .before .before .before .before .before .before .before .before .before .before .before .before .before .before .before .before .before .before .pre .0 .4 .defined, c .before .before .before .before .before .before .before .before .before .before .before .before .before .before .before .before .before .before .before .before .before .pre .0 .4 .rows), omega (arith, c .before .before .before .before .before .before .before .before .before .before .before .before .before .before .before .before .before .before .before .before .before .pre .0 .2, c .before .before .before .before .before .before .before .before .before .before .before .before .before .before .before .before .before .before .before .before .before .pre .0 .3, c .before .before .before .before .before .before .before .before .before .before .before .before .before .before .before .before .before .before .before .before .before .pre .0 .4 .fewer, c .before .before .before .before .before .before .before .before .before .before .before .before .before .before .before .before .before .before .before .before .before .pre .0 .4 .defined, c .before .before .before .before .before .before .before .before .before .before .before .before .before .before .before .before .before .before .before .before .before .pre .0 .4 .rows))
+declared-requires c κs =
+    let back = c .before .before .before .before .before .before .before .before .before .before in
+    let s = back .before .before .before .before in (
+      (
+        omega (arith, s .pre .1 .0, s .pre .0 .2),
+        omega (arith, s .pre .1 .0, s .pre .0 .2, s .pre .1 .1 .fewer),
+        omega (arith, s .pre .1 .0, s .pre .0 .2, s .pre .1 .1 .fewer, s .pre .1 .1 .defined),
+      ),
+      omega (arith, s .pre .1 .0, s .pre .0 .2, s .pre .1 .1 .rows),
+    )
 
 same-length : tie.Need-same-length
-same-length c = c .before .before .before .before .before .before .before .before .before .before .before .before .before .before .before .put .kept .0
+same-length c = c .before .before .before .before .before .before .before .before .before .put .kept .0
 
 returns : tie.Need-returns
 unfolding newTopic
-returns c = let es = c .in-topic .ensures ∙ ap (λ (u : State). inTopicBy u (c .before .before .before .before .before .before .before .before .before .before .before .before .before .before .before .before .before .before .before .before .before .before .before .args .name) (c .before .before .before .before .before .before .before .before .before .before .before .before .before .before .before .before .before .before .before .before .before .before .before .args .st .records + 1)) (c .before .declared .ensures) in (es, λ s n y ns ps k e h w f. topic-declared (c .before .before .before .before .before .before .before .before .before .before .before .before .before .before .before .before .before .before .before .before .before .before .before .args .text .now) s (c .before .before .before .before .before .before .before .before .before .before .before .before .before .before .before .before .before .before .before .before .before .before .before .args .st) (c .before .before .before .before .before .before .before .before .before .before .before .before .before .before .before .before .before .before .before .before .before .before .before .args .book .now) (c .before .before .before .before .before .before .before .before .before .before .before .before .before .before .before .before .before .before .before .before .before .before .before .args .index .now) (c .before .before .before .before .before .before .before .before .before .before .before .before .before .before .before .before .before .before .before .before .before .before .before .args .chains .now) y ns ps k n (c .before .before .before .before .before .before .before .before .before .before .before .before .before .before .before .before .before .before .before .before .before .before .before .args .name) e h w _ es _ _ (c .before .before .before .before .before .before .before .before .before .before .before .before .before .before .before .before .before .before .name-record .ensures) (c .before .before .before .before .before .before .before .before .before .before .before .before .before .before .before .put .ensures) (c .before .before .before .before .before .before .before .before .before .before .before .before .before .before .before .before .before .before .before .before .before .before .before .pre .0 .2) _ (c .before .before .before .before .before .before .before .before .before .before .enter .ensures) (c .before .before .before .before .before .before .before .before .before .before .before .before .before .before .before .before .before .before .before .before .before .before .before .pre .1 .0) _ (c .before .before .before .before .before .make-known .ensures (known (s .decls)) (newTopic s n) (k .chained) (ap (λ (i : ℕ). i + 1) (k .held .all-defs)) (c .before .before .before .before .before .before .before .key-of .ensures .0 ∙ ap (λ (m : Name). keyOf (bytesOf (c .before .before .before .before .before .before .before .before .before .before .before .before .before .before .before .before .before .before .before .before .before .before .before .args .text .now) m)) e ∙ ap keyOf (h .there))) f)
+returns c =
+    let back = c .before .before .before .before .before .before .before .before .before .before in
+    let start = back .before .before .before .before .before .before in
+    let name-record = back .before .before .name-record in
+    let put = c .before .before .before .before .before .before .before .before .before .put in
+    let declare = c .before .before .before .before .before .declare in (
+      c .in-topic .ensures ∙ ap (λ (u : State). inTopicBy u (start .args .name) (start .args .st .extent .records + 1)) (c .before .declared .ensures),
+      λ s n hs k e h o f.
+          topic-declared (start .args .text .now) s (start .args .st) (start .args .book .now) _ _ _ hs k n
+          (start .args .name) e h o _ _ (name-record .ensures) (put .ensures) (start .pre .1 .0)
+          _ (declare .ensures .0)
+          (definition-rows (start .args .st) (start .args .work .now) (start .pre .1 .2)
+          (start .args .st .listing .count + 2) (omega arith)) _ (declare .ensures .1)
+          _ (declare .ensures .2 (known (s .decls)) (newTopic s n) (k .chained) (k .held .all-defs) (ap (bytesOf (start .args .text .now)) e ∙ h .there)) f,
+    )
 
 pub declare-topic-spec : {M : Type 1} → statement M
 declare-topic-spec =
@@ -33,14 +67,10 @@ declare-topic-spec =
     (λ c κs. search needs)
     (λ c. search needs)
     (λ c κs. search needs)
-    (λ c. search needs)
-    (λ c κs. search needs)
-    (λ c κs. search needs)
-    (λ c κs. search needs)
+    declare-requires
     add-home
     declared-requires
     (λ c κs. search needs)
     same-length
-    (λ c. search needs)
     (λ c. search needs)
     returns)

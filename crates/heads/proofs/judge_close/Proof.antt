@@ -5,17 +5,49 @@ use borrow.Author.Needs.{needs}
 use Rattle.heads.proofs.judge_close.Statement.{statement}
 use Rattle.heads.proofs.judge_close.Tie as tie
 
+close-topic-requires : tie.Need-close-topic-requires
+close-topic-requires c κs =
+    let start = c .before .before .before .before .before .before .before in
+    let if1 = c .before .before .before .if1 in
+    let (s, n, hs, rs, k, q) = start .pre .1 in
+    ((start .pre .0 .1, if1 .left, c .before .if2 .taken), (s, n, (start .args .work .now), hs, rs, k, q))
+
 returns-2 : tie.Need-returns-2
-returns-2 c = λ s n y ns ps rs k q. c .before .before .close-topic .ensures s n (c .before .before .before .before .before .before .before .before .before .before .before .args .index .now) (c .before .before .before .before .before .before .before .before .before .before .before .args .chains .now) y ns ps rs k q
+returns-2 c =
+    let start = c .before .before .before .before .before .before .before .before .before .before in
+    let close-topic = c .before .before .close-topic in
+    λ s n hs rs k q. close-topic .ensures s n (start .args .work .now) hs rs k q
 
 same-name-requires : tie.Need-same-name-requires
-same-name-requires c κs = let (s, n, y, ns, ps, rs, k, q) = c .before .before .before .before .before .before .before .before .pre .1 .1 in (close-inside (c .before .before .before .before .before .before .before .before .args .text .now) s n (c .before .before .before .before .before .before .before .before .args .st) (c .before .before .before .before .before .before .before .before .args .book .now) (c .before .before .before .before .before .before .before .before .args .index .now) (c .before .before .before .before .before .before .before .before .args .chains .now) y ns ps rs (c .before .before .before .before .before .before .before .before .args .name) k q (c .before .before .before .before .before .before .before .before .pre .0 .1), k .model .inside)
+same-name-requires c κs =
+    let start = c .before .before .before .before .before .before .before in
+    let (s, n, hs, rs, k, q) = start .pre .1 in (
+      close-inside (start .args .text .now) s n (start .args .st) (start .args .book .now) _ _ _ hs rs (start .args .name) k q (start .pre .0 .1),
+      k .model .inside,
+    )
 
 returns-3 : tie.Need-returns-3
-returns-3 c = λ s n y ns ps rs k q. close-model-fine (c .before .before .before .before .before .before .before .before .before .before .args .text .now) s n (c .before .before .before .before .before .before .before .before .before .before .args .st) (c .before .before .before .before .before .before .before .before .before .before .args .book .now) (c .before .before .before .before .before .before .before .before .before .before .args .index .now) (c .before .before .before .before .before .before .before .before .before .before .args .chains .now) y ns ps rs (c .before .before .before .before .before .before .before .before .before .before .args .name) k q (c .before .before .before .before .before .before .before .before .before .before .pre .0 .1) (class-none (c .before .before .before .before .before .before .before .before .before .before .args .text .now) s (c .before .before .before .before .before .before .before .before .before .before .args .st) (c .before .before .before .before .before .before .before .before .before .before .args .book .now) (c .before .before .before .before .before .before .before .before .before .before .args .index .now) (c .before .before .before .before .before .before .before .before .before .before .args .chains .now) y ns ps k (c .before .before .before .before .before .if1 .left)) (topic-none (c .before .before .before .before .before .before .before .before .before .before .args .text .now) s (c .before .before .before .before .before .before .before .before .before .before .args .st) (c .before .before .before .before .before .before .before .before .before .before .args .book .now) (c .before .before .before .before .before .before .before .before .before .before .args .index .now) (c .before .before .before .before .before .before .before .before .before .before .args .chains .now) y ns ps k (omega (arith, c .before .before .before .if2 .left))) _ (c .before .same-name .ensures) _ (c .if3 .taken) refl
+returns-3 c =
+    let start = c .before .before .before .before .before .before .before .before .before in
+    let if1 = c .before .before .before .before .before .if1 in
+    let if2 = c .before .before .before .if2 in
+    λ s n hs rs k q. close-model-fine (start .args .text .now) s n (start .args .st)
+    (start .args .book .now) _ _ _ hs rs (start .args .name) k q (start .pre .0 .1)
+    (class-none (start .args .text .now) s (start .args .st) (start .args .book .now) _ _ _ hs k (if1 .left))
+    (topic-none (start .args .text .now) s (start .args .st) (start .args .book .now) _ _ _ hs k
+    (omega (arith, if2 .left))) _ (c .before .same-name .ensures) _ (c .if3 .taken) refl
 
 returns-4 : tie.Need-returns-4
-returns-4 c = λ s n y ns ps rs k q. close-model-other (c .before .before .before .before .before .before .before .before .before .before .before .args .text .now) s n (c .before .before .before .before .before .before .before .before .before .before .before .args .st) (c .before .before .before .before .before .before .before .before .before .before .before .args .book .now) (c .before .before .before .before .before .before .before .before .before .before .before .args .index .now) (c .before .before .before .before .before .before .before .before .before .before .before .args .chains .now) y ns ps rs (c .before .before .before .before .before .before .before .before .before .before .before .args .name) k q (c .before .before .before .before .before .before .before .before .before .before .before .pre .0 .1) (class-none (c .before .before .before .before .before .before .before .before .before .before .before .args .text .now) s (c .before .before .before .before .before .before .before .before .before .before .before .args .st) (c .before .before .before .before .before .before .before .before .before .before .before .args .book .now) (c .before .before .before .before .before .before .before .before .before .before .before .args .index .now) (c .before .before .before .before .before .before .before .before .before .before .before .args .chains .now) y ns ps k (c .before .before .before .before .before .before .if1 .left)) (topic-none (c .before .before .before .before .before .before .before .before .before .before .before .args .text .now) s (c .before .before .before .before .before .before .before .before .before .before .before .args .st) (c .before .before .before .before .before .before .before .before .before .before .before .args .book .now) (c .before .before .before .before .before .before .before .before .before .before .before .args .index .now) (c .before .before .before .before .before .before .before .before .before .before .before .args .chains .now) y ns ps k (omega (arith, c .before .before .before .before .if2 .left))) _ (c .before .before .same-name .ensures) _ _ _ _ (c .before .if3 .left) (c .refused .ensures)
+returns-4 c =
+    let start = c .before .before .before .before .before .before .before .before .before .before in
+    let if1 = c .before .before .before .before .before .before .if1 in
+    let if2 = c .before .before .before .before .if2 in
+    let same-name = c .before .before .same-name in
+    λ s n hs rs k q. close-model-other (start .args .text .now) s n (start .args .st)
+    (start .args .book .now) _ _ _ hs rs (start .args .name) k q (start .pre .0 .1)
+    (class-none (start .args .text .now) s (start .args .st) (start .args .book .now) _ _ _ hs k (if1 .left))
+    (topic-none (start .args .text .now) s (start .args .st) (start .args .book .now) _ _ _ hs k
+    (omega (arith, if2 .left))) _ (same-name .ensures) _ _ _ _ _ (c .before .if3 .left) (c .refused .ensures)
 
 pub judge-close-spec : {M : Type 1} → statement M
 judge-close-spec =
@@ -25,8 +57,7 @@ judge-close-spec =
     (λ c. search needs)
     (λ c. search needs)
     (λ c. search needs)
-    (λ c. search needs)
-    (λ c κs. search needs)
+    close-topic-requires
     (λ c. search needs)
     returns-2
     same-name-requires

@@ -7,19 +7,56 @@ use Rattle.heads.proofs.judge_topic.Statement.{statement}
 use Rattle.heads.proofs.judge_topic.Tie as tie
 
 is-taken-requires : tie.Need-is-taken-requires
-is-taken-requires c κs = let (s, n, y, ns, ps, rs, k, q) = c .before .before .before .before .before .before .pre .1 .1 in (topic-inside (c .before .before .before .before .before .before .args .text .now) s n (c .before .before .before .before .before .before .args .st) (c .before .before .before .before .before .before .args .book .now) (c .before .before .before .before .before .before .args .index .now) (c .before .before .before .before .before .before .args .chains .now) y ns ps rs (c .before .before .before .before .before .before .args .name) k q, omega arith, omega arith)
+is-taken-requires c κs =
+    let start = c .before .before .before .before in
+    let (s, n, hs, rs, k, q) = start .pre .1 in
+    (topic-inside (start .args .text .now) s n (start .args .st) (start .args .book .now) _ _ _ hs rs (start .args .name) k q, start .pre .0 .2)
 
 returns : tie.Need-returns
-returns c = λ s n y ns ps rs k q. topic-taken (c .before .before .before .before .before .before .before .before .before .args .text .now) s n (c .before .before .before .before .before .before .before .before .before .args .st) (c .before .before .before .before .before .before .before .before .before .args .book .now) (c .before .before .before .before .before .before .before .before .before .args .index .now) (c .before .before .before .before .before .before .before .before .before .args .chains .now) y ns ps rs (c .before .before .before .before .before .before .before .before .before .args .name) k q _ _ _ _ (c .refused .ensures) (sym (c .before .if1 .taken) ∙ c .before .before .is-taken .ensures s (c .before .before .before .before .before .before .before .before .before .args .book .now) y ns ps k)
+returns c =
+    let start = c .before .before .before .before .before .before .before in
+    let is-taken = c .before .before .is-taken in
+    λ s n hs rs k q. topic-taken (start .args .text .now) s n (start .args .st) (start .args .book .now) _ _ _ hs rs
+    (start .args .name) k q _ _ _ _ _ (c .refused .ensures) (sym (c .before .if1 .taken) ∙ is-taken .ensures s (start .args .book .now) hs k)
 
 declare-topic-requires : tie.Need-declare-topic-requires
-declare-topic-requires c κs = let (s, n, y, ns, ps, rs, k, q) = c .before .before .before .before .before .before .before .before .before .before .before .before .pre .1 .1 in ((topic-inside (c .before .before .before .before .before .before .before .before .before .before .before .before .args .text .now) s n (c .before .before .before .before .before .before .before .before .before .before .before .before .args .st) (c .before .before .before .before .before .before .before .before .before .before .before .before .args .book .now) (c .before .before .before .before .before .before .before .before .before .before .before .before .args .index .now) (c .before .before .before .before .before .before .before .before .before .before .before .before .args .chains .now) y ns ps rs (c .before .before .before .before .before .before .before .before .before .before .before .before .args .name) k q, c .before .before .before .before .before .before .before .before .before .before .before .before .pre .0 .0, c .before .before .before .if2 .taken, c .before .before .before .before .before .before .before .before .before .before .before .before .pre .0 .1, small (c .before .before .before .before .before .before .before .before .before .before .before .before .args .text .now) s (c .before .before .before .before .before .before .before .before .before .before .before .before .args .st) (c .before .before .before .before .before .before .before .before .before .before .before .before .args .book .now) (c .before .before .before .before .before .before .before .before .before .before .before .before .args .index .now) (c .before .before .before .before .before .before .before .before .before .before .before .before .args .chains .now) y ns ps k), (c .before .before .before .before .before .before .before .before .before .before .before .before .pre .1 .0 .0, c .before .before .before .before .before .before .before .before .before .before .before .before .pre .1 .0 .1))
+declare-topic-requires c κs =
+    let start = c .before .before .before .before .before .before .before .before .before in
+    let if2 = c .before .before .if2 in
+    let (s, n, hs, rs, k, q) = start .pre .1 in (
+      (
+        topic-inside (start .args .text .now) s n (start .args .st) (start .args .book .now) _ _ _ hs rs (start .args .name) k q,
+        start .pre .0 .0,
+        start .pre .0 .1,
+      ),
+      (if2 .taken, small (start .args .text .now) s (start .args .st) (start .args .book .now) _ _ _ hs k, start .pre .0 .2),
+    )
 
 returns-2 : tie.Need-returns-2
-returns-2 c = λ s n y ns ps rs k q. topic-fine (c .before .before .before .before .before .before .before .before .before .before .before .before .before .before .before .before .before .before .before .args .text .now) s n (c .before .before .before .before .before .before .before .before .before .before .before .before .before .before .before .before .before .before .before .args .st) (c .before .before .before .before .before .before .before .before .before .before .before .before .before .before .before .before .before .before .before .args .book .now) (c .before .before .before .before .before .before .before .before .before .before .before .before .before .before .before .before .before .before .before .args .index .now) (c .before .before .before .before .before .before .before .before .before .before .before .before .before .before .before .before .before .before .before .args .chains .now) y ns ps rs (c .before .before .before .before .before .before .before .before .before .before .before .before .before .before .before .before .before .before .before .args .name) k q (c .before .before .before .before .before .before .before .before .before .before .before .before .before .before .before .before .before .before .before .pre .0 .1) (sym (c .before .before .before .before .before .before .before .before .before .before .before .if1 .left) ∙ c .before .before .before .before .before .before .before .before .before .before .before .before .is-taken .ensures s (c .before .before .before .before .before .before .before .before .before .before .before .before .before .before .before .before .before .before .before .args .book .now) y ns ps k) _ _ _ _ _ (c .before .before .before .before .before .before .before .before .before .before .if2 .taken) refl (c .before .before .before .before .before .before .declare-topic .ensures .0) (λ f. c .before .before .before .before .before .before .declare-topic .ensures .1 s n y ns ps k (topic-is (c .before .before .before .before .before .before .before .before .before .before .before .before .before .before .before .before .before .before .before .args .text .now) s n (c .before .before .before .before .before .before .before .before .before .before .before .before .before .before .before .before .before .before .before .args .st) (c .before .before .before .before .before .before .before .before .before .before .before .before .before .before .before .before .before .before .before .args .book .now) (c .before .before .before .before .before .before .before .before .before .before .before .before .before .before .before .before .before .before .before .args .index .now) (c .before .before .before .before .before .before .before .before .before .before .before .before .before .before .before .before .before .before .before .args .chains .now) y ns ps rs (c .before .before .before .before .before .before .before .before .before .before .before .before .before .before .before .before .before .before .before .args .name) k q) (q .fair) (topic-open (c .before .before .before .before .before .before .before .before .before .before .before .before .before .before .before .before .before .before .before .args .text .now) s n (c .before .before .before .before .before .before .before .before .before .before .before .before .before .before .before .before .before .before .before .args .st) (c .before .before .before .before .before .before .before .before .before .before .before .before .before .before .before .before .before .before .before .args .book .now) (c .before .before .before .before .before .before .before .before .before .before .before .before .before .before .before .before .before .before .before .args .index .now) (c .before .before .before .before .before .before .before .before .before .before .before .before .before .before .before .before .before .before .before .args .chains .now) y ns ps rs (c .before .before .before .before .before .before .before .before .before .before .before .before .before .before .before .before .before .before .before .args .name) k q) f)
+returns-2 c =
+    let back = c .before .before .before .before .before .before .before .before .before .before in
+    let start = back .before .before .before .before in
+    let is-taken = c .before .before .before .before .before .before .before .before .before .is-taken in
+    let if1 = c .before .before .before .before .before .before .before .before .if1 in
+    let if2 = c .before .before .before .before .before .before .before .if2 in
+    let declare-topic = c .before .before .before .before .declare-topic in
+    λ s n hs rs k q.
+    topic-fine (start .args .text .now) s n (start .args .st) (start .args .book .now) _ _ _ hs rs
+    (start .args .name) k q (start .pre .0 .1)
+    (sym (if1 .left) ∙ is-taken .ensures s (start .args .book .now) hs k) _ _ _ _ _ _ (if2 .taken) refl (declare-topic .ensures .0)
+    (λ f. declare-topic .ensures .1 s n hs k
+    (topic-is (start .args .text .now) s n (start .args .st) (start .args .book .now) _ _ _ hs rs
+    (start .args .name) k q) (q .fair)
+    (topic-open (start .args .text .now) s n (start .args .st) (start .args .book .now) _ _ _ hs rs (start .args .name) k q) f)
 
 returns-3 : tie.Need-returns-3
-returns-3 c = λ s n y ns ps rs k q. topic-over (c .before .before .before .before .before .before .before .before .before .before .args .text .now) s n (c .before .before .before .before .before .before .before .before .before .before .args .st) (c .before .before .before .before .before .before .before .before .before .before .args .book .now) (c .before .before .before .before .before .before .before .before .before .before .args .index .now) (c .before .before .before .before .before .before .before .before .before .before .args .chains .now) y ns ps rs (c .before .before .before .before .before .before .before .before .before .before .args .name) k q (c .before .before .before .before .before .before .before .before .before .before .pre .0 .1) (sym (c .before .before .if1 .left) ∙ c .before .before .before .is-taken .ensures s (c .before .before .before .before .before .before .before .before .before .before .args .book .now) y ns ps k) _ _ _ _ (omega (arith, c .before .if2 .left)) (c .refused2 .ensures)
+returns-3 c =
+    let start = c .before .before .before .before .before .before .before .before in
+    let is-taken = c .before .before .before .is-taken in
+    let if1 = c .before .before .if1 in
+    λ s n hs rs k q. topic-over (start .args .text .now) s n (start .args .st) (start .args .book .now) _ _ _ hs rs
+    (start .args .name) k q (start .pre .0 .1)
+    (sym (if1 .left) ∙ is-taken .ensures s (start .args .book .now) hs k) _ _ _ _ _ (omega (arith, c .before .if2 .left)) (c .refused2 .ensures)
 
 pub judge-topic-spec : {M : Type 1} → statement M
 judge-topic-spec =
@@ -28,15 +65,12 @@ judge-topic-spec =
     is-taken-requires
     (λ c κs. search needs)
     (λ c. search needs)
-    (λ c. search needs)
     returns
     (λ c. search needs)
     declare-topic-requires
     (λ c. search needs)
     (λ c. search needs)
-    (λ c. search needs)
     returns-2
     (λ c κs. search needs)
-    (λ c. search needs)
     (λ c. search needs)
     returns-3)

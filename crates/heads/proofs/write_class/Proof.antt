@@ -1,19 +1,52 @@
 use mathlib.Core.Path.{_∙_}
 use Rattle.names.specs.Index.{entry}
-use Rattle.heads.proofs.ClassLaws.{class-row, class-record}
+use Rattle.state.specs.Parts.{indexIn}
+use Rattle.state.proofs.RoomLaws.{definition-rows}
+use Rattle.heads.proofs.ClassLaws.{class-row, class-narrow, class-record}
 use native.Mathlib.Omega.{arith}
 use borrow.Author.Needs.{needs}
 use Rattle.heads.proofs.write_class.Statement.{statement}
 use Rattle.heads.proofs.write_class.Tie as tie
 
-add-enter : tie.Need-add-enter
-add-enter c = omega (arith, c .before .before .before .before .before .before .before .before .before .before .before .before .before .before .before .before .before .before .pre .0 .0, c .before .before .before .before .before .before .before .before .before .before .before .before .before .before .before .before .before .before .pre .0 .1, c .before .before .before .before .before .before .before .before .before .before .before .before .before .before .before .before .before .before .pre .0 .2, c .before .before .before .before .before .before .before .before .before .before .before .before .before .before .before .before .before .before .pre .0 .3 .fewer, c .before .before .before .before .before .before .before .before .before .before .before .before .before .before .before .before .before .before .pre .0 .3 .home, c .before .before .before .before .before .before .before .before .before .before .before .before .before .before .before .before .before .before .pre .0 .3 .rows, c .before .before .before .before .before .before .before .before .before .before .before .before .before .before .before .before .before .before .pre .1 .1)
+base-number-requires : tie.Need-base-number-requires
+unfolding indexIn
+base-number-requires c κs =
+    let s = c .before .before .before .before .before .before .before .before in
+    definition-rows (s .args .st) (s .args .work .now) (s .pre .1 .0 .2) (s .args .base) (omega (arith, s .pre .1 .1))
 
 enter-requires : tie.Need-enter-requires
-enter-requires c κs = (omega (arith, c .before .before .before .before .before .before .before .before .before .before .before .before .before .before .before .before .before .before .pre .1 .0), record { offset = omega (arith, c .before .before .before .before .before .before .before .before .before .before .before .before .before .before .before .before .before .before .pre .0 .0, c .before .before .before .before .before .before .before .before .before .before .before .before .before .before .before .before .before .before .pre .0 .1, c .before .before .before .before .before .before .before .before .before .before .before .before .before .before .before .before .before .before .pre .0 .2, c .before .before .before .before .before .before .before .before .before .before .before .before .before .before .before .before .before .before .pre .0 .3 .fewer, c .before .before .before .before .before .before .before .before .before .before .before .before .before .before .before .before .before .before .pre .0 .3 .home, c .before .before .before .before .before .before .before .before .before .before .before .before .before .before .before .before .before .before .pre .0 .3 .rows, c .before .before .before .before .before .before .before .before .before .before .before .before .before .before .before .before .before .before .pre .1 .1); size = omega (arith, c .before .before .before .before .before .before .before .before .before .before .before .before .before .before .before .before .before .before .pre .0 .0, c .before .before .before .before .before .before .before .before .before .before .before .before .before .before .before .before .before .before .pre .0 .1, c .before .before .before .before .before .before .before .before .before .before .before .before .before .before .before .before .before .before .pre .0 .2, c .before .before .before .before .before .before .before .before .before .before .before .before .before .before .before .before .before .before .pre .0 .3 .fewer, c .before .before .before .before .before .before .before .before .before .before .before .before .before .before .before .before .before .before .pre .0 .3 .home, c .before .before .before .before .before .before .before .before .before .before .before .before .before .before .before .before .before .before .pre .0 .3 .rows, c .before .before .before .before .before .before .before .before .before .before .before .before .before .before .before .before .before .before .pre .1 .1); home = omega (arith, c .before .before .before .before .before .before .before .before .before .before .before .before .before .before .before .before .before .before .pre .0 .0, c .before .before .before .before .before .before .before .before .before .before .before .before .before .before .before .before .before .before .pre .0 .1, c .before .before .before .before .before .before .before .before .before .before .before .before .before .before .before .before .before .before .pre .0 .2, c .before .before .before .before .before .before .before .before .before .before .before .before .before .before .before .before .before .before .pre .0 .3 .fewer, c .before .before .before .before .before .before .before .before .before .before .before .before .before .before .before .before .before .before .pre .0 .3 .home, c .before .before .before .before .before .before .before .before .before .before .before .before .before .before .before .before .before .before .pre .0 .3 .rows, c .before .before .before .before .before .before .before .before .before .before .before .before .before .before .before .before .before .before .pre .1 .1); number = omega (arith, c .before .before .before .before .before .before .before .before .before .before .before .before .before .before .before .before .before .before .pre .0 .0, c .before .before .before .before .before .before .before .before .before .before .before .before .before .before .before .before .before .before .pre .0 .1, c .before .before .before .before .before .before .before .before .before .before .before .before .before .before .before .before .before .before .pre .0 .2, c .before .before .before .before .before .before .before .before .before .before .before .before .before .before .before .before .before .before .pre .0 .3 .fewer, c .before .before .before .before .before .before .before .before .before .before .before .before .before .before .before .before .before .before .pre .0 .3 .home, c .before .before .before .before .before .before .before .before .before .before .before .before .before .before .before .before .before .before .pre .0 .3 .rows, c .before .before .before .before .before .before .before .before .before .before .before .before .before .before .before .before .before .before .pre .1 .1); sort = omega (arith, c .before .before .before .class-sort .ensures .1); flags = omega (arith, c .before .before .wide .ensures .1); place = omega (arith, c .before .before .before .before .before .before .before .before .before .before .before .before .before .before .before .before .before .before .pre .0 .0, c .before .before .before .before .before .before .before .before .before .before .before .before .before .before .before .before .before .before .pre .0 .1, c .before .before .before .before .before .before .before .before .before .before .before .before .before .before .before .before .before .before .pre .0 .2, c .before .before .before .before .before .before .before .before .before .before .before .before .before .before .before .before .before .before .pre .0 .3 .fewer, c .before .before .before .before .before .before .before .before .before .before .before .before .before .before .before .before .before .before .pre .0 .3 .home, c .before .before .before .before .before .before .before .before .before .before .before .before .before .before .before .before .before .before .pre .0 .3 .rows, c .before .before .before .before .before .before .before .before .before .before .before .before .before .before .before .before .before .before .pre .1 .1); base = omega (arith, c .before .before .before .before .before .before .before .before .before .before .before .before .before .before .before .before .before .before .pre .0 .0, c .before .before .before .before .before .before .before .before .before .before .before .before .before .before .before .before .before .before .pre .0 .1, c .before .before .before .before .before .before .before .before .before .before .before .before .before .before .before .before .before .before .pre .0 .2, c .before .before .before .before .before .before .before .before .before .before .before .before .before .before .before .before .before .before .pre .0 .3 .fewer, c .before .before .before .before .before .before .before .before .before .before .before .before .before .before .before .before .before .before .pre .0 .3 .home, c .before .before .before .before .before .before .before .before .before .before .before .before .before .before .before .before .before .before .pre .0 .3 .rows, c .before .before .before .before .before .before .before .before .before .before .before .before .before .before .before .before .before .before .pre .1 .1); first = omega (arith, c .before .before .before .before .before .before .before .before .before .before .before .before .before .before .before .before .before .before .pre .0 .0, c .before .before .before .before .before .before .before .before .before .before .before .before .before .before .before .before .before .before .pre .0 .1, c .before .before .before .before .before .before .before .before .before .before .before .before .before .before .before .before .before .before .pre .0 .2, c .before .before .before .before .before .before .before .before .before .before .before .before .before .before .before .before .before .before .pre .0 .3 .fewer, c .before .before .before .before .before .before .before .before .before .before .before .before .before .before .before .before .before .before .pre .0 .3 .home, c .before .before .before .before .before .before .before .before .before .before .before .before .before .before .before .before .before .before .pre .0 .3 .rows, c .before .before .before .before .before .before .before .before .before .before .before .before .before .before .before .before .before .before .pre .1 .1) })
+enter-requires c κs =
+    let back = c .before .before .before .before .before .before .before .before .before .before in
+    let s = back .before .before .before .before .before .before .before .before in
+    let class-sort = c .before .before .class-sort in (
+      s .pre .1 .0 .2,
+      class-narrow (s .args .st) (s .args .head) (s .args .base) _ _ _ (s .pre .0 .0) (s .pre .1 .0 .0) (s .pre .0 .1)
+          (s .pre .1 .0 .1) (s .pre .1 .1) (class-sort .ensures .1) (c .before .wide .ensures .1),
+    )
 
 returns : tie.Need-returns
-returns c = (c .before .before .enter .ensures ∙ class-row (c .before .before .before .before .before .before .before .before .before .before .before .before .before .before .before .before .before .before .before .before .before .args .index .now) (c .before .before .before .before .before .before .before .before .before .before .before .before .before .before .before .before .before .before .before .before .before .args .st) (c .before .before .before .before .before .before .before .before .before .before .before .before .before .before .before .before .before .before .before .before .before .args .head) (c .before .before .before .before .before .before .before .before .before .before .before .before .before .before .before .before .before .before .before .before .before .args .base) _ _ (c .before .before .before .before .before .before .class-sort .ensures .0) (c .before .before .before .before .before .wide .ensures .0 ∙ c .before .before .before .before .before .before .before .before .before .before .before .before .before .before .before .before .flags .ensures .0), λ t ks k. c .before .before .before .before .before .before .before .before .before .put .ensures ∙ class-record (c .before .before .before .before .before .before .before .before .before .before .before .before .before .before .before .before .before .before .before .before .before .args .book .now) (c .before .before .before .before .before .before .before .before .before .before .before .before .before .before .before .before .before .before .before .before .before .args .st .used) (c .before .before .before .before .before .before .before .before .before .before .before .before .before .before .before .before .before .before .before .before .before .args .head) (entry ks (c .before .before .before .before .before .before .before .before .before .before .before .before .before .before .before .before .before .before .before .before .before .args .base)) _ _ _ _ (c .before .before .before .before .before .before .before .before .before .before .before .before .head-record .ensures) (c .before .before .before .before .before .before .before .before .before .before .before .before .before .before .before .class-kind .ensures) (c .before .before .before .before .before .before .before .before .before .before .before .before .before .before .before .before .flags .ensures .0) (c .before .before .before .before .before .before .before .before .before .before .before .before .before .base-number .ensures t ks (c .before .before .before .before .before .before .before .before .before .before .before .before .before .before .before .before .before .before .before .before .before .args .st .count) (c .before .before .before .before .before .before .before .before .before .before .before .before .before .before .before .before .before .before .before .before .before .pre .1 .1) k))
+unfolding indexIn
+returns c =
+    let back = c .before .before .before .before .before .before .before .before .before .before in
+    let s = back .before .before .before .before .before .before .before .before .before .before .before in
+    let flags = back .before .before .before .before .before .before .flags in
+    let class-kind = back .before .before .before .before .before .class-kind in
+    let base-number = back .before .before .base-number in
+    let head-record = back .before .head-record in
+    let put = c .before .before .before .before .before .before .before .before .put in
+    let class-sort = c .before .before .before .before .before .class-sort in
+    let wide = c .before .before .before .before .wide in
+    let enter = c .before .before .enter in (
+      enter .ensures .0
+          ∙ class-row (indexIn (s .args .st .listing .layout) (s .args .work .now)) (s .args .st) (s .args .head)
+          (s .args .base) _ _ (class-sort .ensures .0) (wide .ensures .0 ∙ flags .ensures .0),
+      enter .ensures .1,
+      enter .ensures .2,
+      λ t ks k. put .ensures
+          ∙ class-record (s .args .book .now) (s .args .st .extent .used) (s .args .head)
+          (entry ks (s .args .base)) _ _ _ _ (head-record .ensures) (class-kind .ensures) (flags .ensures .0)
+          (base-number .ensures t ks (s .args .st .listing .count) (s .pre .1 .1) k),
+    )
 
 pub write-class-spec : {M : Type 1} → statement M
 write-class-spec =
@@ -21,13 +54,16 @@ write-class-spec =
     (tie.spec
     (λ c κs. search needs)
     (λ c κs. search needs)
-    (λ c κs. search needs)
+    (λ c. search needs)
+    (λ c. search needs)
+    (λ c. search needs)
+    (λ c. search needs)
+    base-number-requires
     (λ c κs. search needs)
     (λ c. search needs)
     (λ c κs. search needs)
     (λ c κs. search needs)
     (λ c κs. search needs)
-    add-enter
     enter-requires
     (λ c. search needs)
     (λ c. search needs)

@@ -1,21 +1,44 @@
-use Prim.Native.Nat.{_<_}
+use Prim.Native.Nat.{_<_, _-_}
+use lib.ListN.{length-set}
+use Rattle.members.specs.Members.{most}
 use Rattle.members.proofs.OpenLaws.{hold-new, hold-old}
 use native.Mathlib.Omega.{arith}
 use borrow.Author.Needs.{needs}
 use Rattle.members.proofs.hold.Statement.{statement}
 use Rattle.members.proofs.hold.Tie as tie
 
-slice-write-numbers : tie.Need-slice-write-numbers
-slice-write-numbers c = let v : c .before .args .n < 256 = c .before .pre .2 (c .if1 .taken) in omega arith
+slice-write-hand : tie.Need-slice-write-hand
+slice-write-hand c =
+    let s = c .before in
+    let v : s .args .n < most = s .pre .2 (c .if1 .taken) in omega (arith, s .pre .5)
 
-slice-write-positions : tie.Need-slice-write-positions
-slice-write-positions c = let v : c .before .args .n < 256 = c .before .pre .2 (c .if1 .taken) in omega arith
+slice-write-hand-2 : tie.Need-slice-write-hand-2
+slice-write-hand-2 c =
+    let s = c .before in
+    let l = length-set (s .args .hand .now) (s .args .n) (s .args .number) in
+    let v : s .args .n < most = s .pre .2 (c .if1 .taken) in omega (arith, s .pre .5)
 
 returns : tie.Need-returns
-returns c = let v : c .before .args .n < 256 = c .before .pre .2 (c .if1 .taken) in (omega arith, λ ms h a e k s f. hold-new ms (c .before .args .numbers .now) (c .before .args .positions .now) (c .before .args .n) h a (c .before .args .q) (c .before .args .number) (c .before .args .r) e k s f (c .if1 .taken) (omega arith) (omega arith))
+returns c =
+    let s = c .before in
+    let a = s .args in
+    let v : a .n < most = s .pre .2 (c .if1 .taken) in (
+      omega arith,
+      λ ms h b e k t f. hold-new ms (a .hand .now) (a .n) h b (a .q) (a .number) (a .r) e k t f (c .if1 .taken) v (s .pre .5),
+    )
+
+slice-write-hand-4 : tie.Need-slice-write-hand-4
+slice-write-hand-4 c =
+    let s = c .before in
+    let l = length-set (s .args .hand .now) (s .args .r - 1) (s .args .number) in omega (arith, s .pre .5)
 
 returns-2 : tie.Need-returns-2
-returns-2 c = (omega arith, λ ms h a e k s f. hold-old ms (c .before .args .numbers .now) (c .before .args .positions .now) (c .before .args .n) h a (c .before .args .q) (c .before .args .number) (c .before .args .r) e k s f (c .if1 .left) (omega arith) (omega arith))
+returns-2 c =
+    let s = c .before in
+    let a = s .args in (
+      omega arith,
+      λ ms h b e k t f. hold-old ms (a .hand .now) (a .n) h b (a .q) (a .number) (a .r) e k t f (c .if1 .left) (omega arith) (omega arith) (s .pre .5),
+    )
 
 pub hold-spec : {M : Type 1} → statement M
 hold-spec =
@@ -23,11 +46,11 @@ hold-spec =
     (tie.spec
     (λ c. search needs)
     (λ c. search needs)
-    slice-write-numbers
+    slice-write-hand
     (λ c. search needs)
     (λ c. search needs)
-    slice-write-positions
     (λ c. search needs)
+    slice-write-hand-2
     (λ c. search needs)
     (λ c. search needs)
     returns
@@ -38,6 +61,6 @@ hold-spec =
     (λ c. search needs)
     (λ c. search needs)
     (λ c. search needs)
-    (λ c. search needs)
+    slice-write-hand-4
     (λ c. search needs)
     returns-2)

@@ -7,10 +7,21 @@ use Rattle.members.proofs.is_named.Statement.{statement}
 use Rattle.members.proofs.is_named.Tie as tie
 
 returns : tie.Need-returns
-returns c = λ w a s. c .same-name .ensures ∙ told (c .before .before .before .before .before .before .before .before .args .text .now) a _ (bytesOf (c .before .before .before .before .before .before .before .before .args .text .now) (c .before .before .before .before .before .before .before .before .args .name)) s _ _ (c .before .before .before .before .member .ensures .0) (c .before .before .before .member2 .ensures .0)
+returns c =
+    let start = c .before .before .before .before .before .before .before .before in
+    let member = c .before .before .before .before .member in
+    let member2 = c .before .before .before .member2 in
+    λ w a s. c .same-name .ensures
+    ∙ told (start .args .text .now) a _ (bytesOf (start .args .text .now) (start .args .name)) s _ _ (member .ensures .0) (member2 .ensures .0)
 
 returns-2 : tie.Need-returns-2
-returns-2 c = λ w a s. let v = told-inside (c .before .before .before .before .before .before .before .args .text .now) a _ (bytesOf (c .before .before .before .before .before .before .before .args .text .now) (c .before .before .before .before .before .before .before .args .name)) s _ _ (c .before .before .before .member .ensures .0) (c .before .before .member2 .ensures .0) in absurd (omega (arith, c .if2 .left))
+returns-2 c =
+    let start = c .before .before .before .before .before .before .before in
+    let member = c .before .before .before .member in
+    let member2 = c .before .before .member2 in
+    λ w a s.
+    let v = told-inside (start .args .text .now) a _ (bytesOf (start .args .text .now) (start .args .name)) s _ _ (member .ensures .0) (member2 .ensures .0) in
+    absurd (omega (arith, c .if2 .left))
 
 returns-3 : tie.Need-returns-3
 returns-3 c = λ w a s. absurd (omega (arith, c .if1 .left))

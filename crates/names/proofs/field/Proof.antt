@@ -3,9 +3,12 @@ use Rattle.names.proofs.IndexLaws.{at-row}
 use borrow.Author.Needs.{needs}
 use Rattle.names.proofs.field.Statement.{statement}
 use Rattle.names.proofs.field.Tie as tie
+use Rattle.names.specs.Index.{definitionWidth}
 
 returns : tie.Need-returns
-returns c = (c .wide2 .ensures .0 ∙ at-row 10 (c .before .before .before .args .index .now) (c .before .before .before .args .p) (c .before .before .before .args .f) (c .before .before .before .pre .0), c .wide2 .ensures .1)
+returns c =
+    let s = c .before .before .before in
+    (c .wide2 .ensures .0 ∙ at-row definitionWidth (s .args .index .now) (s .args .p) (s .args .f) (s .pre .0), c .wide2 .ensures .1)
 
 pub field-spec : {M : Type 1} → statement M
 field-spec =

@@ -7,7 +7,11 @@ use Rattle.names.proofs.find_bare.Statement.{statement}
 use Rattle.names.proofs.find_bare.Tie as tie
 
 returns : tie.Need-returns
-returns c = (c .find .ensures .0, λ s k z h. c .find .ensures .1 (known (s .decls)) k z ∙ at-hand s (bytesOf (c .before .before .before .before .args .text .now) (c .before .before .before .before .args .name)) (c .before .before .before .before .args .home) h)
+returns c =
+    let start = c .before .before .before .before in (
+      c .find .ensures .0,
+      λ s k z h. c .find .ensures .1 (known (s .decls)) k z ∙ at-hand s (bytesOf (start .args .text .now) (start .args .name)) (start .args .home) h,
+    )
 
 pub find-bare-spec : {M : Type 1} → statement M
 find-bare-spec = tie.close (tie.spec (λ c κs. search needs) returns)

@@ -12,13 +12,17 @@ rounded-requires c κs = let s = c .before .before in (rw (toZ-ofZ (s .fits .v))
 
 returns : tie.Need-returns
 returns c =
-    let s = c .before .before .before in
-    rw (toZ-ofZ (s .fits .bound), kept (c .rounded .result) (c .rounded .ok), c .rounded .ensures, toZ-ofZ (s .fits .v), c .before .ten-to .ensures, lt-ltb _ _ (c .before .before .if1 .taken))
+    let t = c .before in
+    let f = t .before .before .fits in
+    let r = c .rounded in
+    rw (toZ-ofZ (f .bound), kept (r .result) (r .ok), r .ensures, toZ-ofZ (f .v), t .ten-to .ensures, lt-ltb _ _ (t .before .if1 .taken))
 
 returns-2 : tie.Need-returns-2
 returns-2 c =
-    let s = c .before .before .before in
-    rw (toZ-ofZ (s .fits .v), kept (c .floor-div .result) (c .floor-div .ok), c .floor-div .ensures, toZ-ofZ (s .fits .bound), c .before .ten-to2 .ensures, le-ltb _ _ (c .before .before .if1 .left))
+    let t = c .before in
+    let f = t .before .before .fits in
+    let d = c .floor-div in
+    rw (toZ-ofZ (f .v), kept (d .result) (d .ok), d .ensures, toZ-ofZ (f .bound), t .ten-to2 .ensures, le-ltb _ _ (t .before .if1 .left))
 
 pub high-fits-spec : {M : Type 1} → statement M
 high-fits-spec =

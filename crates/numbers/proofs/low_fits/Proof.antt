@@ -14,8 +14,18 @@ rounded-requires c κs = let s = c .before .before in (rw (toZ-ofZ (s .fits .v))
 
 returns : tie.Need-returns
 returns c =
-    let s = c .before .before .before in
-    rw (toZ-ofZ (s .fits .bound), kept (c .rounded .result) (c .rounded .ok), c .rounded .ensures, toZ-ofZ (s .fits .v), c .before .ten-to .ensures, lt-ltb _ _ (c .before .before .if1 .taken))
+    let t = c .before in
+    let f = t .before .before .fits in
+    let r = c .rounded in
+    rw (toZ-ofZ (f .bound), kept (r .result) (r .ok), r .ensures, toZ-ofZ (f .v), t .ten-to .ensures, lt-ltb _ _ (t .before .if1 .taken))
+
+returns-2 : tie.Need-returns-2
+returns-2 c =
+    let t = c .before in
+    let s = t .before .before in
+    let b = lowered (s .args .bound) (s .fits .bound) (s .pre .1 .1) in
+    let d = c .floor-div in
+    rw (toZ-ofZ (s .fits .v), kept (d .result) (d .ok), d .ensures, b .1, t .ten-to2 .ensures, le-ltb _ _ (t .before .if1 .left))
 
 pub low-fits-spec : {M : Type 1} → statement M
 low-fits-spec =
@@ -28,4 +38,4 @@ low-fits-spec =
     (λ c κs. search needs)
     (λ c. let s = c .before .before in lowered (s .args .bound) (s .fits .bound) (s .pre .1 .1) .0)
     (λ c κs. let a = c .before .before .args in omega (arith, ten-range (a .base-decimals - a .decimals) (omega arith) (c .ten-to2 .ensures)))
-    (λ c. let s = c .before .before .before in rw (toZ-ofZ (s .fits .v), kept (c .floor-div .result) (c .floor-div .ok), c .floor-div .ensures, lowered (s .args .bound) (s .fits .bound) (s .pre .1 .1) .1, c .before .ten-to2 .ensures, le-ltb _ _ (c .before .before .if1 .left))))
+    returns-2)

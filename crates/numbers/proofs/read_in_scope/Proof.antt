@@ -13,32 +13,40 @@ rounded-requires c κs = let s = c .before .before in (rw (toZ-ofZ (s .fits .val
 
 returns : tie.Need-returns
 returns c =
-    let s = c .before .before .before in
-    let e = rw (toZ-ofZ (s .fits .value)) at (c .rounded .ensures) in
-    rw (kept (c .rounded .result) (c .rounded .ok)) (rounds (s .args .value) _ _ (s .pre) (c .before .before .if1 .taken) (c .before .ten-to .ensures) e)
+    let t = c .before in
+    let s = t .before .before in
+    let r = c .rounded in
+    let e = rw (toZ-ofZ (s .fits .value)) at (r .ensures) in
+    rw (kept (r .result) (r .ok)) (rounds (s .args .value) _ _ (s .pre) (t .before .if1 .taken) (t .ten-to .ensures) e)
 
 returns-2 : tie.Need-returns-2
 returns-2 c =
-    let s = c .before .before .before .before in
-    let p = c .before .before .ten-to2 .ensures in
+    let z = c .before in
+    let t = z .before in
+    let s = t .before .before in
+    let p = t .ten-to2 .ensures in
     let k = div-lt-iff-lt-mul (ten-range _ (omega arith) p .0) .0 (c .if2 .taken) in
-    let e = rw (toZ-ofZ (s .fits .value)) at (c .before .size .ensures) in
-    too-great (s .args .value) _ _ (s .pre) (c .before .before .before .if1 .left) p (rw (← e) (omega arith))
+    let e = rw (toZ-ofZ (s .fits .value)) at (z .size .ensures) in
+    too-great (s .args .value) _ _ (s .pre) (t .before .if1 .left) p (rw (← e) (omega arith))
 
 times-requires : tie.Need-times-requires
 times-requires c κs =
-    let p = ten-range _ (omega arith) (c .before .before .ten-to2 .ensures) in
+    let z = c .before in
+    let p = ten-range _ (omega arith) (z .before .ten-to2 .ensures) in
     let k = le-div-iff-mul-le (p .0) .0 (c .if2 .left) in
-    (rw (← c .before .size .ensures) (omega arith), p .1)
+    (rw (← z .size .ensures) (omega arith), p .1)
 
 returns-3 : tie.Need-returns-3
 returns-3 c =
-    let s = c .before .before .before .before .before in
-    let p = c .before .before .before .ten-to2 .ensures in
-    let k = le-div-iff-mul-le (ten-range _ (omega arith) p .0) .0 (c .before .if2 .left) in
-    let e = rw (toZ-ofZ (s .fits .value)) at (c .before .before .size .ensures) in
+    let i = c .before in
+    let z = i .before in
+    let t = z .before in
+    let s = t .before .before in
+    let p = t .ten-to2 .ensures in
+    let k = le-div-iff-mul-le (ten-range _ (omega arith) p .0) .0 (i .if2 .left) in
+    let e = rw (toZ-ofZ (s .fits .value)) at (z .size .ensures) in
     let w = rw (toZ-ofZ (s .fits .value)) at (c .times .ensures) in
-    rw (kept (c .times .result) (c .times .ok)) (scales (s .args .value) _ _ (s .pre) (c .before .before .before .before .if1 .left) p (rw (← e) (omega arith)) w)
+    rw (kept (c .times .result) (c .times .ok)) (scales (s .args .value) _ _ (s .pre) (t .before .if1 .left) p (rw (← e) (omega arith)) w)
 
 pub read-in-scope-spec : {M : Type 1} → statement M
 read-in-scope-spec =

@@ -18,7 +18,9 @@ returns-3 c =
     over-value (s .args .value) (s .args .decimals) (s .args .base-decimals) (omega arith)
 
 returns-4 : tie.Need-returns-4
-returns-4 c = rw (toZ-ofZ (c .before .before .before .before .before .fits .value)) at (c .read-in-scope .ensures)
+returns-4 c =
+    let fits = c .before .before .before .before .before .fits in
+    rw (toZ-ofZ (fits .value)) at (c .read-in-scope .ensures)
 
 pub read-number-spec : {M : Type 1} → statement M
 read-number-spec =

@@ -20,11 +20,15 @@ with-digit-requires c κs = scanned-small (c .before .before .loop .inv .1)
 
 loop-again : tie.Need-loop-again Inv-loop μ-loop
 loop-again c =
-    let l = c .before .before .before .before .loop in
-    (search needs, scanned-next _ (l .i) (l .value) (l .decimals) (c .before .before .before .loop-test .taken) (l .inv .1) (c .before .with-digit .ensures) (c .with-dot .ensures))
+    let d = c .before in
+    let t = d .before .before in
+    let l = t .before .loop in
+    (search needs, scanned-next _ (l .i) (l .value) (l .decimals) (t .loop-test .taken) (l .inv .1) (d .with-digit .ensures) (c .with-dot .ensures))
 
 returns : tie.Need-returns Inv-loop μ-loop
-returns c = scanned-whole (rw (drop-of-length-le (c .before .before .before .args .part .now) (c .loop-test .left)) at (c .before .loop .inv .1))
+returns c =
+    let l = c .before in
+    scanned-whole (rw (drop-of-length-le (l .before .before .args .part .now) (c .loop-test .left)) at (l .loop .inv .1))
 
 pub scan-spec : {M : Type 1} → statement M
 scan-spec =

@@ -23,7 +23,10 @@ loop-again : tie.Need-loop-again Inv-loop μ-loop
 loop-again c = (omega arith, omega (arith, ten-more (c .before .loop .i)))
 
 returns : tie.Need-returns Inv-loop μ-loop
-returns c = let e : c .before .loop .i ≡ c .before .before .args .n = omega arith in rw (← e) (c .before .loop .inv .1)
+returns c =
+    let l = c .before in
+    let e : l .loop .i ≡ l .before .args .n = omega arith in
+    rw (← e) (l .loop .inv .1)
 
 pub ten-to-spec : {M : Type 1} → statement M
 ten-to-spec =

@@ -4,7 +4,10 @@ use Rattle.parts.proofs.read_extends.Statement.{statement}
 use Rattle.parts.proofs.read_extends.Tie as tie
 
 returns : tie.Need-returns
-returns c = extended (c .before .before .before .if1 .taken) (c .before .before .expect .ensures) (c .before .read-reference .ensures)
+returns c =
+    let if1 = c .before .before .before .if1 in
+    let expect = c .before .before .expect in
+    extended (if1 .taken) (expect .ensures) (c .before .read-reference .ensures)
 
 returns-2 : tie.Need-returns-2
 returns-2 c = not-extended (c .if1 .left)

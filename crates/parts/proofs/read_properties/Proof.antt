@@ -7,13 +7,20 @@ use Rattle.parts.proofs.read_properties.Statement.{statement}
 use Rattle.parts.proofs.read_properties.Tie as tie
 
 property-list-requires : tie.Need-property-list-requires
-property-list-requires c κs = held (expected (is-mark "(" (omega arith) (omega arith)) (c .expect .ensures)) (c .before .before .before .before .pre)
+property-list-requires c κs =
+    let s = c .before .before .before .before in
+    held (expected (is-mark "(" (omega arith) (omega arith)) (c .expect .ensures)) (s .pre)
 
 returns : tie.Need-returns
-returns c = list-there (c .before .before .before .before .before .args .attribute) (c .before .before .if1 .taken) (c .before .expect .ensures) (c .property-list .ensures)
+returns c =
+    let s = c .before .before .before .before .before in
+    let if1 = c .before .before .if1 in
+    list-there (s .args .attribute) (if1 .taken) (c .before .expect .ensures) (c .property-list .ensures)
 
 returns-2 : tie.Need-returns-2
-returns-2 c = list-absent (c .before .before .before .before .args .attribute) (c .before .if1 .left) (c .none-written .ensures)
+returns-2 c =
+    let s = c .before .before .before .before in
+    list-absent (s .args .attribute) (c .before .if1 .left) (c .none-written .ensures)
 
 pub read-properties-spec : {M : Type 1} → statement M
 read-properties-spec =

@@ -9,25 +9,40 @@ use Rattle.reading_units.proofs.show_units.Statement.{statement}
 use Rattle.reading_units.proofs.show_units.Tie as tie
 
 abbrev Inv-loop : tie.InvT-loop
-Inv-loop text records₀ y₀ at₀ left₀ t13 t14 t15 records y at left = (length records ≡ length records₀) × Held text y
+Inv-loop text scratch₀ y₀ at₀ left₀ t13 t14 t15 scratch y at left = (length scratch ≡ length scratch₀) × Held text y
 
 abbrev μ-loop : tie.MeasureT-loop
-μ-loop text records₀ y₀ at₀ left₀ t13 t14 t15 records y at left = left
+μ-loop text scratch₀ y₀ at₀ left₀ t13 t14 t15 scratch y at left = left
 
 loop-holds : tie.Need-loop-holds Inv-loop μ-loop
-loop-holds c = (refl, held-first (c .next .ensures))
+loop-holds c = (refl, held-first (rw (c .before .start .ensures) at (c .next .ensures)))
 
 read-unit-requires : tie.Need-read-unit-requires Inv-loop μ-loop
-read-unit-requires c κs = (c .before .before .loop .inv .1, omega (arith, c .before .before .loop .inv .0, c .before .before .before .before .before .before .pre))
+read-unit-requires c κs =
+    let s = c .before .before .before .before .before .before .before in
+    let loop = c .before .before .loop in
+    (loop .inv .1, omega (arith, loop .inv .0, s .pre))
 
 same-length : tie.Need-same-length Inv-loop μ-loop
-same-length c = c .before .before .before .before .before .before .before .before .before .before .read-unit .kept .1 .0 ∙ c .before .before .before .before .before .before .before .before .before .before .before .before .before .loop .inv .0
+same-length c =
+    let back = c .before .before .before .before .before .before .before .before .before .before in
+    let loop = back .before .before .before .loop in
+    let read-unit = back .read-unit in
+    read-unit .kept .1 .0 ∙ loop .inv .0
 
 same-length-2 : tie.Need-same-length-2 Inv-loop μ-loop
-same-length-2 c = c .before .before .before .before .before .before .before .before .before .before .read-unit .kept .1 .0 ∙ c .before .before .before .before .before .before .before .before .before .before .before .before .before .loop .inv .0
+same-length-2 c =
+    let back = c .before .before .before .before .before .before .before .before .before .before in
+    let loop = back .before .before .before .loop in
+    let read-unit = back .read-unit in
+    read-unit .kept .1 .0 ∙ loop .inv .0
 
 loop-again : tie.Need-loop-again Inv-loop μ-loop
-loop-again c = (c .before .before .before .before .before .before .before .before .read-unit .kept .1 .0 ∙ c .before .before .before .before .before .before .before .before .before .before .before .loop .inv .0, held-next (placeOf (c .before .before .before .before .before .before .before .before .before .before .before .loop .at)) (c .before .before .before .before .before .before .before .before .before .before .before .loop .inv .1) (c .before .before .before .before .before .before .before .before .read-unit .ensures) (c .before .before .before .before .s2 .given .1))
+loop-again c =
+    let loop = c .before .before .before .before .before .before .before .before .before .before .before .loop in
+    let read-unit = c .before .before .before .before .before .before .before .before .read-unit in
+    let s2 = c .before .before .before .before .s2 in
+    (read-unit .kept .1 .0 ∙ loop .inv .0, held-next (placeOf (loop .at)) (loop .inv .1) (read-unit .ensures) (s2 .given .1))
 
 same-length-3 : tie.Need-same-length-3 Inv-loop μ-loop
 same-length-3 c = c .before .loop .inv .0
@@ -38,6 +53,7 @@ show-units-spec =
     (tie.spec
     Inv-loop
     μ-loop
+    (λ c κs. search needs)
     (λ c κs. search needs)
     loop-holds
     (λ c. search needs)

@@ -2,14 +2,46 @@ use mathlib.Core.Path.{ap, _∙_}
 use Rattle.rules.specs.Names.{Name}
 use Rattle.rules.specs.Declarations.{resolve}
 use Rattle.members.proofs.HeldLaws.{indexed}
+use Rattle.state.specs.Parts.{indexIn, chainsIn}
 use Rattle.state.proofs.JudgeLaws.{home-number}
 use Rattle.state.proofs.SharedLaws.{reference-cut}
+use native.Mathlib.Omega.{arith}
+use Rattle.state.proofs.RoomLaws.{definition-rows, links}
 use borrow.Author.Needs.{needs}
 use Rattle.state.proofs.named.Statement.{statement}
 use Rattle.state.proofs.named.Tie as tie
 
+resolve-requires : tie.Need-resolve-requires
+unfolding indexIn chainsIn
+resolve-requires c κs =
+    let s = c .before .before .before .before .before in
+    let p = s .pre in
+    let st = s .args .st in
+    let w = s .args .work .now in
+    (p .0, p .1, definition-rows st w (p .2) (st .listing .count) (omega arith), links st w (p .2) (st .listing .count) (omega arith))
+
 returns : tie.Need-returns
-returns c = (c .resolve .ensures .0, λ s b o y ns ps k e f. c .resolve .ensures .1 s (indexed (k .held) .known) (k .chained) (home-number (c .before .before .before .before .before .args .text .now) s (c .before .before .before .before .before .args .st) o (c .before .before .before .before .before .args .index .now) (c .before .before .before .before .before .args .chains .now) y ns ps k) (ap (λ (n : Name). n .bytes) (k .model .named)) ∙ ap (resolve s) (reference-cut (c .before .before .before .before .before .args .text .now) b (c .before .before .before .before .before .args .r) e f))
+unfolding indexIn chainsIn
+returns c =
+    let s = c .before .before .before .before .before .before in
+    let f = c .resolve in (
+      f .ensures .0,
+      λ q b o hs k e g. f .ensures .1 q (indexed (k .held) .known) (k .chained)
+          (home-number _ q (s .args .st) o _ _ _ hs k) (ap (λ (n : Name). n .bytes) (k .model .named))
+          ∙ ap (resolve q) (reference-cut (s .args .text .now) b (s .args .r) e g),
+    )
 
 pub named-spec : {M : Type 1} → statement M
-named-spec = tie.close (tie.spec (λ c κs. search needs) returns)
+named-spec =
+    tie.close
+    (tie.spec
+    (λ c. search needs)
+    (λ c. search needs)
+    (λ c. search needs)
+    (λ c. search needs)
+    (λ c. search needs)
+    (λ c. search needs)
+    (λ c. search needs)
+    (λ c. search needs)
+    resolve-requires
+    returns)

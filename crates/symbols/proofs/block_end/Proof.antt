@@ -1,5 +1,5 @@
-use mathlib.Core.Path.{_≡_, sym, _∙_}
 use Prim.Native.Nat.{_-_}
+use mathlib.Core.Path.{_≡_, sym, _∙_}
 use lib.ListN.{length, drop}
 use Rattle.symbols.specs.Scans.{closeOf}
 use Rattle.symbols.proofs.GapLaws.{close-go, close-stop, close-done}
@@ -16,16 +16,20 @@ abbrev μ-loop : tie.MeasureT-loop
 
 returns : tie.Need-returns Inv-loop μ-loop
 returns c =
+    let s = c .before .before .before .before .before in
     let v = c .before .before .before .loop in
-    sym (v .inv ∙ close-stop (c .before .before .before .before .before .args .text .now) (v .i) (omega arith) (sym (c .before .two .ensures) ∙ c .if1 .taken))
+    sym (v .inv ∙ close-stop (s .args .text .now) (v .i) (omega arith) (sym (c .before .two .ensures) ∙ c .if1 .taken))
 
 loop-again : tie.Need-loop-again Inv-loop μ-loop
 loop-again c =
+    let s = c .before .before .before .before .before in
     let v = c .before .before .before .loop in
-    v .inv ∙ close-go (c .before .before .before .before .before .args .text .now) (v .i) (omega arith) (sym (c .before .two .ensures) ∙ c .if1 .left)
+    v .inv ∙ close-go (s .args .text .now) (v .i) (omega arith) (sym (c .before .two .ensures) ∙ c .if1 .left)
 
 returns-2 : tie.Need-returns-2 Inv-loop μ-loop
-returns-2 c = sym (c .before .loop .inv ∙ close-done (c .before .before .before .args .text .now) (c .before .loop .i) (omega arith))
+returns-2 c =
+    let s = c .before .before .before in
+    sym (c .before .loop .inv ∙ close-done (s .args .text .now) (c .before .loop .i) (omega arith))
 
 pub block-end-spec : {M : Type 1} → statement M
 block-end-spec =

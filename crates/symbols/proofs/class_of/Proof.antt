@@ -1,7 +1,7 @@
 use mathlib.Core.Path.{refl}
 use mathlib.Core.List.{List, [], _∷_}
 use Prim.Native.Nat.{ℕ}
-use Rattle.symbols.specs.declared.Class.the-variants.{Letter, Digit, Sign, Quote, Punctuation, Other}
+use Rattle.symbols.specs.declared.Class.the-variants.{Letter, Digit, Sign, Quote, Comment, Punctuation, Separator, Other}
 use Rattle.symbols.specs.Scans.{classOf}
 use Rattle.symbols.proofs.ClassLaws.{class-is, class-key}
 use native.Mathlib.Omega.{arith}
@@ -10,7 +10,7 @@ use Rattle.symbols.proofs.class_of.Tie as tie
 
 -- the keys, the last arm's first
 keys : List (List ℕ)
-keys = (44 ∷ 46 ∷ 61 ∷ []) ∷ (34 ∷ []) ∷ (43 ∷ 45 ∷ []) ∷ []
+keys = (13 ∷ 32 ∷ []) ∷ (44 ∷ 46 ∷ 61 ∷ []) ∷ (33 ∷ 47 ∷ []) ∷ (34 ∷ []) ∷ (43 ∷ 45 ∷ []) ∷ []
 
 returns : tie.Need-returns
 unfolding classOf
@@ -21,54 +21,82 @@ unfolding classOf
 returns-2 c = class-key Quote (34 ∷ []) (c .before .args .b) refl (c .match .keys2)
 
 returns-3 : tie.Need-returns-3
-unfolding classOf keys
-returns-3 c =
-    class-is keys Digit 48 10 refl (c .before .before .before .before .before .before .args .b) (c .before .before .before .before .before .match .rest) (omega arith) (omega arith)
+unfolding classOf
+returns-3 c = class-key Comment (33 ∷ 47 ∷ []) (c .before .args .b) refl (c .match .keys3)
 
 returns-4 : tie.Need-returns-4
 unfolding classOf keys
-returns-4 c = class-is keys Letter 65 26 refl (c .before .before .before .before .args .b) (c .before .before .before .match .rest) (omega arith) (omega arith)
+returns-4 c =
+    let s = c .before .before .before .before .before .before in
+    class-is keys Digit 43 15 refl (s .before .args .b) (s .match .rest) (omega arith) (omega arith)
 
 returns-5 : tie.Need-returns-5
 unfolding classOf keys
 returns-5 c =
-    class-is keys Letter 97 26 refl (c .before .before .before .before .before .before .args .b) (c .before .before .before .before .before .match .rest) (omega arith) (omega arith)
+    let s = c .before .before .before in
+    class-is keys Letter 65 26 refl (s .before .args .b) (s .match .rest) (omega arith) (omega arith)
 
 returns-6 : tie.Need-returns-6
 unfolding classOf keys
-returns-6 c = class-is keys Other 0 40 refl (c .before .before .before .args .b) (c .before .before .match .rest) (omega arith) (omega arith)
+returns-6 c =
+    let s = c .before .before .before .before .before in
+    class-is keys Letter 97 26 refl (s .before .args .b) (s .match .rest) (omega arith) (omega arith)
 
 returns-7 : tie.Need-returns-7
 unfolding classOf keys
 returns-7 c =
-    class-is keys Other 43 5 refl (c .before .before .before .before .before .args .b) (c .before .before .before .before .match .rest) (omega arith) (omega arith)
+    let s = c .before .before in
+    class-is keys Other 0 9 refl (s .before .args .b) (s .match .rest) (omega arith) (omega arith)
 
 returns-8 : tie.Need-returns-8
 unfolding classOf keys
-returns-8 c = class-is keys Other 60 5 refl (c .before .before .before .args .b) (c .before .before .match .rest) (omega arith) (omega arith)
+returns-8 c =
+    let s = c .before .before .before .before in
+    class-is keys Other 11 29 refl (s .before .args .b) (s .match .rest) (omega arith) (omega arith)
 
 returns-9 : tie.Need-returns-9
 unfolding classOf keys
 returns-9 c =
-    class-is keys Other 91 6 refl (c .before .before .before .before .before .args .b) (c .before .before .before .before .match .rest) (omega arith) (omega arith)
+    let s = c .before .before in
+    class-is keys Other 60 5 refl (s .before .args .b) (s .match .rest) (omega arith) (omega arith)
 
 returns-10 : tie.Need-returns-10
 unfolding classOf keys
 returns-10 c =
-    class-is keys Other 123 133 refl (c .before .before .before .before .before .before .args .b) (c .before .before .before .before .before .match .rest) (omega arith) (omega arith)
+    let s = c .before .before .before .before in
+    class-is keys Other 91 6 refl (s .before .args .b) (s .match .rest) (omega arith) (omega arith)
 
 returns-11 : tie.Need-returns-11
-unfolding classOf
-returns-11 c = class-key Punctuation (44 ∷ 46 ∷ 61 ∷ []) (c .before .args .b) refl (c .match .keys3)
+unfolding classOf keys
+returns-11 c =
+    let s = c .before .before .before .before .before in
+    class-is keys Other 123 133 refl (s .before .args .b) (s .match .rest) (omega arith) (omega arith)
 
 returns-12 : tie.Need-returns-12
-unfolding classOf keys
-returns-12 c = class-is keys Punctuation 40 3 refl (c .before .before .before .before .args .b) (c .before .before .before .match .rest) (omega arith) (omega arith)
+unfolding classOf
+returns-12 c = class-key Punctuation (44 ∷ 46 ∷ 61 ∷ []) (c .before .args .b) refl (c .match .keys4)
 
 returns-13 : tie.Need-returns-13
 unfolding classOf keys
 returns-13 c =
-    class-is keys Punctuation 58 2 refl (c .before .before .before .before .before .before .args .b) (c .before .before .before .before .before .match .rest) (omega arith) (omega arith)
+    let s = c .before .before .before .before .before in
+    class-is keys Punctuation 40 3 refl (s .before .args .b) (s .match .rest) (omega arith) (omega arith)
+
+returns-14 : tie.Need-returns-14
+unfolding classOf keys
+returns-14 c =
+    let s = c .before .before .before .before .before .before in
+    class-is keys Punctuation 58 2 refl (s .before .args .b) (s .match .rest) (omega arith) (omega arith)
+
+returns-15 : tie.Need-returns-15
+unfolding classOf
+returns-15 c = class-key Separator (13 ∷ 32 ∷ []) (c .before .args .b) refl (c .match .keys5)
+
+returns-16 : tie.Need-returns-16
+unfolding classOf keys
+returns-16 c =
+    let s = c .before .before .before in
+    class-is keys Separator 9 2 refl (s .before .args .b) (s .match .rest) (omega arith) (omega arith)
 
 pub class-of-spec : {M : Type 1} → statement M
 class-of-spec =
@@ -86,4 +114,7 @@ class-of-spec =
     returns-10
     returns-11
     returns-12
-    returns-13)
+    returns-13
+    returns-14
+    returns-15
+    returns-16)

@@ -1,31 +1,25 @@
 use mathlib.Core.Path.{sym, _∙_}
-use Rattle.symbols.specs.Scans.{passAt}
+use Rattle.symbols.specs.Scans.{commentAt}
 use borrow.Author.Needs.{needs}
 use Rattle.symbols.proofs.comment.Statement.{statement}
 use Rattle.symbols.proofs.comment.Tie as tie
 
 returns : tie.Need-returns
-unfolding passAt
-returns c = rw (c .line-end .ensures, c .before .before .before .before .pre .1, sym (c .before .before .two .ensures) ∙ c .before .if1 .taken)
+unfolding commentAt
+returns c = rw (c .line-end .ensures, sym (c .before .before .two .ensures) ∙ c .before .if1 .taken)
 
 returns-2 : tie.Need-returns-2
-unfolding passAt
+unfolding commentAt
 returns-2 c =
-    rw (
-      c .block-end .ensures,
-      c .before .before .before .before .before .before .pre .1,
-      sym (c .before .before .before .before .two .ensures) ∙ c .before .before .before .if1 .left,
-      sym (c .before .before .two2 .ensures) ∙ c .before .if2 .taken,
-    )
+    let b = c .before in
+    let s = b .before .before in
+    rw (c .block-end .ensures, sym (s .before .two .ensures) ∙ s .if1 .left, sym (b .before .two2 .ensures) ∙ b .if2 .taken)
 
 returns-3 : tie.Need-returns-3
-unfolding passAt
+unfolding commentAt
 returns-3 c =
-    rw (
-      c .before .before .before .before .before .pre .1,
-      sym (c .before .before .before .two .ensures) ∙ c .before .before .if1 .left,
-      sym (c .before .two2 .ensures) ∙ c .if2 .left,
-    )
+    let s = c .before .before in
+    rw (sym (s .before .two .ensures) ∙ s .if1 .left, sym (c .before .two2 .ensures) ∙ c .if2 .left)
 
 pub comment-spec : {M : Type 1} → statement M
 comment-spec =

@@ -9,7 +9,9 @@ returns : tie.Need-returns
 returns c = rw (drop-of-length-le (c .before .before .args .text .now) (c .if1 .taken))
 
 returns-2 : tie.Need-returns-2
-returns-2 c = rw (escape-at (c .before .before .before .before .args .text .now) (c .before .before .before .before .args .at), c .if2 .taken)
+returns-2 c =
+    let s = c .before .before .before .before in
+    rw (escape-at (s .args .text .now) (s .args .at), c .if2 .taken)
 
 returns-3 : tie.Need-returns-3
 returns-3 c =
@@ -18,8 +20,9 @@ returns-3 c =
 
 returns-5 : tie.Need-returns-5
 returns-5 c =
+    let if2 = c .before .before .if2 in
     let a = c .before .before .before .before .before .before .args in
-    rw (escape-at (a .text .now) (a .at), ne-eqb _ _ (c .before .before .if2 .left), ne-eqb _ _ (c .before .if3 .left), ne-eqb _ _ (c .if4 .left))
+    rw (escape-at (a .text .now) (a .at), ne-eqb _ _ (if2 .left), ne-eqb _ _ (c .before .if3 .left), ne-eqb _ _ (c .if4 .left))
 
 pub escaped-spec : {M : Type 1} → statement M
 escaped-spec =

@@ -9,7 +9,10 @@ returns : tie.Need-returns
 returns c = rw (List·getD-eq-default (c .before .before .args .text .now) 0 (c .if1 .taken))
 
 returns-2 : tie.Need-returns-2
-returns-2 c = rw (c .before .before .before .if2 .taken, sym (c .before .before .digit-at .ensures) ∙ c .before .if3 .taken) (c .digits-end .ensures)
+returns-2 c =
+    let if2 = c .before .before .before .if2 in
+    let digit-at = c .before .before .digit-at in
+    rw (if2 .taken, sym (digit-at .ensures) ∙ c .before .if3 .taken) (c .digits-end .ensures)
 
 returns-3 : tie.Need-returns-3
 returns-3 c = rw (c .before .before .if2 .taken, sym (c .before .digit-at .ensures) ∙ c .if3 .left)

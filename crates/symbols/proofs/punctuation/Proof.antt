@@ -7,7 +7,10 @@ returns : tie.Need-returns
 returns c = rw (sym (c .before .before .two .ensures) ∙ c .before .if1 .taken) (c .make .ensures)
 
 returns-2 : tie.Need-returns-2
-returns-2 c = rw (sym (c .before .before .before .two .ensures) ∙ c .before .before .if1 .left) (c .make2 .ensures)
+returns-2 c =
+    let two = c .before .before .before .two in
+    let if1 = c .before .before .if1 in
+    rw (sym (two .ensures) ∙ if1 .left) (c .make2 .ensures)
 
 pub punctuation-spec : {M : Type 1} → statement M
 punctuation-spec =

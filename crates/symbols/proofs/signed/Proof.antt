@@ -7,14 +7,15 @@ use Rattle.symbols.proofs.signed.Tie as tie
 
 number-requires : tie.Need-number-requires
 number-requires c κs =
-    let a = c .before .before .before .args in
-    (omega arith, no-digit (a .text .now) (a .at) (c .before .before .before .pre .0) (c .before .before .before .pre .1))
+    let s = c .before .before .before in
+    let a = s .args in
+    (omega arith, no-digit (a .text .now) (a .at) (s .pre .0) (s .pre .1))
 
 returns : tie.Need-returns
 returns c = rw (sym (c .before .before .digit-at .ensures) ∙ c .before .if1 .taken) (c .number .ensures)
 
 returns-2 : tie.Need-returns-2
-returns-2 c = rw (sym (c .before .before .digit-at .ensures) ∙ c .before .if1 .left) (c .make .ensures)
+returns-2 c = rw (sym (c .before .before .digit-at .ensures) ∙ c .before .if1 .left) (c .faulty .ensures)
 
 pub signed-spec : {M : Type 1} → statement M
 signed-spec =

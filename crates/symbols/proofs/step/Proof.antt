@@ -15,7 +15,9 @@ returns c = rw (lt-ltb _ _ (c .if1 .taken))
 returns-2 : tie.Need-returns-2
 unfolding stepAt
 returns-2 c =
-    rw (le-ltb _ _ (c .before .before .before .if1 .left), eq-eqb _ _ (c .before .before .if2 .taken), ← c .before .escaped .ensures, eq-eqb _ _ (c .if3 .taken))
+    let if1 = c .before .before .before .if1 in
+    let if2 = c .before .before .if2 in
+    rw (le-ltb _ _ (if1 .left), eq-eqb _ _ (if2 .taken), ← c .before .escaped .ensures, eq-eqb _ _ (c .if3 .taken))
 
 add-result : tie.Need-add-result
 add-result c =
@@ -24,7 +26,10 @@ add-result c =
 
 returns-3 : tie.Need-returns-3
 unfolding stepAt
-returns-3 c = rw (le-ltb _ _ (c .before .before .before .if1 .left), eq-eqb _ _ (c .before .before .if2 .taken), ← c .before .escaped .ensures, ne-eqb _ _ (c .if3 .left))
+returns-3 c =
+    let if1 = c .before .before .before .if1 in
+    let if2 = c .before .before .if2 in
+    rw (le-ltb _ _ (if1 .left), eq-eqb _ _ (if2 .taken), ← c .before .escaped .ensures, ne-eqb _ _ (c .if3 .left))
 
 returns-4 : tie.Need-returns-4
 unfolding stepAt

@@ -28,32 +28,42 @@ returns c =
 
 returns-2 : tie.Need-returns-2 Inv-loop μ-loop
 returns-2 c =
+    let if1 = c .before .before .before .if1 in
+    let step = c .before .before .step in
     let a = c .before .before .before .before .before .before .before .before .args in
     let v = c .before .before .before .before .before .before .loop in
-    c .make2 .ensures
-    ∙ sym (string-bad (a .text .now) (a .at) (v .i) (omega arith) (v .inv .2) (omega arith) (c .before .before .before .if1 .left) (sym (c .before .before .step .ensures) ∙ c .before .if2 .taken))
+    c .faulty .ensures
+    ∙ sym (string-bad (a .text .now) (a .at) (v .i) (omega arith) (v .inv .2) (omega arith) (if1 .left) (sym (step .ensures) ∙ c .before .if2 .taken))
 
 add-i-2 : tie.Need-add-i-2 Inv-loop μ-loop
 add-i-2 c =
-    omega (arith, c .before .step .ensures, step-in (c .before .before .before .before .before .before .before .args .text .now) (c .before .before .before .before .before .loop .i) (omega arith))
+    let s = c .before .before .before .before .before .before .before in
+    let loop = c .before .before .before .before .before .loop in
+    omega (arith, c .before .step .ensures, step-in (s .args .text .now) (loop .i) (omega arith))
 
 loop-less : tie.Need-loop-less Inv-loop μ-loop
 loop-less c =
-    omega (arith, c .before .step .ensures, step-in (c .before .before .before .before .before .before .before .args .text .now) (c .before .before .before .before .before .loop .i) (omega arith), c .if2 .left)
+    let s = c .before .before .before .before .before .before .before in
+    let loop = c .before .before .before .before .before .loop in
+    omega (arith, c .before .step .ensures, step-in (s .args .text .now) (loop .i) (omega arith), c .if2 .left)
 
 loop-again : tie.Need-loop-again Inv-loop μ-loop
 loop-again c =
+    let if1 = c .before .before .if1 in
     let a = c .before .before .before .before .before .before .before .args in
     let v = c .before .before .before .before .before .loop in
     let e : c .before .step .result ≡ stepAt (a .text .now) (v .i) = c .before .step .ensures in
-    let z : 0 < stepAt (a .text .now) (v .i) = omega arith in
-    (omega arith, omega (arith, step-in (a .text .now) (v .i) (omega arith)), rw e (string-on (a .text .now) (a .at) (v .i) (omega arith) (v .inv .2) (omega arith) (c .before .before .if1 .left) z))
+    let z : 0 < stepAt (a .text .now) (v .i) = omega arith in (
+      omega arith,
+      omega (arith, step-in (a .text .now) (v .i) (omega arith)),
+      rw e (string-on (a .text .now) (a .at) (v .i) (omega arith) (v .inv .2) (omega arith) (if1 .left) z),
+    )
 
 returns-3 : tie.Need-returns-3 Inv-loop μ-loop
 returns-3 c =
     let a = c .before .before .before .before .args in
     let v = c .before .before .loop in
-    c .make3 .ensures ∙ sym (string-open (a .text .now) (a .at) (v .i) (omega arith) (v .inv .2) (omega arith))
+    c .faulty2 .ensures ∙ sym (string-open (a .text .now) (a .at) (v .i) (omega arith) (v .inv .2) (omega arith))
 
 pub string-spec : {M : Type 1} → statement M
 string-spec =

@@ -4,7 +4,10 @@ use Rattle.symbols.proofs.two_hexadecimal.Statement.{statement}
 use Rattle.symbols.proofs.two_hexadecimal.Tie as tie
 
 returns : tie.Need-returns
-returns c = rw (sym (c .before .before .before .is-hexadecimal .ensures) ∙ c .before .before .if1 .taken) (c .is-hexadecimal2 .ensures)
+returns c =
+    let is-hexadecimal = c .before .before .before .is-hexadecimal in
+    let if1 = c .before .before .if1 in
+    rw (sym (is-hexadecimal .ensures) ∙ if1 .taken) (c .is-hexadecimal2 .ensures)
 
 returns-2 : tie.Need-returns-2
 returns-2 c = rw (sym (c .before .is-hexadecimal .ensures) ∙ c .if1 .left)

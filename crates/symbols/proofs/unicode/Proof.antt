@@ -6,30 +6,39 @@ use Rattle.symbols.proofs.unicode.Statement.{statement}
 use Rattle.symbols.proofs.unicode.Tie as tie
 
 returns : tie.Need-returns
-returns c = sym (unicode-short (c .before .before .args .text .now) (c .before .before .args .at) (c .before .before .pre .1) (omega arith))
+returns c =
+    let s = c .before .before in
+    sym (unicode-short (s .args .text .now) (s .args .at) (s .pre .1) (omega arith))
 
 returns-2 : tie.Need-returns-2
 returns-2 c =
-    let a = c .before .before .before .before .before .before .args in
+    let s = c .before .before .before .before .before .before in
+    let two-hexadecimal = c .before .before .before .two-hexadecimal in
+    let if2 = c .before .before .if2 in
+    let a = s .args in
     rw (
-      unicode-at (a .text .now) (a .at) (c .before .before .before .before .before .before .pre .1),
-      sym (c .before .before .before .two-hexadecimal .ensures) ∙ c .before .before .if2 .taken,
+      unicode-at (a .text .now) (a .at) (s .pre .1),
+      sym (two-hexadecimal .ensures) ∙ if2 .taken,
       sym (c .before .two-hexadecimal2 .ensures) ∙ c .if3 .taken,
     )
 
 returns-3 : tie.Need-returns-3
 returns-3 c =
-    let a = c .before .before .before .before .before .before .args in
+    let s = c .before .before .before .before .before .before in
+    let two-hexadecimal = c .before .before .before .two-hexadecimal in
+    let if2 = c .before .before .if2 in
+    let a = s .args in
     rw (
-      unicode-at (a .text .now) (a .at) (c .before .before .before .before .before .before .pre .1),
-      sym (c .before .before .before .two-hexadecimal .ensures) ∙ c .before .before .if2 .taken,
+      unicode-at (a .text .now) (a .at) (s .pre .1),
+      sym (two-hexadecimal .ensures) ∙ if2 .taken,
       sym (c .before .two-hexadecimal2 .ensures) ∙ c .if3 .left,
     )
 
 returns-4 : tie.Need-returns-4
 returns-4 c =
-    let a = c .before .before .before .before .args in
-    rw (unicode-at (a .text .now) (a .at) (c .before .before .before .before .pre .1), sym (c .before .two-hexadecimal .ensures) ∙ c .if2 .left)
+    let s = c .before .before .before .before in
+    let a = s .args in
+    rw (unicode-at (a .text .now) (a .at) (s .pre .1), sym (c .before .two-hexadecimal .ensures) ∙ c .if2 .left)
 
 pub unicode-spec : {M : Type 1} → statement M
 unicode-spec =

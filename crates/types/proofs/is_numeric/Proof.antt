@@ -5,7 +5,7 @@ use Rattle.types.proofs.is_numeric.Statement.{statement}
 use Rattle.types.proofs.is_numeric.Tie as tie
 
 returns : tie.Need-returns
-returns c = λ y v. c .is-number .ensures ∙ numeric-valued y (c .before .args .x) v
+returns c = λ y v. c .is-numeric .ensures ∙ numeric-valued y (c .before .args .x) v
 
 pub is-numeric-spec : {M : Type 1} → statement M
 is-numeric-spec = tie.close (tie.spec (λ c κs. search needs) returns)

@@ -1,27 +1,64 @@
 use mathlib.Core.Path.{sym, _∙_}
-use Rattle.types.proofs.LayLaws.{alone-lays, merged-lays, copied-lays, plain-lays}
-use Rattle.enumerations.specs.Merging.{LaidAs}
+use Prim.Native.Nat.{_+_}
 use lib.ListN.{take}
+use Rattle.merging.specs.Merging.{LaidAs}
+use Rattle.types.proofs.LayLaws.{alone-lays, merged-lays, copied-lays, plain-lays}
 use borrow.Author.Needs.{needs}
 use Rattle.types.proofs.lay.Statement.{statement}
 use Rattle.types.proofs.lay.Tie as tie
+use Rattle.book.specs.Sizes.{headSize}
 
 returns : tie.Need-returns
-returns c = let args = c .before .before .before .before .before .before .before .before .before .before .before .args in λ w b e n k o a v u. alone-lays (λ p l. LaidAs p l (args .at) (args .out .now) (c .before .before .alone .last .0) (c .before .before .alone .result)) b (args .own) (sym (c .before .before .before .before .before .is-alone .ensures) ∙ c .before .before .before .before .if1 .taken) (λ z. c .before .before .alone .ensures (args .text .now) b z u) w e v
+returns c =
+    let k = c .before .before .alone in
+    let i = c .before .before .before .before in
+    let a = i .before .before .before .before .before .before .args in
+    λ w b e n s o f v u.
+    alone-lays (λ p l. LaidAs p l (a .used + headSize) (a .out .now) (k .last .0) (k .result)) b (a .over .own)
+    (sym (i .before .is-alone .ensures) ∙ i .if1 .taken)
+    (λ z. k .ensures (a .text .now) b z u) w e v
 
 returns-2 : tie.Need-returns-2
-returns-2 c = let args = c .before .before .before .before .before .before .before .before .before .before .before .before .before .before .before .before .before .before .before .before .before .before .args in λ w b e n k o a v u. merged-lays (λ p l. LaidAs p l (args .at) (args .out .now) (c .before .before .before .before .before .before .merged .last .1 .0) (c .before .before .before .before .before .before .merged .result)) (args .text .now) (take (args .used) (args .out .now)) (args .x .now) (args .base) (sym (c .before .before .before .before .before .before .before .before .before .before .before .before .before .before .is-listed .ensures) ∙ c .before .before .before .before .before .before .before .before .before .before .before .before .before .if2 .taken) (sym (c .before .before .before .before .before .before .before .before .before .before .before .before .is-enumeration .ensures) ∙ c .before .before .before .before .before .before .before .before .before .before .before .if3 .taken) (λ f g p q. c .before .before .before .before .before .before .merged .ensures f g (rw (c .before .before .before .before .before .before .before .before .before .before .place-of .ensures) p) q) w b e k o a u
+returns-2 c =
+    let place-of = c .before .before .before .before .before .before .place-of in
+    let k = c .before .before .before .before .merged in
+    let i = c .before .before .before .before .before .before .before .before in
+    let j = i .before .before in
+    let a = j .before .before .before .before .before .before .before .before .args in
+    λ w b e n s o f v u.
+    merged-lays (λ p l. LaidAs p l (a .used + headSize) (a .out .now) (k .last .1 .0) (k .result)) (a .text .now)
+    (take (a .used) (a .out .now)) (a .scratch .now) (a .over .base)
+    (sym (j .before .is-listed .ensures) ∙ j .if2 .taken) (sym (i .before .is-enumeration .ensures) ∙ i .if3 .taken)
+    (λ g h p q. k .ensures g h (rw (place-of .ensures) p) q) w b e s o f u
 
 returns-3 : tie.Need-returns-3
-returns-3 c = let args = c .before .before .before .before .before .before .before .before .before .before .before .before .before .before .before .args in λ w b e n k o a v u. copied-lays (λ p l. LaidAs p l (args .at) (args .out .now) (c .before .before .copied .last .0) (c .before .before .copied .result)) (args .text .now) (take (args .used) (args .out .now)) (args .x .now) (args .base) (sym (c .before .before .before .before .before .before .before .is-listed .ensures) ∙ c .before .before .before .before .before .before .if2 .taken) (sym (c .before .before .before .before .before .is-enumeration .ensures) ∙ c .before .before .before .before .if3 .left) (λ g p. c .before .before .copied .ensures (args .text .now) g p) w b e k o u
+returns-3 c =
+    let k = c .before .before .copied in
+    let i = c .before .before .before .before in
+    let j = i .before .before in
+    let a = j .before .before .before .before .before .before .before .before .args in
+    λ w b e n s o f v u.
+    copied-lays (λ p l. LaidAs p l (a .used + headSize) (a .out .now) (k .last .0) (k .result)) (a .text .now)
+    (take (a .used) (a .out .now)) (a .scratch .now) (a .over .base)
+    (sym (j .before .is-listed .ensures) ∙ j .if2 .taken) (sym (i .before .is-enumeration .ensures) ∙ i .if3 .left)
+    (λ g p. k .ensures (a .text .now) g p) w b e s o u
 
 returns-4 : tie.Need-returns-4
-returns-4 c = let args = c .before .before .before .before .before .before .before .before .before .before .before .before .before .args in λ w b e n k o a v u. plain-lays (λ p l. LaidAs p l (args .at) (args .out .now) (c .before .before .plain .last .0) (c .before .before .plain .result)) b (args .own) (sym (c .before .before .before .before .before .before .before .is-alone .ensures) ∙ c .before .before .before .before .before .before .if1 .left) (sym (c .before .before .before .before .before .is-listed .ensures) ∙ c .before .before .before .before .if2 .left) (c .before .before .plain .ensures) w e n v
+returns-4 c =
+    let k = c .before .before .plain in
+    let j = c .before .before .before .before in
+    let i = j .before .before in
+    let a = i .before .before .before .before .before .before .args in
+    λ w b e n s o f v u.
+    plain-lays (λ p l. LaidAs p l (a .used + headSize) (a .out .now) (k .last .0) (k .result)) b (a .over .own)
+    (sym (i .before .is-alone .ensures) ∙ i .if1 .left)
+    (sym (j .before .is-listed .ensures) ∙ j .if2 .left) (k .ensures) w e n v
 
 pub lay-spec : {M : Type 1} → statement M
 lay-spec =
     tie.close
     (tie.spec
+    (λ c. search needs)
     (λ c κs. search needs)
     (λ c κs. search needs)
     (λ c. search needs)
@@ -30,7 +67,6 @@ lay-spec =
     (λ c κs. search needs)
     (λ c κs. search needs)
     (λ c κs. search needs)
-    (λ c. search needs)
     (λ c. search needs)
     (λ c. search needs)
     returns-2

@@ -16,7 +16,14 @@ returns-3 : tie.Need-returns-3
 returns-3 c = λ w b e v. meant-valued (c .before .before .before .args .base) w b (sym (c .before .m2 .given .1) ∙ e) v
 
 returns-4 : tie.Need-returns-4
-returns-4 c = λ w b e v. rw (kept (c .before .before .before .m3 .given .0 .0 .value) (omega (arith, c .before .struct-told .given, c .struct-told2 .given)), kept (c .before .before .before .m3 .given .0 .1 .0 .value) (omega (arith, c .before .struct-told .given, c .struct-told2 .given))) (meant-valued (c .before .before .before .before .before .args .base) w b (sym (c .before .before .before .m3 .given .1) ∙ e) v)
+returns-4 c =
+    let s = c .before .before .before .before .before in
+    let m3 = c .before .before .before .m3 in
+    λ w b e v. rw (
+      kept (m3 .given .0 .0 .value)
+          (omega (arith, c .before .struct-told .given, c .struct-told2 .given)),
+      kept (m3 .given .0 .1 .0 .value) (omega (arith, c .before .struct-told .given, c .struct-told2 .given)),
+    ) (meant-valued (s .args .base) w b (sym (m3 .given .1) ∙ e) v)
 
 returns-5 : tie.Need-returns-5
 returns-5 c = λ w b e v. meant-valued (c .before .before .args .base) w b (sym (c .enum-told2 .given .1) ∙ e) v

@@ -10,10 +10,27 @@ read-properties-requires : tie.Need-read-properties-requires
 read-properties-requires c κs = held (expected is-name (c .expect .ensures)) (c .before .before .before .pre .0)
 
 read-written-requires : tie.Need-read-written-requires
-read-written-requires c κs = (held (expected (is-mark ":" (omega arith) (omega arith)) (c .before .before .expect2 .ensures)) (held (c .before .before .before .before .read-properties .ensures) (held (expected is-name (c .before .before .before .before .before .expect .ensures)) (c .before .before .before .before .before .before .before .before .pre .0))), c .before .before .before .before .before .before .before .before .pre .1)
+read-written-requires c κs =
+    let s = c .before .before .before .before .before .before .before .before in
+    let expect = c .before .before .before .before .before .expect in
+    let read-properties = c .before .before .before .before .read-properties in
+    let expect2 = c .before .before .expect2 in (
+      held (expected (is-mark ":" (omega arith) (omega arith)) (expect2 .ensures))
+          (held (read-properties .ensures) (held (expected is-name (expect .ensures)) (s .pre .0))),
+      s .pre .1,
+    )
 
 returns : tie.Need-returns
-returns c = attribute-steps (c .before .before .before .before .before .before .before .before .before .before .before .before .before .before .before .args .in-topic) (c .before .before .before .before .before .before .before .before .before .before .before .before .expect .ensures) (c .before .before .name-of .ensures) (c .before .before .before .before .before .before .before .before .before .before .before .read-properties .ensures) (c .before .before .before .before .before .before .before .before .before .expect2 .ensures) (c .before .before .before .before .before .before .read-written .ensures) (c .ended .ensures)
+returns c =
+    let back = c .before .before .before .before .before .before .before .before .before .before in
+    let s = back .before .before .before .before .before in
+    let expect = back .before .before .expect in
+    let read-properties = back .before .read-properties in
+    let expect2 = c .before .before .before .before .before .before .before .before .before .expect2 in
+    let read-written = c .before .before .before .before .before .before .read-written in
+    let name-of = c .before .before .name-of in
+    attribute-steps (s .args .in-topic) (expect .ensures) (name-of .ensures) (read-properties .ensures)
+    (expect2 .ensures) (read-written .ensures) (c .ended .ensures)
 
 pub attribute-spec : {M : Type 1} → statement M
 attribute-spec =

@@ -9,19 +9,57 @@ use Rattle.units.proofs.body_unit.Statement.{statement}
 use Rattle.units.proofs.body_unit.Tie as tie
 
 returns : tie.Need-returns
-returns c = body-topic (c .before .before .before .before .before .args .in-topic) (c .before .before .before .before .before .args .run) (sym (c .before .before .opens-topic .ensures) ∙ c .before .if1 .taken) (c .topic .ensures _)
+returns c =
+    let s = c .before .before .before .before .before in
+    let opens-topic = c .before .before .opens-topic in
+    body-topic (s .args .in-topic) (s .args .run) (sym (opens-topic .ensures) ∙ c .before .if1 .taken) (c .topic .ensures _)
 
 returns-2 : tie.Need-returns-2
-returns-2 c = body-class (c .before .before .before .before .before .before .before .args .in-topic) (c .before .before .before .before .before .before .before .args .run) (sym (c .before .before .before .before .opens-topic .ensures) ∙ c .before .before .before .if1 .left) (sym (c .before .before .is-class .ensures) ∙ c .before .if2 .taken) (c .class .ensures _ (sym (c .before .before .is-class .ensures) ∙ c .before .if2 .taken))
+returns-2 c =
+    let s = c .before .before .before .before .before .before .before in
+    let opens-topic = c .before .before .before .before .opens-topic in
+    let if1 = c .before .before .before .if1 in
+    let is-class = c .before .before .is-class in
+    body-class (s .args .in-topic) (s .args .run) (sym (opens-topic .ensures) ∙ if1 .left)
+    (sym (is-class .ensures) ∙ c .before .if2 .taken) (c .class .ensures _ (sym (is-class .ensures) ∙ c .before .if2 .taken))
 
 returns-3 : tie.Need-returns-3
-returns-3 c = body-domains (c .before .before .before .before .before .before .before .before .before .args .in-topic) (c .before .before .before .before .before .before .before .before .before .args .run) (sym (c .before .before .before .before .before .before .opens-topic .ensures) ∙ c .before .before .before .before .before .if1 .left) (sym (c .before .before .before .before .is-class .ensures) ∙ c .before .before .before .if2 .left) (c .before .if3 .taken) (mark-steps _ (ascii "DOMAIN") 74 _ (where-place (Body (c .before .before .before .before .before .before .before .before .before .args .in-topic) true)) (is-word (ascii "DOMAIN") 74 refl) (c .ended .ensures))
+returns-3 c =
+    let s = c .before .before .before .before .before .before .before .before .before in
+    let opens-topic = c .before .before .before .before .before .before .opens-topic in
+    let if1 = c .before .before .before .before .before .if1 in
+    let is-class = c .before .before .before .before .is-class in
+    let if2 = c .before .before .before .if2 in
+    body-domains (s .args .in-topic) (s .args .run) (sym (opens-topic .ensures) ∙ if1 .left)
+    (sym (is-class .ensures) ∙ if2 .left) (c .before .if3 .taken)
+    (mark-steps _ (ascii "DOMAIN") 74 _ (where-place (Body (s .args .in-topic) true)) (is-word (ascii "DOMAIN") 74 refl) (c .ended .ensures))
 
 returns-4 : tie.Need-returns-4
-returns-4 c = body-domain (c .before .before .before .before .before .before .before .before .before .before .before .before .before .before .args .in-topic) (c .before .before .before .before .before .before .before .before .before .before .before .before .before .before .args .run) (sym (c .before .before .before .before .before .before .before .before .before .before .before .opens-topic .ensures) ∙ c .before .before .before .before .before .before .before .before .before .before .if1 .left) (sym (c .before .before .before .before .before .before .before .before .before .is-class .ensures) ∙ c .before .before .before .before .before .before .before .before .if2 .left) (c .before .before .before .before .before .before .if3 .left) (sym (c .before .before .before .before .before .allowed .ensures) ∙ c .before .before .before .before .if4 .taken) (c .before .before .domain .ensures)
+returns-4 c =
+    let back = c .before .before .before .before .before .before .before .before .before .before in
+    let s = back .before .before .before .before in
+    let opens-topic = back .before .opens-topic in
+    let if1 = back .if1 in
+    let is-class = c .before .before .before .before .before .before .before .before .before .is-class in
+    let if2 = c .before .before .before .before .before .before .before .before .if2 in
+    let if3 = c .before .before .before .before .before .before .if3 in
+    let allowed = c .before .before .before .before .before .allowed in
+    let if4 = c .before .before .before .before .if4 in
+    let domain = c .before .before .domain in
+    body-domain (s .args .in-topic) (s .args .run) (sym (opens-topic .ensures) ∙ if1 .left)
+    (sym (is-class .ensures) ∙ if2 .left) (if3 .left) (sym (allowed .ensures) ∙ if4 .taken) (domain .ensures)
 
 returns-5 : tie.Need-returns-5
-returns-5 c = body-close (c .before .before .before .before .before .before .before .before .before .before .before .args .in-topic) (c .before .before .before .before .before .before .before .before .before .before .before .args .run) (sym (c .before .before .before .before .before .before .before .before .opens-topic .ensures) ∙ c .before .before .before .before .before .before .before .if1 .left) (sym (c .before .before .before .before .before .before .is-class .ensures) ∙ c .before .before .before .before .before .if2 .left) (c .before .before .before .if3 .left) (sym (c .before .before .allowed .ensures) ∙ c .before .if4 .left) (c .body-end .ensures _)
+returns-5 c =
+    let s = c .before .before .before .before .before .before .before .before .before .before .before in
+    let opens-topic = c .before .before .before .before .before .before .before .before .opens-topic in
+    let if1 = c .before .before .before .before .before .before .before .if1 in
+    let is-class = c .before .before .before .before .before .before .is-class in
+    let if2 = c .before .before .before .before .before .if2 in
+    let if3 = c .before .before .before .if3 in
+    let allowed = c .before .before .allowed in
+    body-close (s .args .in-topic) (s .args .run) (sym (opens-topic .ensures) ∙ if1 .left)
+    (sym (is-class .ensures) ∙ if2 .left) (if3 .left) (sym (allowed .ensures) ∙ c .before .if4 .left) (c .body-end .ensures _)
 
 pub body-unit-spec : {M : Type 1} → statement M
 body-unit-spec =

@@ -8,10 +8,20 @@ use Rattle.units.proofs.class.Statement.{statement}
 use Rattle.units.proofs.class.Tie as tie
 
 read-properties-requires : tie.Need-read-properties-requires
-read-properties-requires c κs = held (expected is-name (c .expect2 .ensures)) (held-behind (c .before .before .before .pre) (c .before .expect .ensures))
+read-properties-requires c κs =
+    let s = c .before .before .before in
+    held (expected is-name (c .expect2 .ensures)) (held-behind (s .pre) (c .before .expect .ensures))
 
 returns : tie.Need-returns
-returns c = λ o h. class-steps o (c .before .before .before .before .before .before .before .before .before .before .before .args .in-topic) h (c .before .before .before .before .before .before .before .before .before .expect .ensures) (c .before .before .before .before .before .before .before .before .expect2 .ensures) (c .before .before .name-of .ensures) (c .before .before .before .before .before .before .before .read-properties .ensures) (c .before .before .before .before .before .read-extends .ensures) refl (c .ended .ensures)
+returns c =
+    let s = c .before .before .before .before .before .before .before .before .before .before .before in
+    let expect = c .before .before .before .before .before .before .before .before .before .expect in
+    let expect2 = c .before .before .before .before .before .before .before .before .expect2 in
+    let read-properties = c .before .before .before .before .before .before .before .read-properties in
+    let read-extends = c .before .before .before .before .before .read-extends in
+    let name-of = c .before .before .name-of in
+    λ o h. class-steps o (s .args .in-topic) h (expect .ensures) (expect2 .ensures) (name-of .ensures)
+    (read-properties .ensures) (read-extends .ensures) refl (c .ended .ensures)
 
 pub class-spec : {M : Type 1} → statement M
 class-spec =

@@ -4,7 +4,10 @@ use Rattle.units.proofs.header.Statement.{statement}
 use Rattle.units.proofs.header.Tie as tie
 
 returns : tie.Need-returns
-returns c = λ o. header-steps o (c .before .before .before .expect .ensures) (c .before .before .expect2 .ensures) (c .before .name-of .ensures) (c .ended .ensures)
+returns c =
+    let expect = c .before .before .before .expect in
+    let expect2 = c .before .before .expect2 in
+    λ o. header-steps o (expect .ensures) (expect2 .ensures) (c .before .name-of .ensures) (c .ended .ensures)
 
 pub header-spec : {M : Type 1} → statement M
 header-spec =

@@ -4,7 +4,10 @@ use Rattle.units.proofs.language_part.Statement.{statement}
 use Rattle.units.proofs.language_part.Tie as tie
 
 returns : tie.Need-returns
-returns c = language-there (c .before .before .before .if1 .taken) (c .before .before .expect .ensures) (c .before .expect2 .ensures) (c .expect3 .ensures)
+returns c =
+    let if1 = c .before .before .before .if1 in
+    let expect = c .before .before .expect in
+    language-there (if1 .taken) (expect .ensures) (c .before .expect2 .ensures) (c .expect3 .ensures)
 
 returns-2 : tie.Need-returns-2
 returns-2 c = language-absent (c .if1 .left)

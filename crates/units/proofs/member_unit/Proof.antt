@@ -9,13 +9,27 @@ use Rattle.units.proofs.member_unit.Statement.{statement}
 use Rattle.units.proofs.member_unit.Tie as tie
 
 returns : tie.Need-returns
-returns c = members-open (c .before .before .before .before .before .args .in-topic) (c .before .before .before .before .before .args .first) (sym (c .before .before .allowed .ensures) ∙ c .before .if1 .taken) (mark-steps _ (ascii "ATTRIBUTE") 75 _ (where-place (Members (c .before .before .before .before .before .args .in-topic) false)) (is-word (ascii "ATTRIBUTE") 75 refl) (c .ended .ensures))
+returns c =
+    let s = c .before .before .before .before .before in
+    let allowed = c .before .before .allowed in
+    members-open (s .args .in-topic) (s .args .first) (sym (allowed .ensures) ∙ c .before .if1 .taken)
+    (mark-steps _ (ascii "ATTRIBUTE") 75 _ (where-place (Members (s .args .in-topic) false)) (is-word (ascii "ATTRIBUTE") 75 refl) (c .ended .ensures))
 
 returns-2 : tie.Need-returns-2
-returns-2 c = members-attribute (c .before .before .before .before .before .before .before .before .before .before .args .in-topic) (c .before .before .before .before .before .before .before .before .before .before .args .first) (sym (c .before .before .before .before .before .before .before .allowed .ensures) ∙ c .before .before .before .before .before .before .if1 .left) (c .before .before .before .before .if2 .taken) (c .before .before .attribute .ensures)
+returns-2 c =
+    let s = c .before .before .before .before .before .before .before .before .before .before in
+    let allowed = c .before .before .before .before .before .before .before .allowed in
+    let if1 = c .before .before .before .before .before .before .if1 in
+    let if2 = c .before .before .before .before .if2 in
+    let attribute = c .before .before .attribute in
+    members-attribute (s .args .in-topic) (s .args .first) (sym (allowed .ensures) ∙ if1 .left) (if2 .taken) (attribute .ensures)
 
 returns-3 : tie.Need-returns-3
-returns-3 c = members-close (c .before .before .before .before .before .before .before .args .in-topic) (c .before .before .before .before .before .before .before .args .first) (sym (c .before .before .before .before .allowed .ensures) ∙ c .before .before .before .if1 .left) (c .before .if2 .left) (c .close .ensures _)
+returns-3 c =
+    let s = c .before .before .before .before .before .before .before in
+    let allowed = c .before .before .before .before .allowed in
+    let if1 = c .before .before .before .if1 in
+    members-close (s .args .in-topic) (s .args .first) (sym (allowed .ensures) ∙ if1 .left) (c .before .if2 .left) (c .close .ensures _)
 
 pub member-unit-spec : {M : Type 1} → statement M
 member-unit-spec =

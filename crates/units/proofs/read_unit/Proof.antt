@@ -11,10 +11,16 @@ returns-2 : tie.Need-returns-2
 returns-2 c = unit-at _ AfterHeader (c .before .enum-told2 .given .1) (at-header (c .model .ensures _))
 
 returns-3 : tie.Need-returns-3
-returns-3 c = unit-at _ (Body _ _) (c .before .before .before .before .before .at .given .1) (at-body _ _ (c .before .before .body-unit .ensures))
+returns-3 c =
+    let at = c .before .before .before .before .before .at in
+    let body-unit = c .before .before .body-unit in
+    unit-at _ (Body _ _) (at .given .1) (at-body _ _ (body-unit .ensures))
 
 returns-4 : tie.Need-returns-4
-returns-4 c = unit-at _ (Members _ _) (c .before .before .before .before .before .at2 .given .1) (at-members _ _ (c .before .before .member-unit .ensures))
+returns-4 c =
+    let at2 = c .before .before .before .before .before .at2 in
+    let member-unit = c .before .before .member-unit in
+    unit-at _ (Members _ _) (at2 .given .1) (at-members _ _ (member-unit .ensures))
 
 returns-5 : tie.Need-returns-5
 returns-5 c = unit-at _ Over (c .before .enum-told3 .given .1) (at-over (over-steps _ (c .ended .ensures)))

@@ -7,10 +7,15 @@ use Rattle.verdict.proofs.main.Statement.{statement}
 use Rattle.verdict.proofs.main.Tie as tie
 
 array-share-prefix-text : tie.Need-array-share-prefix-text
-array-share-prefix-text c = omega (arith, within-read 0 65536 (c .before .before .i .given .1) (c .before .before .before .before .before .read-all .ensures))
+array-share-prefix-text c =
+    let i = c .before .before in
+    omega (arith, within-read 0 65536 (i .i .given .1) (i .before .before .before .read-all .ensures))
 
 slice-aggregate-judge : tie.Need-slice-aggregate-judge
-slice-aggregate-judge c = sym (length-take-le _ _ (omega (arith, within-read 0 65536 (c .before .before .before .i .given .1) (c .before .before .before .before .before .before .read-all .ensures), c .before .before .before .before .before .before .read-all .kept .0)))
+slice-aggregate-judge c =
+    let i = c .before .before .before in
+    let r = i .before .before .before .read-all in
+    sym (length-take-le _ _ (omega (arith, within-read 0 65536 (i .i .given .1) (r .ensures), r .kept .0)))
 
 pub main-spec : {M : Type 1} → statement M
 main-spec =

@@ -17,13 +17,20 @@ returns : tie.Need-returns Inv-loop μ-loop
 returns c = within-failed _ _ (c .enum-told .given .1)
 
 add-done : tie.Need-add-done Inv-loop μ-loop
-add-done c = omega (arith, within-read _ _ (c .before .before .i .given .1) (c .before .before .before .before .before .before .read-more .ensures))
+add-done c =
+    let i = c .before .before in
+    omega (arith, within-read _ _ (i .i .given .1) (i .before .before .before .before .read-more .ensures))
 
 loop-less : tie.Need-loop-less Inv-loop μ-loop
 loop-less c = omega (arith, c .if1 .left)
 
 loop-again : tie.Need-loop-again Inv-loop μ-loop
-loop-again c = let e = c .before .before .before .before .before .before .read-more .kept .0 in (e ∙ c .before .before .before .before .before .before .before .before .before .loop .inv .0, omega (arith, within-read _ _ (c .before .before .i .given .1) (c .before .before .before .before .before .before .read-more .ensures), c .before .before .before .before .before .before .before .before .before .loop .inv .0))
+loop-again c =
+    let i = c .before .before in
+    let r = i .before .before .before .before in
+    let v = r .before .before .before .loop .inv in
+    let e = r .read-more .kept .0 in
+    (e ∙ v .0, omega (arith, within-read _ _ (i .i .given .1) (r .read-more .ensures), v .0))
 
 pub read-all-spec : {M : Type 1} → statement M
 read-all-spec =

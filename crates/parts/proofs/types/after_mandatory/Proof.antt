@@ -6,13 +6,24 @@ use Rattle.parts.proofs.types.after_mandatory.Statement.{statement}
 use Rattle.parts.proofs.types.after_mandatory.Tie as tie
 
 returns : tie.Need-returns
-returns c = alone (c .before .before .before .before .before .args .based) (c .before .before .before .before .before .args .or) (c .before .before .if1 .taken) (c .if2 .taken)
+returns c =
+    let s = c .before .before .before .before .before in
+    let if1 = c .before .before .if1 in
+    alone (s .args .based) (s .args .or-reference) (if1 .taken) (c .if2 .taken)
 
 returns-2 : tie.Need-returns-2
-returns-2 c = not-alone (c .before .before .before .before .before .before .before .before .before .args .based) (c .before .before .before .before .before .before .before .before .before .args .or) (λ z k. fail-r (c .before .before .before .before .before .before .before .before .before .args .based) (is-no semicolon (c .before .before .before .before .if2 .left) z k)) (c .before .before .type-by .ensures)
+returns-2 c =
+    let s = c .before .before .before .before .before .before .before .before .before in
+    let if2 = c .before .before .before .before .if2 in
+    let type-by = c .before .before .type-by in
+    not-alone (s .args .based) (s .args .or-reference) (λ z k. fail-r (s .args .based) (is-no semicolon (if2 .left) z k)) (type-by .ensures)
 
 returns-3 : tie.Need-returns-3
-returns-3 c = not-alone (c .before .before .before .before .before .before .before .args .based) (c .before .before .before .before .before .before .before .args .or) (λ z k. fail-l _ (c .before .before .before .before .if1 .left)) (c .before .before .type-by2 .ensures)
+returns-3 c =
+    let s = c .before .before .before .before .before .before .before in
+    let if1 = c .before .before .before .before .if1 in
+    let type-by2 = c .before .before .type-by2 in
+    not-alone (s .args .based) (s .args .or-reference) (λ z k. fail-l _ (if1 .left)) (type-by2 .ensures)
 
 pub after-mandatory-spec : {M : Type 1} → statement M
 after-mandatory-spec =

@@ -15,7 +15,10 @@ returns-3 : tie.Need-returns-3
 returns-3 c = λ n. type-numeric (c .before .if3 .taken) (c .expect .ensures)
 
 returns-4 : tie.Need-returns-4
-returns-4 c = λ n. type-range (c .before .before .before .before .before .if1 .left) (c .before .before .before .if2 .left) (c .before .if3 .left) n (c .range-type .ensures)
+returns-4 c =
+    let if1 = c .before .before .before .before .before .if1 in
+    let if2 = c .before .before .before .if2 in
+    λ n. type-range (if1 .left) (if2 .left) (c .before .if3 .left) n (c .range-type .ensures)
 
 pub plain-type-spec : {M : Type 1} → statement M
 plain-type-spec =

@@ -6,10 +6,17 @@ use Rattle.parts.proofs.types.range_type.Statement.{statement}
 use Rattle.parts.proofs.types.range_type.Tie as tie
 
 number-requires-2 : tie.Need-number-requires-2
-number-requires-2 c κs = held (expected is-dots (c .before .expect2 .ensures)) (held (expected is-number (c .before .before .expect .ensures)) (c .before .before .before .before .pre))
+number-requires-2 c κs =
+    let s = c .before .before .before .before in
+    let expect = c .before .before .expect in
+    held (expected is-dots (c .before .expect2 .ensures)) (held (expected is-number (expect .ensures)) (s .pre))
 
 returns : tie.Need-returns
-returns c = range-reads (c .before .before .before .before .expect .ensures) (c .before .before .before .expect2 .ensures) (c .expect3 .ensures) (c .before .before .number .ensures) (c .before .number2 .ensures)
+returns c =
+    let expect = c .before .before .before .before .expect in
+    let expect2 = c .before .before .before .expect2 in
+    let number = c .before .before .number in
+    range-reads (expect .ensures) (expect2 .ensures) (c .expect3 .ensures) (number .ensures) (c .before .number2 .ensures)
 
 pub range-type-spec : {M : Type 1} → statement M
 range-type-spec =

@@ -8,13 +8,24 @@ use Rattle.parts.proofs.types.read_written.Statement.{statement}
 use Rattle.parts.proofs.types.read_written.Tie as tie
 
 after-mandatory-requires : tie.Need-after-mandatory-requires
-after-mandatory-requires c κs = (held (expected (is-word (ascii "MANDATORY") 78 refl) (c .before .expect .ensures)) (c .before .before .before .before .before .before .pre .0), c .before .before .before .before .before .before .pre .1)
+after-mandatory-requires c κs =
+    let s = c .before .before .before .before .before .before in
+    (held (expected (is-word (ascii "MANDATORY") 78 refl) (c .before .expect .ensures)) (s .pre .0), s .pre .1)
 
 returns : tie.Need-returns
-returns c = with-mandatory (c .before .before .before .before .before .before .before .before .before .before .args .based) (c .before .before .before .before .before .before .before .before .before .before .args .or) (c .before .before .before .before .before .before .if1 .taken) (c .before .before .before .before .before .expect .ensures) (c .before .before .before .after-mandatory .ensures)
+returns c =
+    let s = c .before .before .before .before .before .before .before .before .before .before in
+    let if1 = c .before .before .before .before .before .before .if1 in
+    let expect = c .before .before .before .before .before .expect in
+    let after-mandatory = c .before .before .before .after-mandatory in
+    with-mandatory (s .args .based) (s .args .or-reference) (if1 .taken) (expect .ensures) (after-mandatory .ensures)
 
 returns-2 : tie.Need-returns-2
-returns-2 c = not-mandatory (c .before .before .before .before .before .before .before .before .before .args .based) (c .before .before .before .before .before .before .before .before .before .args .or) (c .before .before .before .before .before .if1 .left) (c .before .before .before .type-by .ensures)
+returns-2 c =
+    let s = c .before .before .before .before .before .before .before .before .before in
+    let if1 = c .before .before .before .before .before .if1 in
+    let type-by = c .before .before .before .type-by in
+    not-mandatory (s .args .based) (s .args .or-reference) (if1 .left) (type-by .ensures)
 
 pub read-written-spec : {M : Type 1} → statement M
 read-written-spec =

@@ -7,10 +7,16 @@ use Rattle.parts.proofs.types.text_type.Statement.{statement}
 use Rattle.parts.proofs.types.text_type.Tie as tie
 
 text-length-requires : tie.Need-text-length-requires
-text-length-requires c κs = held (expected (is-mark "*" (omega arith) (omega arith)) (c .expect2 .ensures)) (held-behind (c .before .before .before .before .before .pre) (c .before .before .before .expect .ensures))
+text-length-requires c κs =
+    let s = c .before .before .before .before .before in
+    let expect = c .before .before .before .expect in
+    held (expected (is-mark "*" (omega arith) (omega arith)) (c .expect2 .ensures)) (held-behind (s .pre) (expect .ensures))
 
 returns : tie.Need-returns
-returns c = λ m k q. text-limited m k (c .before .before .before .before .expect .ensures) (c .before .before .if1 .taken) (c .before .expect2 .ensures) (c .text-length .ensures m q)
+returns c =
+    let expect = c .before .before .before .before .expect in
+    let if1 = c .before .before .if1 in
+    λ m k q. text-limited m k (expect .ensures) (if1 .taken) (c .before .expect2 .ensures) (c .text-length .ensures m q)
 
 returns-2 : tie.Need-returns-2
 returns-2 c = λ m k q. text-free m k (c .before .before .expect .ensures) q (c .if1 .left)

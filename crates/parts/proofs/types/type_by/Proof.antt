@@ -3,10 +3,16 @@ use Rattle.parts.proofs.types.type_by.Statement.{statement}
 use Rattle.parts.proofs.types.type_by.Tie as tie
 
 returns : tie.Need-returns
-returns c = rw (c .before .before .before .before .if1 .taken) (c .before .before .type-or-reference .ensures)
+returns c =
+    let if1 = c .before .before .before .before .if1 in
+    let type-or-reference = c .before .before .type-or-reference in
+    rw (if1 .taken) (type-or-reference .ensures)
 
 returns-2 : tie.Need-returns-2
-returns-2 c = rw (c .before .before .before .before .if1 .left) (c .before .before .type-of .ensures)
+returns-2 c =
+    let if1 = c .before .before .before .before .if1 in
+    let type-of = c .before .before .type-of in
+    rw (if1 .left) (type-of .ensures)
 
 pub type-by-spec : {M : Type 1} → statement M
 type-by-spec =

@@ -4,7 +4,10 @@ use Rattle.parts.proofs.types.type_of.Statement.{statement}
 use Rattle.parts.proofs.types.type_of.Tie as tie
 
 returns : tie.Need-returns
-returns c = type-enum (c .before .before .before .before .before .if1 .taken) (c .before .before .before .outermost .ensures)
+returns c =
+    let if1 = c .before .before .before .before .before .if1 in
+    let outermost = c .before .before .before .outermost in
+    type-enum (if1 .taken) (outermost .ensures)
 
 returns-2 : tie.Need-returns-2
 returns-2 c = type-plain (c .plain-type .ensures (c .before .if1 .left))

@@ -7,7 +7,10 @@ returns : tie.Need-returns
 returns c = type-named (c .before .before .if1 .taken) (c .before .read-reference .ensures)
 
 returns-2 : tie.Need-returns-2
-returns-2 c = type-other (c .before .before .before .before .if1 .left) (c .before .before .type-of .ensures)
+returns-2 c =
+    let if1 = c .before .before .before .before .if1 in
+    let type-of = c .before .before .type-of in
+    type-other (if1 .left) (type-of .ensures)
 
 pub type-or-reference-spec : {M : Type 1} → statement M
 type-or-reference-spec =

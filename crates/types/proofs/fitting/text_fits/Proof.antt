@@ -5,7 +5,10 @@ use Rattle.types.proofs.fitting.text_fits.Statement.{statement}
 use Rattle.types.proofs.fitting.text_fits.Tie as tie
 
 returns : tie.Need-returns
-returns c = c .limit-fits .ensures ∙ ap (textFitsBy (c .before .before .before .before .args .own)) (sym (c .before .before .base .given .1))
+returns c =
+    let s = c .before .before .before .before in
+    let base = c .before .before .base in
+    c .limit-fits .ensures ∙ ap (textFitsBy (s .args .own)) (sym (base .given .1))
 
 pub text-fits-spec : {M : Type 1} → statement M
 text-fits-spec =

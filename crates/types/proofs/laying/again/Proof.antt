@@ -10,7 +10,12 @@ slice-aggregate-size-of : tie.Need-slice-aggregate-size-of
 slice-aggregate-size-of c = sym (length-take-le _ _ (omega arith))
 
 returns : tie.Need-returns
-returns c = let args = c .before .before .before .before .before .before .before .args in λ t e k. again-laid t (args .out .now) _ (args .used) (args .at) (args .from) _ e (c .before .before .before .before .before .before .before .pre .1) k (c .before .before .before .before .size-of .ensures t e k) (c .before .before .copy-if .ensures)
+returns c =
+    let s = c .before .before .before .before .before .before .before in
+    let size-of = c .before .before .before .before .size-of in
+    let copy-if = c .before .before .copy-if in
+    let args = s .args in
+    λ t e k. again-laid t (args .out .now) _ (args .used) (args .at) (args .from) _ e (s .pre .1) k (size-of .ensures t e k) (copy-if .ensures)
 
 pub again-spec : {M : Type 1} → statement M
 again-spec =

@@ -6,16 +6,31 @@ use Rattle.types.proofs.laying.plain.Statement.{statement}
 use Rattle.types.proofs.laying.plain.Tie as tie
 
 cast-range-record : tie.Need-cast-range-record
-cast-range-record c = record { fits = omega (arith, sized-range _ _ _ (c .before .before .before .before .pre .0) (c .before .x2 .given .1)) }
+cast-range-record c =
+    let s = c .before .before .before .before in
+    record { fits = omega (arith, sized-range _ _ _ (s .pre .0) (c .before .x2 .given .1)) }
 
 returns : tie.Need-returns
-returns c = rw (c .before .before .before .before .before .before .before .x .given .1) (rw (c .before .before .before .before .before .length-record .ensures) at (c .before .before .put-record .ensures))
+returns c =
+    let x = c .before .before .before .before .before .before .before .x in
+    let length-record = c .before .before .before .before .before .length-record in
+    let put-record = c .before .before .put-record in
+    rw (x .given .1) (rw (length-record .ensures) at (put-record .ensures))
 
 returns-2 : tie.Need-returns-2
-returns-2 c = let s = sized-range _ _ _ (c .before .before .before .before .before .before .before .before .before .before .pre .0) (c .before .before .before .before .before .before .before .x2 .given .1) in rw (c .before .before .before .before .before .before .before .x2 .given .1) (rw (c .before .before .before .before .before .range-record .ensures, held-small _ (s .1), held-small _ (s .2)) at (c .before .before .put-record2 .ensures))
+returns-2 c =
+    let start = c .before .before .before .before .before .before .before .before .before .before in
+    let x2 = c .before .before .before .before .before .before .before .x2 in
+    let range-record = c .before .before .before .before .before .range-record in
+    let put-record2 = c .before .before .put-record2 in
+    let s = sized-range _ _ _ (start .pre .0) (x2 .given .1) in
+    rw (x2 .given .1) (rw (range-record .ensures, held-small _ (s .1), held-small _ (s .2)) at (put-record2 .ensures))
 
 returns-3 : tie.Need-returns-3
-returns-3 c = rw (c .before .before .before .before .before .enum-told .given .1) (c .before .before .put-record3 .ensures)
+returns-3 c =
+    let enum-told = c .before .before .before .before .before .enum-told in
+    let put-record3 = c .before .before .put-record3 in
+    rw (enum-told .given .1) (put-record3 .ensures)
 
 returns-4 : tie.Need-returns-4
 returns-4 c = let args = c .before .before .before .args in rw (c .enum-told2 .given .1) (nothing-laid (args .out .now) (args .at))

@@ -7,7 +7,18 @@ use Rattle.types.proofs.reading.range_at.Tie as tie
 
 returns : tie.Need-returns
 unfolding rangeAt
-returns c = rw (le-leb _ _ (c .before .before .before .before .if1 .taken), kept (c .before .signed-at .result) (c .before .signed-at .ok), kept (c .signed-at2 .result) (c .signed-at2 .ok), c .before .before .wide .ensures .0, c .before .signed-at .ensures, c .signed-at2 .ensures)
+returns c =
+    let if1 = c .before .before .before .before .if1 in
+    let wide = c .before .before .wide in
+    rw (
+      le-leb _ _ (if1 .taken),
+      kept (c .before .signed-at .result) (c .before .signed-at .ok),
+      kept
+          (c .signed-at2 .result) (c .signed-at2 .ok),
+      wide .ensures .0,
+      c .before .signed-at .ensures,
+      c .signed-at2 .ensures,
+    )
 
 returns-2 : tie.Need-returns-2
 unfolding rangeAt

@@ -5,7 +5,9 @@ use Rattle.types.proofs.reading.signed_at.Statement.{statement}
 use Rattle.types.proofs.reading.signed_at.Tie as tie
 
 returns : tie.Need-returns
-returns c = kept (c .signed .result) (c .signed .ok) ∙ c .signed .ensures ∙ rw (c .before .before .get4 .ensures, c .before .get42 .ensures)
+returns c =
+    let get4 = c .before .before .get4 in
+    kept (c .signed .result) (c .signed .ok) ∙ c .signed .ensures ∙ rw (get4 .ensures, c .before .get42 .ensures)
 
 pub signed-at-spec : {M : Type 1} → statement M
 signed-at-spec =

@@ -14,23 +14,44 @@ returns-2 c = rw (lt-ltb _ _ (c .before .before .before .if1 .left), c .before .
 
 returns-3 : tie.Need-returns-3
 unfolding typingAt
-returns-3 c = rw (lt-ltb _ _ (c .before .before .before .before .if1 .left), c .before .if3 .taken) (c .text-at2 .ensures)
+returns-3 c =
+    let if1 = c .before .before .before .before .if1 in
+    rw (lt-ltb _ _ (if1 .left), c .before .if3 .taken) (c .text-at2 .ensures)
 
 returns-4 : tie.Need-returns-4
 unfolding typingAt
-returns-4 c = rw (lt-ltb _ _ (c .before .before .before .before .before .if1 .left), c .before .if4 .taken) (c .range-at .ensures)
+returns-4 c =
+    let if1 = c .before .before .before .before .before .if1 in
+    rw (lt-ltb _ _ (if1 .left), c .before .if4 .taken) (c .range-at .ensures)
 
 returns-5 : tie.Need-returns-5
 unfolding typingAt
-returns-5 c = rw (lt-ltb _ _ (c .before .before .before .before .before .if1 .left), c .if5 .taken)
+returns-5 c =
+    let if1 = c .before .before .before .before .before .if1 in
+    rw (lt-ltb _ _ (if1 .left), c .if5 .taken)
 
 returns-6 : tie.Need-returns-6
 unfolding typingAt
-returns-6 c = rw (lt-ltb _ _ (c .before .before .before .before .before .before .if1 .left), c .if6 .taken)
+returns-6 c =
+    let if1 = c .before .before .before .before .before .before .if1 in
+    rw (lt-ltb _ _ (if1 .left), c .if6 .taken)
 
 returns-7 : tie.Need-returns-7
 unfolding typingAt
-returns-7 c = rw (lt-ltb _ _ (c .before .before .before .before .before .before .if1 .left), ne-eqb _ 8 (c .before .before .before .before .if2 .left), ne-eqb _ 9 (c .before .before .before .if3 .left), ne-eqb _ 10 (c .before .before .if4 .left), ne-eqb _ 11 (c .before .if5 .left), ne-eqb _ 13 (c .if6 .left))
+returns-7 c =
+    let if1 = c .before .before .before .before .before .before .if1 in
+    let if2 = c .before .before .before .before .if2 in
+    let if3 = c .before .before .before .if3 in
+    let if4 = c .before .before .if4 in
+    rw (
+      lt-ltb _ _ (if1 .left),
+      ne-eqb _ 8 (if2 .left),
+      ne-eqb _ 9 (if3 .left),
+      ne-eqb _ 10 (if4 .left),
+      ne-eqb _ 11
+          (c .before .if5 .left),
+      ne-eqb _ 13 (c .if6 .left),
+    )
 
 pub typing-at-spec : {M : Type 1} → statement M
 typing-at-spec =

@@ -1,0 +1,32 @@
+use Rattle.rules.specs.Judge.{referenceIn}
+use Rattle.names.specs.Index.{entry}
+use mathlib.Core.Path.{_∙_}
+use Rattle.attribute_names.proofs.NameLaws.{is-lost, not-lost}
+use borrow.Author.Needs.{needs}
+use Rattle.attribute_names.proofs.reference_ruling.Statement.{statement}
+use Rattle.attribute_names.proofs.reference_ruling.Tie as tie
+
+returns : tie.Need-returns
+returns c =
+    let s = c .before .before .before .before in
+    let the-is-lost = c .before .before .is-lost in
+    λ t ks n ms w k v b e g. c .broken .ensures
+    ∙ is-lost ms (s .args .base) b (s .args .extended) (s .args .place) (referenceIn w) (entry ks (s .args .named)) _
+    (the-is-lost .ensures) (c .before .if1 .taken)
+
+returns-2 : tie.Need-returns-2
+returns-2 c =
+    let s = c .before .before .before .before in
+    let is-lost = c .before .before .is-lost in
+    λ t ks n ms w k v b e g. not-lost ms (s .args .base) b (s .args .extended) (s .args .place) (referenceIn w)
+    (entry ks (s .args .named)) _ (is-lost .ensures) (c .before .if1 .left) _ (c .target-ruling .ensures t ks n w k v e g)
+
+pub reference-ruling-spec : {M : Type 1} → statement M
+reference-ruling-spec =
+    tie.close
+    (tie.spec
+    (λ c κs. search needs)
+    (λ c κs. search needs)
+    returns
+    (λ c κs. search needs)
+    returns-2)

@@ -1,0 +1,19 @@
+use Rattle.running.proofs.RunLaws.{after-refused, after-fine}
+use borrow.Author.Needs.{needs}
+use Rattle.running.proofs.after.Statement.{statement}
+use Rattle.running.proofs.after.Tie as tie
+
+returns : tie.Need-returns
+returns c = after-refused _ _ (c .before .j .given .1)
+
+returns-2 : tie.Need-returns-2
+returns-2 c = after-fine _ _ (c .before .j2 .given .1)
+
+pub after-spec : {M : Type 1} → statement M
+after-spec =
+    tie.close
+    (tie.spec
+    (λ c. search needs)
+    (λ c. search needs)
+    returns
+    returns-2)

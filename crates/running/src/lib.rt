@@ -1,0 +1,132 @@
+// The loop over the units: each is read and judged, until one is refused or the text ends.
+use state::Judged;
+use state::Layout;
+use state::State;
+use symbols::Cursor;
+use symbols::Symbol;
+use units::Step;
+use units::Where;
+ghost use mathlib.Core.Path.{_≡_};
+ghost use Prim.Native.Nat.{ℕ, _≤_};
+ghost use lib.ListN.{length, replicate};
+ghost use Rattle.rules.specs.Check.{isOver};
+ghost use Rattle.members.specs.Members.{Hand};
+ghost use Rattle.units.specs.Steps.{placeOf};
+ghost use Rattle.state.specs.Parts.{chainsIn, Loan};
+ghost use Rattle.running.specs.Running.{Suffice, Runs, Ended, Turned, after as Running·after};
+
+// The book's length and the count of its definitions, or the number and the place of a refusal.
+pub enum Answer {
+    Accepted { length: usize, definitions: usize },
+    Refused { number: u8, place: usize },
+}
+
+// Between two units: what is declared, where the next unit stands, and its first symbol.
+pub struct Stage {
+    pub state: State,
+    pub at: Where,
+    pub next: Symbol,
+}
+
+pub enum Turn {
+    On(Stage),
+    End(Answer),
+}
+
+fn is_over(at: Where) -> bool
+    ensures { λ r. ⌜ r ≡ isOver (placeOf at) ⌝ }
+{
+    match at {
+        Where::Over => true,
+        Where::Start => false,
+        Where::AfterHeader => false,
+        Where::Body { .. } => false,
+        Where::Members { .. } => false,
+    }
+}
+
+// A unit has been judged; where the next one stands, and its first symbol.
+fn after(j: Judged, at: Where, next: Symbol) -> Turn
+    ensures { λ r. ⌜ r ≡ Running·after j at next ⌝ }
+{
+    match j {
+        Judged::Refused { number, place } => Turn::End(Answer::Refused { number, place }),
+        Judged::Fine(state) => Turn::On(Stage {
+            state: state,
+            at: at,
+            next: next,
+        }),
+    }
+}
+
+// The next unit is read and judged.
+fn step(
+    text: &[u8],
+    book: &mut [u8],
+    work: &mut [u16],
+    hand: &mut [u32],
+    scratch: &mut [u8],
+    tables: &mut [u32],
+    g: Stage,
+) -> Turn
+    requires { ⌜ Loan (length (now text)) (length (now book)) (length (now scratch)) (length (now tables)) ⌝ }
+    requires { ⌜ Suffice (length (now text)) (g .state .listing .layout) (length (now work)) × Hand (now hand) ⌝ }
+    requires { ⌜ Runs (now text) (length (now book)) g (now book) (now work) (now hand) ⌝ }
+    ensures { λ r. ⌜ Turned (now (text .entry)) (length (now (book .entry))) g r
+        (now (book .exit)) (now (work .exit)) (now (hand .exit)) ⌝ }
+{
+    let at = g.at;
+    let st = g.state;
+    let y = g.next;
+    let s = units::read_unit(text, scratch, at, y);
+    match s {
+        Step::Unread { number, place } => Turn::End(Answer::Refused { number, place }),
+        Step::Read { unit, at: w, next } => {
+            if is_over(at) {
+                return Turn::End(Answer::Accepted {
+                    length: st.extent.used,
+                    definitions: st.extent.definitions,
+                });
+            }
+            let j = judge::judge(text, book, work, hand, scratch, tables, st, unit);
+            after(j, w, next)
+        }
+    }
+}
+
+// The units from left to right. The book begins at the front of `book`; what stands behind it there is of no account.
+// The chains of `work` are zero.
+pub fn run(
+    text: &[u8],
+    book: &mut [u8],
+    work: &mut [u16],
+    hand: &mut [u32],
+    scratch: &mut [u8],
+    tables: &mut [u32],
+    layout: Layout,
+) -> Answer
+    requires { ⌜ Loan (length (now text)) (length (now book)) (length (now scratch)) (length (now tables)) ⌝ }
+    requires { ⌜ Suffice (length (now text)) layout (length (now work)) × Hand (now hand) ⌝ }
+    requires { ⌜ ((n : ℕ) × (chainsIn layout (now work) ≡ replicate n 0)) ⌝ }
+    ensures { λ r. ⌜ Ended (now (text .entry)) (length (now (book .entry))) r (now (book .exit)) ⌝ }
+{
+    let c = Cursor::start();
+    let next = c.next(text);
+    let state = state::nothing(layout);
+    let mut stage = Stage {
+        state: state,
+        at: Where::Start,
+        next: next,
+    };
+    loop {
+        let t = step(text, book, work, hand, scratch, tables, stage);
+        match t {
+            Turn::End(a) => {
+                return a;
+            }
+            Turn::On(g) => {
+                stage = g;
+            }
+        }
+    }
+}

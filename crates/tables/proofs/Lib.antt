@@ -1,0 +1,4 @@
+pub mod TableLaws
+pub mod GatherLaws
+pub mod TwiceLaws
+pub mod CheckedLaws
