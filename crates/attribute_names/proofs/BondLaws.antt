@@ -6,8 +6,7 @@ use mathlib.Core.List.{List, [], _∷_, _++_}
 use Prim.Native.Nat.{ℕ, _+_, _≤_, _<_}
 use native.Mathlib.Omega.{arith}
 use lib.ListN.{length}
-use lib.Dec.{leb, ltb}
-use borrow.Author.Tests.{lt-ltb}
+use lib.Dec.{leb}
 use Rattle.rules.specs.Names as R
 use Rattle.rules.specs.Grammar as G
 use Rattle.rules.specs.Grammar.{Reference, WrittenType}
@@ -23,10 +22,9 @@ use Rattle.members.specs.Held.{Opened, Apart, attributesIn}
 use Rattle.members.proofs.NearLaws.{found-before}
 use Rattle.members.proofs.HeldLaws.{indexed}
 use Rattle.parts.specs.Forms.{anyOf}
-use Rattle.types.specs.Rulings.{rulingOf}
-use Rattle.types.specs.declared.Ruling.{Ruling}
-use Rattle.types.proofs.RulingLaws.{Positive}
-use Rattle.written.proofs.WrittenLaws.{ruling-append, ruling-rest}
+use Rattle.ground.specs.Rulings.{rulingOf}
+use Rattle.ground.specs.declared.Ruling.{Ruling}
+use Rattle.ground.proofs.RulingLaws.{Positive, ruling-first, ruling-rest}
 use Rattle.units.specs.declared.AttributeUnit.{AttributeUnit}
 use Rattle.state.specs.declared.State as code
 use Rattle.state.specs.Keeping.{Keeps, OpenIs}
@@ -37,34 +35,38 @@ use Rattle.attribute_names.specs.declared.Bonds.{Bonds}
 use Rattle.attribute_names.proofs.GivenLaws.{at-name, is-extended, is-meant, name-bytes}
 
 -- ---- what 4 and 9 leave
-pub two-off : (k q j r : ℕ) (b c : Bool) → 0 < k → 0 < j → rulingOf (rule k q b ∷ rule j r c ∷ []) .number ≡ 0 → (b ≡ false) × (c ≡ false)
+pub two-off : (k q j r : ℕ) (b c : Bool) → 0 < k → 0 < j
+    → rulingOf (rule k q b ∷ rule j r c ∷ []) .number ≡ 0 → (b ≡ false) × (c ≡ false)
 two-off k q j r true c hk hj e = absurd (omega arith)
 two-off k q j r false true hk hj e = absurd (omega arith)
 two-off k q j r false false hk hj e = (refl, refl)
 
 module _ (c : Def) (n : R.Name) (x : Bool) (e : rulingOf (nameRules c n x) .number ≡ 0) where
-  offs : ((not (isFound (attributeAt (n .bytes) (attributesOf c))) && leb most (nameCount (attributesOf c))) ≡ false) × ((isFound (attributeAt (n .bytes) (c .own)) || (isFound (attributeAt (n .bytes) (c .inherited)) && not x)) ≡ false)
+  offs : ((not (isFound (attributeAt (n .bytes) (attributesOf c))) && leb most (nameCount (attributesOf c))) ≡ false)
+      × ((isFound (attributeAt (n .bytes) (c .own)) || (isFound (attributeAt (n .bytes) (c .inherited)) && not x))
+      ≡ false)
   offs = two-off 4 (n .offset) 9 (n .offset) _ _ (omega arith) (omega arith) e
 
-  pub few-names : (not (isFound (attributeAt (n .bytes) (attributesOf c))) && leb most (nameCount (attributesOf c))) ≡ false
+  pub few-names :
+      (not (isFound (attributeAt (n .bytes) (attributesOf c))) && leb most (nameCount (attributesOf c))) ≡ false
   few-names = offs .0
 
   pub no-own : isFound (attributeAt (n .bytes) (c .own)) ≡ false
   no-own = or-fails (offs .1) .0
 
 -- ---- lists of rules
-first-broken : (l m : List Rule) → Positive l → 0 < rulingOf l .number → rulingOf l ≡ rulingOf (l ++ m)
-first-broken l m h p = let f : ltb 0 (rulingOf l .number) ≡ true = lt-ltb 0 (rulingOf l .number) p in sym (rw f at (ruling-append l m h))
-
 first-off : (l m : List Rule) → Positive l → rulingOf (l ++ m) .number ≡ 0 → rulingOf l .number ≡ 0
 first-off [] m h e = refl
 first-off (r ∷ l) m h e = go (r .broken) e (first-off l m (h .1))
   where
-    go : (b : Bool) → cond b (record { number = r .number; place = r .place }) (rulingOf (l ++ m)) .number ≡ 0 → (rulingOf (l ++ m) .number ≡ 0 → rulingOf l .number ≡ 0) → cond b (record { number = r .number; place = r .place }) (rulingOf l) .number ≡ 0
+    go : (b : Bool) → cond b (record { number = r .number; place = r .place }) (rulingOf (l ++ m)) .number ≡ 0
+        → (rulingOf (l ++ m) .number ≡ 0 → rulingOf l .number ≡ 0)
+        → cond b (record { number = r .number; place = r .place }) (rulingOf l) .number ≡ 0
     go true q i = q
     go false q i = i q
 
-three-off : (k q : ℕ) (b : Bool) (l : List Rule) → 0 < k → rulingOf (rule k q b ∷ l) .number ≡ 0 → (b ≡ false) × (rulingOf l .number ≡ 0)
+three-off : (k q : ℕ) (b : Bool) (l : List Rule) → 0 < k → rulingOf (rule k q b ∷ l) .number ≡ 0
+    → (b ≡ false) × (rulingOf l .number ≡ 0)
 three-off k q true l h e = absurd (omega arith)
 three-off k q false l h e = (refl, e)
 
@@ -85,40 +87,59 @@ module _ (c : Def) (n : R.Name) (x : Bool) (f : Bool) (w : Option WrittenType) (
   name-positive : Positive (nameRules c n x)
   name-positive = (omega arith, (omega arith, tt))
 
-  pub first-name : 0 < rulingOf (nameRules c n x) .number → rulingOf (nameRules c n x) ≡ rulingOf (rulesTo11 c n x f w g)
-  first-name h = first-broken (nameRules c n x) (elementRule w ∷ referenceRules (n .offset) x f (referenceIn w) g) name-positive h
+  pub first-name : 0 < rulingOf (nameRules c n x) .number
+      → rulingOf (nameRules c n x) ≡ rulingOf (rulesTo11 c n x f w g)
+  first-name h =
+      ruling-first (nameRules c n x) (elementRule w ∷ referenceRules (n .offset) x f (referenceIn w) g) _ name-positive
+      refl h
 
   module _ (e : rulingOf (nameRules c n x) .number ≡ 0) where
-    behind-name : rulingOf (rulesTo11 c n x f w g) ≡ rulingOf ((elementRule w ∷ []) ++ referenceRules (n .offset) x f (referenceIn w) g)
-    behind-name = ruling-rest (nameRules c n x) (elementRule w ∷ referenceRules (n .offset) x f (referenceIn w) g) name-positive e
+    behind-name : rulingOf (rulesTo11 c n x f w g)
+        ≡ rulingOf ((elementRule w ∷ []) ++ referenceRules (n .offset) x f (referenceIn w) g)
+    behind-name =
+        ruling-rest (nameRules c n x) (elementRule w ∷ referenceRules (n .offset) x f (referenceIn w) g) name-positive e
 
-    pub first-element : 0 < rulingOf (elementRule w ∷ []) .number → rulingOf (elementRule w ∷ []) ≡ rulingOf (rulesTo11 c n x f w g)
-    first-element h = first-broken (elementRule w ∷ []) (referenceRules (n .offset) x f (referenceIn w) g) (element-positive w) h ∙ sym behind-name
+    pub first-element : 0 < rulingOf (elementRule w ∷ []) .number
+        → rulingOf (elementRule w ∷ []) ≡ rulingOf (rulesTo11 c n x f w g)
+    first-element h =
+        ruling-first (elementRule w ∷ [])
+        (referenceRules (n .offset) x f (referenceIn w) g) _ (element-positive w) refl h
+        ∙ sym behind-name
 
-    pub first-reference : rulingOf (elementRule w ∷ []) .number ≡ 0 → rulingOf (referenceRules (n .offset) x f (referenceIn w) g) ≡ rulingOf (rulesTo11 c n x f w g)
-    first-reference h = sym (behind-name ∙ ruling-rest (elementRule w ∷ []) (referenceRules (n .offset) x f (referenceIn w) g) (element-positive w) h)
+    pub first-reference : rulingOf (elementRule w ∷ []) .number ≡ 0
+        → rulingOf (referenceRules (n .offset) x f (referenceIn w) g) ≡ rulingOf (rulesTo11 c n x f w g)
+    first-reference h = sym (behind-name
+        ∙ ruling-rest (elementRule w ∷ []) (referenceRules (n .offset) x f (referenceIn w) g) (element-positive w) h)
 
 -- what is left where none is broken
-pub to-11-off : (c : Def) (n : R.Name) (x f : Bool) (w : Option WrittenType) (g : Option Def) → rulingOf (rulesTo11 c n x f w g) .number ≡ 0
-    → (rulingOf (nameRules c n x) .number ≡ 0) × (rulingOf (elementRule w ∷ []) .number ≡ 0) × (rulingOf (referenceRules (n .offset) x f (referenceIn w) g) .number ≡ 0)
+pub to-11-off : (c : Def) (n : R.Name) (x f : Bool) (w : Option WrittenType) (g : Option Def)
+    → rulingOf (rulesTo11 c n x f w g) .number ≡ 0
+    → (rulingOf (nameRules c n x) .number ≡ 0) × (rulingOf (elementRule w ∷ []) .number ≡ 0)
+    × (rulingOf (referenceRules (n .offset) x f (referenceIn w) g) .number ≡ 0)
 to-11-off c n x f w g e =
-    let a : rulingOf (nameRules c n x) .number ≡ 0 = first-off (nameRules c n x) (elementRule w ∷ referenceRules (n .offset) x f (referenceIn w) g) (name-positive c n x f w g) e in
-    let b : rulingOf (elementRule w ∷ []) .number ≡ 0 = first-off (elementRule w ∷ []) (referenceRules (n .offset) x f (referenceIn w) g) (element-positive w) (ap (λ (r : Ruling). r .number) (sym (behind-name c n x f w g a)) ∙ e) in
+    let a : rulingOf (nameRules c n x) .number ≡ 0 = first-off (nameRules c n x)
+    (elementRule w ∷ referenceRules (n .offset) x f (referenceIn w) g) (name-positive c n x f w g) e in
+    let b : rulingOf (elementRule w ∷ []) .number
+    ≡ 0 = first-off (elementRule w ∷ []) (referenceRules (n .offset) x f (referenceIn w) g) (element-positive w)
+    (ap (λ (r : Ruling). r .number) (sym (behind-name c n x f w g a)) ∙ e) in
     (a, b, ap (λ (r : Ruling). r .number) (first-reference c n x f w g a b) ∙ e)
 
 -- what a reference then names
-pub refers-is : (p : ℕ) (x f : Bool) (r : Option Reference) (g : Option Def) → (r ≡ none → g ≡ none) → rulingOf (referenceRules p x f r g) .number ≡ 0 → Refers r g × ((x && not f) ≡ false)
+pub refers-is : (p : ℕ) (x f : Bool) (r : Option Reference) (g : Option Def) → (r ≡ none → g ≡ none)
+    → rulingOf (referenceRules p x f r g) .number ≡ 0 → Refers r g × ((x && not f) ≡ false)
 refers-is p x f r g h e =
     let (a, b) = three-off 10 p (x && not f) (targetRules r g) (omega arith) e in
     (go r g h (two-off 10 (placeOf r) 11 (placeOf r) _ _ (omega arith) (omega arith) b), a)
   where
-    go : (r : Option Reference) (g : Option Def) → (r ≡ none → g ≡ none) → ((isFound r && not (isFound g)) ≡ false) × ((isFound g && not (mayType (J.orNoDef g .sort))) ≡ false) → Refers r g
+    go : (r : Option Reference) (g : Option Def) → (r ≡ none → g ≡ none) → ((isFound r && not (isFound g)) ≡ false)
+        × ((isFound g && not (mayType (J.orNoDef g .sort))) ≡ false) → Refers r g
     go none g h q = h refl
     go (some r) none h q = let z : _≡_ {A = ℕ} 0 1 = let k = q .0 in cc in absurd (omega arith)
     go (some r) (some d) h q = (d, refl, not-fails (q .1))
 
 -- ---- where one is broken, and where none is
-pub stopped-within : (st : code.State) (r : Ruling) → 0 < r .number → (e : Bonds) → e ≡ record { ruling = r; slot = 0; base = 0; named = 0 } → Within st e
+pub stopped-within : (st : code.State) (r : Ruling) → 0 < r .number → (e : Bonds)
+    → e ≡ record { ruling = r; slot = 0; base = 0; named = 0 } → Within st e
 stopped-within st r h e ee =
     let i = ap (λ (u : Bonds). u .ruling .number) ee in
     let j = ap (λ (u : Bonds). u .slot) ee in
@@ -130,15 +151,18 @@ module _ (s : State) (c : Def) (n : R.Name) (x : Bool) (w : Option WrittenType) 
   abbrev based : Bool
   based = isFound (attributeAt (n .bytes) (c .inherited))
 
-  stopped-is : (r : Ruling) → 0 < r .number → r ≡ rulingOf (rulesTo11 c n x based w (resolved s (referenceIn w))) → (e : Bonds) → e ≡ record { ruling = r; slot = 0; base = 0; named = 0 } → BondsAre s c n x w hs k e
+  stopped-is : (r : Ruling) → 0 < r .number → r ≡ rulingOf (rulesTo11 c n x based w (resolved s (referenceIn w)))
+      → (e : Bonds) → e ≡ record { ruling = r; slot = 0; base = 0; named = 0 } → BondsAre s c n x w hs k e
   stopped-is r h q e ee =
       let i : e .ruling ≡ r = ap (λ (u : Bonds). u .ruling) ee in
       let j : ¬ (e .ruling .number ≡ 0) = λ v. let m = ap (λ (u : Ruling). u .number) i in omega arith in
       record { ruling = i ∙ q; slot = λ v. absurd (j v); reaches = λ v. absurd (j v) }
 
   module _ (r : Ruling) (er : r ≡ rulingOf (nameRules c n x)) where
-    pub stopped-name : 0 < r .number → (e : Bonds) → e ≡ record { ruling = r; slot = 0; base = 0; named = 0 } → BondsAre s c n x w hs k e
-    stopped-name h = stopped-is r h (er ∙ first-name c n x based w (resolved s (referenceIn w)) (subst (λ (i : Ruling). 0 < i .number) er h))
+    pub stopped-name : 0 < r .number → (e : Bonds)
+        → e ≡ record { ruling = r; slot = 0; base = 0; named = 0 } → BondsAre s c n x w hs k e
+    stopped-name h = stopped-is r h
+        (er ∙ first-name c n x based w (resolved s (referenceIn w)) (subst (λ (i : Ruling). 0 < i .number) er h))
 
     module _ (z : r .number ≤ 0) where
       name-off : rulingOf (nameRules c n x) .number ≡ 0
@@ -148,18 +172,26 @@ module _ (s : State) (c : Def) (n : R.Name) (x : Bool) (w : Option WrittenType) 
       own-off = no-own c n x name-off
 
       module _ (d : Ruling) (ed : d ≡ rulingOf (elementRule w ∷ [])) where
-        pub stopped-element : 0 < d .number → (e : Bonds) → e ≡ record { ruling = d; slot = 0; base = 0; named = 0 } → BondsAre s c n x w hs k e
-        stopped-element h = stopped-is d h (ed ∙ first-element c n x based w (resolved s (referenceIn w)) name-off (subst (λ (i : Ruling). 0 < i .number) ed h))
+        pub stopped-element : 0 < d .number → (e : Bonds)
+            → e ≡ record { ruling = d; slot = 0; base = 0; named = 0 } → BondsAre s c n x w hs k e
+        stopped-element h = stopped-is d h (ed ∙ first-element c n x based w (resolved s (referenceIn w)) name-off
+            (subst (λ (i : Ruling). 0 < i .number) ed h))
 
-        pub bonds-are : d .number ≤ 0 → (e : Bonds) → ((o : Opened (attributesIn s) hs k c) → e .slot ≡ slotOf (n .bytes) (o .hand)) → e .ruling ≡ rulingOf (referencesIn s c n x w) → Reaches s c n w e → BondsAre s c n x w hs k e
+        pub bonds-are : d .number ≤ 0 → (e : Bonds)
+            → ((o : Opened (attributesIn s) hs k c) → e .slot ≡ slotOf (n .bytes) (o .hand))
+            → e .ruling ≡ rulingOf (referencesIn s c n x w) → Reaches s c n w e → BondsAre s c n x w hs k e
         bonds-are h e es er h2 = record {
-          ruling = er ∙ first-reference c n x based w (resolved s (referenceIn w)) name-off (let i = ap (λ (i : Ruling). i .number) ed in omega arith);
+          ruling =
+              er ∙ first-reference c n x based w (resolved s (referenceIn w)) name-off
+              (let i = ap (λ (i : Ruling). i .number) ed in omega arith);
           slot = λ v. es;
           reaches = λ v. h2;
         }
 
 -- ---- the slot, the base and what is named
-module _ (t : List ℕ) (s : State) (st : code.State) (o x z y hs : List ℕ) (k : Keeps t s st o x z y hs) (c : Def) (ec : s .open-class ≡ some c) (n : R.Name) (p : List (List ℕ)) (w : G.Written) (rs : List ℕ) (a : AttributeUnit) (g : Given t n p w rs a) where
+module _ (t : List ℕ) (s : State) (st : code.State) (o x z y hs : List ℕ) (k : Keeps t s st o x z y hs) (c : Def)
+    (ec : s .open-class ≡ some c) (n : R.Name) (p : List (List ℕ)) (w : G.Written) (rs : List ℕ) (a : AttributeUnit)
+    (g : Given t n p w rs a) where
   open-is : OpenIs t s st x hs (some c)
   open-is = subst (OpenIs t s st x hs) ec (k .opened)
 
@@ -170,36 +202,54 @@ module _ (t : List ℕ) (s : State) (st : code.State) (o x z y hs : List ℕ) (k
   apart = open-fair t s st o x z y hs k c ec .apart
 
   -- the code's slot
-  module _ (slot : ℕ) (es : (ms h : List Attribute) → Members t ms y (st .listing .total) → Filled ms hs (st .context .«in_hand») h → slot ≡ slotOf (bytesOf t (a .name)) h) where
+  module _ (slot : ℕ) (es : (ms h : List Attribute) → Members t ms y (st .listing .total)
+      → Filled ms hs (st .context .«in_hand») h → slot ≡ slotOf (bytesOf t (a .name)) h) where
     pub slot-is : (q : Opened (attributesIn s) hs (st .context .«in_hand») c) → slot ≡ slotOf (n .bytes) (q .hand)
-    slot-is q = es (attributesIn s) (q .hand) (indexed (k .held) .members) (q .filled) ∙ ap (λ (i : List ℕ). slotOf i (q .hand)) (name-bytes t n p w rs a g)
+    slot-is q =
+        es (attributesIn s) (q .hand) (indexed (k .held) .members) (q .filled)
+        ∙ ap (λ (i : List ℕ). slotOf i (q .hand)) (name-bytes t n p w rs a g)
 
-    pub name-is : (class : ℕ) → ((u : List ℕ) (d : Def) → Says u d (row definitionWidth x (st .listing .count + 1)) → class ≡ d .number) → (r : Ruling)
-        → ((ms : List Attribute) (d : Def) (m : R.Name) (q : Opened ms hs (st .context .«in_hand») d) → Apart d → class ≡ d .number → a .name .offset ≡ m .offset → slot ≡ slotOf (m .bytes) (q .hand) → r ≡ rulingOf (nameRules d m (a .properties .extended)))
+    pub name-is : (class : ℕ)
+        → ((u : List ℕ) (d : Def) → Says u d (row definitionWidth x (st .listing .count + 1)) → class ≡ d .number)
+        → (r : Ruling)
+        → ((ms : List Attribute) (d : Def) (m : R.Name) (q : Opened ms hs (st .context .«in_hand») d) → Apart d
+        → class ≡ d .number → a .name .offset ≡ m .offset → slot ≡ slotOf (m .bytes) (q .hand)
+        → r ≡ rulingOf (nameRules d m (a .properties .extended)))
         → r ≡ rulingOf (nameRules c n (isExtended p))
     name-is class en r er =
         er (attributesIn s) c n was apart (en t c (open-is .3 .says)) (at-name t n p w rs a g) (slot-is was)
         ∙ ap (λ (b : Bool). rulingOf (nameRules c n b)) (is-extended t n p w rs a g)
 
   -- what is reached from a slot, and by the reference
-  module _ (off : isFound (attributeAt (n .bytes) (c .own)) ≡ false) (slot : ℕ) (es : slot ≡ slotOf (n .bytes) (was .hand)) (base : ℕ)
-      (eb : (ms h : List Attribute) (j : ℕ) (m : List ℕ) → st .listing .total ≡ length ms → Filled ms hs j h → slot ≡ slotOf m h → entry ms base ≡ attributeAt m h)
+  module _ (off : isFound (attributeAt (n .bytes) (c .own)) ≡ false) (slot : ℕ)
+      (es : slot ≡ slotOf (n .bytes) (was .hand)) (base : ℕ)
+      (eb : (ms h : List Attribute) (j : ℕ) (m : List ℕ) → st .listing .total ≡ length ms → Filled ms hs j h
+      → slot ≡ slotOf m h → entry ms base ≡ attributeAt m h)
       (named : ℕ) (ed : entry (known (s .decls)) named ≡ resolved s (referenceIn (w .type))) where
     pub base-is : entry (attributesIn s) base ≡ attributeAt (n .bytes) (c .inherited)
     base-is =
         eb (attributesIn s) (was .hand) (st .context .«in_hand») (n .bytes) (k .held .all-attributes) (was .filled) es
-        ∙ was .finds (n .bytes) ∙ found-before (n .bytes) (c .own) (c .inherited) ∙ ap (λ (b : Bool). cond b (attributeAt (n .bytes) (c .own)) (attributeAt (n .bytes) (c .inherited))) off
+        ∙ was .finds (n .bytes) ∙ found-before (n .bytes) (c .own) (c .inherited)
+        ∙ ap (λ (b : Bool). cond b (attributeAt (n .bytes) (c .own)) (attributeAt (n .bytes) (c .inherited))) off
 
     no-name : referenceIn (w .type) ≡ none → entry (known (s .decls)) named ≡ none
     no-name e = ed ∙ ap (resolved s) e
 
     pub reference-is : base ≤ st .listing .total → named ≤ st .listing .count → (q : Ruling)
-        → ((u : List ℕ) (ks : List Def) (count : ℕ) (ms : List Attribute) (v : Option WrittenType) → Known u ks x count → named ≤ count → base ≤ length ms → a .written .meant ≡ anyOf v → (referenceIn v ≡ none → entry ks named ≡ none)
-        → q ≡ rulingOf (referenceRules (a .name .offset) (a .properties .extended) (isFound (entry ms base)) (referenceIn v) (entry ks named)))
+        → ((u : List ℕ) (ks : List Def) (count : ℕ) (ms : List Attribute) (v : Option WrittenType) → Known u ks x count
+        → named ≤ count → base ≤ length ms → a .written .meant ≡ anyOf v
+        → (referenceIn v ≡ none → entry ks named ≡ none)
+        → q ≡ rulingOf (referenceRules (a .name .offset) (a .properties .extended) (isFound (entry ms base))
+        (referenceIn v) (entry ks named)))
         → q ≡ rulingOf (referencesIn s c n (isExtended p) (w .type))
     reference-is hb hn q eq =
-        eq t (known (s .decls)) (st .listing .count) (attributesIn s) (w .type) (indexed (k .held) .known) hn (let i = k .held .all-attributes in omega arith) (is-meant t n p w rs a g) no-name
-        ∙ ap (λ (i : ℕ). rulingOf (referenceRules i (a .properties .extended) (isFound (entry (attributesIn s) base)) (referenceIn (w .type)) (entry (known (s .decls)) named))) (at-name t n p w rs a g)
-        ∙ ap (λ (b : Bool). rulingOf (referenceRules (n .offset) b (isFound (entry (attributesIn s) base)) (referenceIn (w .type)) (entry (known (s .decls)) named))) (is-extended t n p w rs a g)
-        ∙ ap (λ (i : Option Attribute). rulingOf (referenceRules (n .offset) (isExtended p) (isFound i) (referenceIn (w .type)) (entry (known (s .decls)) named))) base-is
-        ∙ ap (λ (i : Option Def). rulingOf (referenceRules (n .offset) (isExtended p) (isFound (attributeAt (n .bytes) (c .inherited))) (referenceIn (w .type)) i)) ed
+        eq t (known (s .decls)) (st .listing .count) (attributesIn s) (w .type) (indexed (k .held) .known) hn
+        (let i = k .held .all-attributes in omega arith) (is-meant t n p w rs a g) no-name
+        ∙ ap (λ (i : ℕ). rulingOf (referenceRules i (a .properties .extended) (isFound (entry (attributesIn s) base))
+        (referenceIn (w .type)) (entry (known (s .decls)) named))) (at-name t n p w rs a g)
+        ∙ ap (λ (b : Bool). rulingOf (referenceRules (n .offset) b (isFound (entry (attributesIn s) base))
+        (referenceIn (w .type)) (entry (known (s .decls)) named))) (is-extended t n p w rs a g)
+        ∙ ap (λ (i : Option Attribute). rulingOf (referenceRules (n .offset) (isExtended p) (isFound i)
+        (referenceIn (w .type)) (entry (known (s .decls)) named))) base-is
+        ∙ ap (λ (i : Option Def). rulingOf (referenceRules (n .offset) (isExtended p)
+        (isFound (attributeAt (n .bytes) (c .inherited))) (referenceIn (w .type)) i)) ed

@@ -28,7 +28,8 @@ use Rattle.attribute_names.specs.Facts.{Given}
 use Rattle.attribute_names.proofs.NameLaws.{named-is}
 
 -- ---- the unit, and where it stands
-pub given : (t : List ℕ) (s : State) (n : R.Name) (p : List (List ℕ)) (w : G.Written) (a : AttributeUnit) (rs : List ℕ) → Comes t s (U.attribute n p w) (V·Attribute a) rs → Given t n p w rs a
+pub given : (t : List ℕ) (s : State) (n : R.Name) (p : List (List ℕ)) (w : G.Written) (a : AttributeUnit) (rs : List ℕ)
+    → Comes t s (U.attribute n p w) (V·Attribute a) rs → Given t n p w rs a
 given t s n p w a rs h = record {
   is = let e = h .is .0 in cc;
   named = h .fair .0;
@@ -43,7 +44,8 @@ class-there s e = go (s .open-class) refl e
     go none q f = let z : _≡_ {A = ℕ} 0 1 = cc in absurd (omega arith)
     go (some c) q f = (c, q)
 
-module _ (t : List ℕ) (n : R.Name) (p : List (List ℕ)) (w : G.Written) (rs : List ℕ) (a : AttributeUnit) (g : Given t n p w rs a) where
+module _ (t : List ℕ) (n : R.Name) (p : List (List ℕ)) (w : G.Written) (rs : List ℕ) (a : AttributeUnit)
+    (g : Given t n p w rs a) where
   pub at-name : a .name .offset ≡ n .offset
   at-name = ap (λ (u : AttributeUnit). u .name .offset) (g .is)
 
@@ -66,13 +68,16 @@ module _ (t : List ℕ) (n : R.Name) (p : List (List ℕ)) (w : G.Written) (rs :
   name-bytes = ap (λ (u : AttributeUnit). bytesOf t (u .name)) (g .is) ∙ g .named .there
 
 -- ---- references
-pub reference-in : (t : List ℕ) (w : Option WrittenType) (m : Meant) (r : code.Reference) → m ≡ Named r → m ≡ anyOf w → AnyIs (FairType t) w → AllInside t r
+pub reference-in : (t : List ℕ) (w : Option WrittenType) (m : Meant) (r : code.Reference) → m ≡ Named r → m ≡ anyOf w
+    → AnyIs (FairType t) w → AllInside t r
 reference-in t w m r e h f =
     let (b, u, q) = named-is m r e w h in
     reference-inside t b r q (subst (AnyIs (FairType t)) u f)
 
-pub reference-fair : (t : List ℕ) (s : State) (m : Meant) (r : code.Reference) → m ≡ Named r → (w : Option WrittenType) → m ≡ anyOf w → AnyIs (FairType t) w
-    → (p : ℕ) → ((b : Reference) → r ≡ referenceOf b → FairReference t b → entry (known (s .decls)) p ≡ resolve s b) → entry (known (s .decls)) p ≡ resolved s (referenceIn w)
+pub reference-fair : (t : List ℕ) (s : State) (m : Meant) (r : code.Reference) → m ≡ Named r → (w : Option WrittenType)
+    → m ≡ anyOf w → AnyIs (FairType t) w
+    → (p : ℕ) → ((b : Reference) → r ≡ referenceOf b → FairReference t b → entry (known (s .decls)) p ≡ resolve s b)
+    → entry (known (s .decls)) p ≡ resolved s (referenceIn w)
 reference-fair t s m r e w h f p g =
     let (b, u, q) = named-is m r e w h in
     rw u (g b q (subst (AnyIs (FairType t)) u f))

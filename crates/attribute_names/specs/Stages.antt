@@ -13,13 +13,17 @@ use Rattle.members.specs.Members.{most}
 -- 4 and 9 of the name
 abbrev pub nameRules : Def → Name → Bool → List Rule
 nameRules c n extended =
-    rule 4 (n .offset) (not (isFound (attributeAt (n .bytes) (attributesOf c))) && leb most (nameCount (attributesOf c)))
-    ∷ rule 9 (n .offset) (isFound (attributeAt (n .bytes) (c .own)) || (isFound (attributeAt (n .bytes) (c .inherited)) && not extended))
+    rule 4 (n .offset)
+    (not (isFound (attributeAt (n .bytes) (attributesOf c))) && leb most (nameCount (attributesOf c)))
+    ∷ rule 9 (n .offset)
+    (isFound (attributeAt (n .bytes) (c .own)) || (isFound (attributeAt (n .bytes) (c .inherited)) && not extended))
     ∷ []
 
 -- 10 of a reference, and 11
 abbrev pub targetRules : Option Reference → Option Def → List Rule
-targetRules r g = rule 10 (placeOf r) (isFound r && not (isFound g)) ∷ rule 11 (placeOf r) (isFound g && not (mayType (orNoDef g .sort))) ∷ []
+targetRules r g =
+    rule 10 (placeOf r) (isFound r && not (isFound g))
+    ∷ rule 11 (placeOf r) (isFound g && not (mayType (orNoDef g .sort))) ∷ []
 
 -- 10 and 11; the name stands at p
 abbrev pub referenceRules : ℕ → Bool → Bool → Option Reference → Option Def → List Rule
@@ -27,4 +31,5 @@ referenceRules p extended based r g = rule 10 p (extended && not based) ∷ targ
 
 -- 4 to 11
 abbrev pub rulesTo11 : Def → Name → Bool → Bool → Option WrittenType → Option Def → List Rule
-rulesTo11 c n extended based w g = nameRules c n extended ++ (elementRule w ∷ referenceRules (n .offset) extended based (referenceIn w) g)
+rulesTo11 c n extended based w g =
+    nameRules c n extended ++ (elementRule w ∷ referenceRules (n .offset) extended based (referenceIn w) g)

@@ -1,8 +1,8 @@
 // The name of an attribute and what it refers to: 4 by count, 9, 10 and 11.
+use ground::Ruling;
 use members::MOST;
 use parts::types::Meant;
 use state::State;
-use types::Ruling;
 use units::AttributeUnit;
 ghost use mathlib.Core.Path.{_≡_};
 ghost use mathlib.Core.Bool.{false, _&&_};
@@ -25,7 +25,7 @@ ghost use Rattle.members.specs.Held.{Opened, Apart, attributesIn};
 ghost use Rattle.parts.specs.Forms.{anyOf};
 ghost use Rattle.wellformed.specs.Fairness.{FairType};
 ghost use Rattle.tables.specs.Tables.{TableFor};
-ghost use Rattle.types.specs.Rulings.{rulingOf};
+ghost use Rattle.ground.specs.Rulings.{rulingOf};
 ghost use Rattle.state.specs.Keeping.{Kept};
 ghost use Rattle.state.specs.Parts.{Ample};
 ghost use Rattle.attribute_names.specs.Stages.{nameRules, targetRules, referenceRules};

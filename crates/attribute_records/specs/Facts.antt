@@ -15,8 +15,9 @@ use Rattle.members.specs.Held.{useFor}
 use Rattle.parts.specs.Forms.{anyOf}
 use Rattle.parts.specs.declared.types.Written.{Written}
 use Rattle.wellformed.specs.Fairness.{Begins}
-use Rattle.types.specs.Rulings.{rulingOf}
-use Rattle.types.specs.Values.{Valued, Typed, Scratched, Once}
+use Rattle.ground.specs.Rulings.{rulingOf}
+use Rattle.fitting.specs.Values.{Valued, Typed}
+use Rattle.types.specs.Writing.{Scratched, Once}
 use Rattle.types.specs.declared.Over.{Over}
 use Rattle.written.specs.Written.{LaidWhen}
 use Rattle.written.specs.declared.Laying.{Laying}
@@ -26,7 +27,8 @@ use Rattle.attribute_records.specs.Stages.{useRules}
 
 -- an attribute that breaks none of 4 to 13: the positions of its base, of what it names and of what its base names, and
 -- its type over its base's, in the book b
-pub record Lays (t b : List ℕ) (ks : List Def) (ms : List Attribute) (x : List ℕ) (count : ℕ) (y : List ℕ) (total : ℕ) (rs : List ℕ) (w : Written) (base named u : ℕ) (over : Over) (v : Option WrittenType) : Type 0 where
+pub record Lays (t b : List ℕ) (ks : List Def) (ms : List Attribute) (x : List ℕ) (count : ℕ) (y : List ℕ) (total : ℕ)
+    (rs : List ℕ) (w : Written) (base named u : ℕ) (over : Over) (v : Option WrittenType) : Type 0 where
   pub ready : Ready t b ks ms x count y total
   pub within : base ≤ total
   pub based : over .based ≡ ltb 0 base
@@ -39,10 +41,12 @@ pub record Lays (t b : List ℕ) (ks : List Def) (ms : List Attribute) (x : List
   pub used : useFor (entry ks u) (tyOf (orNoAttribute (entry ms base) .use-of)) ≡ orNoAttribute (entry ms base) .use-of
   pub typed : Typed t b (tyOf (orNoAttribute (entry ms base) .use-of)) (over .base)
   pub valued : Valued (tyOf (attributeUse v (entry ks named) (orNoAttribute (entry ms base) .use-of))) (over .own)
-  pub typed-named : 0 < named → Typed t b (tyOf (attributeUse v (entry ks named) (orNoAttribute (entry ms base) .use-of))) (over .own)
+  pub typed-named : 0 < named
+      → Typed t b (tyOf (attributeUse v (entry ks named) (orNoAttribute (entry ms base) .use-of))) (over .own)
 
 -- the rule of 14 to 18 that is broken, or the records at the place i; g is what is named, o the base
 abbrev pub LaidAs : ℕ → Option WrittenType → Option Def → Option Attribute → ℕ → List ℕ → List ℕ → Laying → Type 0
 LaidAs p v g o i out out₁ r =
-    let q = rulingOf (useRules p (isFound o) v (attributeUse v g (orNoAttribute o .use-of)) (orNoAttribute o .use-of)) in
+    let q =
+    rulingOf (useRules p (isFound o) v (attributeUse v g (orNoAttribute o .use-of)) (orNoAttribute o .use-of)) in
     LaidWhen (ltb 0 (q .number)) q (useRecords (attributeUse v g (orNoAttribute o .use-of))) i out out₁ r

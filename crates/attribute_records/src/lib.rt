@@ -3,9 +3,9 @@ use attribute_names::broken;
 use attribute_names::fine;
 use attribute_types::Uses;
 use enumerations::Size;
+use ground::Ruling;
 use parts::types::Meant;
 use state::State;
-use types::Ruling;
 use units::AttributeUnit;
 use written::Laying;
 use written::lay_written;
@@ -30,8 +30,8 @@ ghost use Rattle.enumerations.specs.Records.{sizeOf};
 ghost use Rattle.parts.specs.Forms.{anyOf};
 ghost use Rattle.wellformed.specs.Fairness.{FairUse};
 ghost use Rattle.tables.specs.Tables.{TableFor, TablesFor};
-ghost use Rattle.types.specs.Rulings.{rulingOf};
-ghost use Rattle.types.specs.Values.{Typed, Sized};
+ghost use Rattle.ground.specs.Rulings.{rulingOf};
+ghost use Rattle.fitting.specs.Values.{Typed, Sized};
 ghost use Rattle.written.specs.declared.Laying.the-variants.{Whole};
 ghost use Rattle.state.specs.Parts.{indexIn, Ample};
 ghost use Rattle.attribute_names.specs.Facts.{Refers};
@@ -82,7 +82,7 @@ fn descent_ruling(
     if u.base == 0 {
         return fine();
     }
-    if types::differ(own, base) {
+    if fitting::differ(own, base) {
         return broken(16, place);
     }
     if is_descendant(index, st.listing.count, u.named, u.kept) {

@@ -12,9 +12,11 @@ use Rattle.rules.specs.Grammar as G
 use Rattle.rules.specs.Grammar.{Reference, WrittenType}
 use Rattle.rules.specs.Types as T
 use Rattle.rules.specs.Types.{Ty}
-use Rattle.rules.specs.Declarations.{Use, inline, ofDomain, ofStructure, tyOf, linkOf, Attribute, Def, Sort, isSort, sortNumber, domain, isFound, State, known}
+use Rattle.rules.specs.Declarations.{Use, inline, ofDomain, ofStructure, tyOf, linkOf, Attribute, Def, Sort, isSort}
+use Rattle.rules.specs.Declarations.{sortNumber, domain, isFound, State, known}
 use Rattle.rules.specs.Book.{Record, flags, numberOr, headRecord, defRecord, typeRecords, useRecords, records}
-use Rattle.rules.specs.Judge.{attributeUse, orNoDef, orNoAttribute, naming, referenceIn, domainType, isNumeric, isDomain}
+use Rattle.rules.specs.Judge.{attributeUse, orNoDef, orNoAttribute, naming, referenceIn, domainType, isNumeric}
+use Rattle.rules.specs.Judge.{isDomain}
 use Rattle.names.specs.Index.{entry, row, Says, definitionWidth}
 use Rattle.names.proofs.BaseLaws.{entry-there}
 use Rattle.members.specs.Members.{Tells, attributeWidth}
@@ -22,11 +24,12 @@ use Rattle.members.specs.Held.{Held, DefRow, AttributeRow, heading, useFor, att
 use Rattle.members.proofs.HeldLaws.{use-named}
 use Rattle.rules.specs.All.{AnyIs}
 use Rattle.wellformed.specs.Fairness.{FairType, Fair, FairUse, FairDef}
-use Rattle.types.specs.Rulings.{rulingOf}
-use Rattle.types.specs.Values.{Valued, Typed, Sized, FairOrNone}
-use Rattle.types.specs.declared.Typing.{Typing}
-use Rattle.types.specs.declared.Typing.the-variants.{Structure}
-use Rattle.types.proofs.TypeLaws.{sized-base, sized-meant}
+use Rattle.ground.specs.Rulings.{rulingOf}
+use Rattle.fitting.specs.Values.{Valued, Typed, Sized, FairOrNone}
+use Rattle.fitting.specs.declared.Typing.{Typing}
+use Rattle.fitting.specs.declared.Typing.the-variants.{Structure}
+use Rattle.fitting.proofs.ValueLaws.{sized-base, fair-or-none}
+use Rattle.types.proofs.TypeLaws.{sized-meant}
 use Rattle.attribute_types.specs.Stages.{abstractDomain, headRules}
 use Rattle.attribute_names.specs.Facts.{Refers}
 use Rattle.attribute_names.proofs.NameLaws.{fair, brokenAt}
@@ -46,60 +49,80 @@ pub no-domain : (k : ℕ) (d : Sort) → k ≡ sortNumber d → ¬ (k ≡ 3) →
 no-domain k d e h = ne-eqb 3 (sortNumber d) (λ q. h (e ∙ sym q))
 
 -- ---- rows that are there
-module _ (t b : List ℕ) (ks : List Def) (ms : List Attribute) (x : List ℕ) (count : ℕ) (y : List ℕ) (total : ℕ) (h : Held t b ks ms x count y total) where
-  pub def-there : (p : ℕ) → p ≤ count → ¬ (p ≡ 0) → (d : Def) × (entry ks p ≡ some d) × DefRow t b ks ms p d (row definitionWidth x p)
+module _ (t b : List ℕ) (ks : List Def) (ms : List Attribute) (x : List ℕ) (count : ℕ) (y : List ℕ) (total : ℕ)
+    (h : Held t b ks ms x count y total) where
+  pub def-there : (p : ℕ) → p ≤ count → ¬ (p ≡ 0)
+      → (d : Def) × (entry ks p ≡ some d) × DefRow t b ks ms p d (row definitionWidth x p)
   def-there p w z =
       let a = h .all-defs in
       let (d, e) = entry-there ks p (omega arith) (omega arith) in
       (d, e, h .def-rows p d e)
 
-  pub attribute-there : (q : ℕ) → q ≤ total → ¬ (q ≡ 0) → (a : Attribute) × (entry ms q ≡ some a) × AttributeRow t b ks a (row attributeWidth y q)
+  pub attribute-there : (q : ℕ) → q ≤ total → ¬ (q ≡ 0)
+      → (a : Attribute) × (entry ms q ≡ some a) × AttributeRow t b ks a (row attributeWidth y q)
   attribute-there q w z =
       let n = h .all-attributes in
       let (a, e) = entry-there ms q (omega arith) (omega arith) in
       (a, e, h .attribute-rows q a e)
 
   -- what is read of a definition or an attribute, or of none
-  pub of-def : {A : Type 0} (f : Def → A) (p : ℕ) → p ≤ count → ¬ (p ≡ 0) → (v : A) → ((d : Def) → Says t d (row definitionWidth x p) → v ≡ f d) → v ≡ f (orNoDef (entry ks p))
+  pub of-def : {A : Type 0} (f : Def → A) (p : ℕ) → p ≤ count → ¬ (p ≡ 0) → (v : A)
+      → ((d : Def) → Says t d (row definitionWidth x p) → v ≡ f d) → v ≡ f (orNoDef (entry ks p))
   of-def f p w z v e = let (d, q, r) = def-there p w z in rw q (e d (r .says))
 
-  pub of-attribute : {A : Type 0} (f : Attribute → A) (q : ℕ) → q ≤ total → ¬ (q ≡ 0) → (v : A) → ((a : Attribute) → Tells t a (row attributeWidth y q) → v ≡ f a) → v ≡ f (orNoAttribute (entry ms q))
+  pub of-attribute : {A : Type 0} (f : Attribute → A) (q : ℕ) → q ≤ total → ¬ (q ≡ 0) → (v : A)
+      → ((a : Attribute) → Tells t a (row attributeWidth y q) → v ≡ f a) → v ≡ f (orNoAttribute (entry ms q))
   of-attribute f q w z v e = let (a, u, r) = attribute-there q w z in rw u (e a (r .tells))
 
   -- ---- what the base names
-  pub use-there : (q : ℕ) → q ≤ total → ¬ (q ≡ 0) → (u : ℕ) → u ≡ getD (row attributeWidth y q) 5 0 → useFor (entry ks u) (tyOf (orNoAttribute (entry ms q) .use-of)) ≡ orNoAttribute (entry ms q) .use-of
+  pub use-there : (q : ℕ) → q ≤ total → ¬ (q ≡ 0) → (u : ℕ) → u ≡ getD (row attributeWidth y q) 5 0
+      → useFor (entry ks u) (tyOf (orNoAttribute (entry ms q) .use-of)) ≡ orNoAttribute (entry ms q) .use-of
   use-there q w z u e = let (a, p, r) = attribute-there q w z in rw (p, e) (r .uses)
 
   pub use-within : (q : ℕ) → q ≤ total → ¬ (q ≡ 0) → (u : ℕ) → u ≡ getD (row attributeWidth y q) 5 0 → u ≤ count
-  use-within q w z u e = let (a, p, r) = attribute-there q w z in let k = r .use-known in let n = h .all-defs in omega arith
+  use-within q w z u e =
+      let (a, p, r) = attribute-there q w z in
+      let k = r .use-known in
+      let n = h .all-defs in omega arith
 
-pub no-use : (ks : List Def) (ms : List Attribute) (q : ℕ) → q ≡ 0 → useFor (entry ks 0) (tyOf (orNoAttribute (entry ms q) .use-of)) ≡ orNoAttribute (entry ms q) .use-of
+pub no-use : (ks : List Def) (ms : List Attribute) (q : ℕ) → q ≡ 0
+    → useFor (entry ks 0) (tyOf (orNoAttribute (entry ms q) .use-of)) ≡ orNoAttribute (entry ms q) .use-of
 no-use ks ms q e = rw e
 
-pub absent-def : {A : Type 0} (f : Def → A) (ks : List Def) (p : ℕ) → p ≡ 0 → f (orNoDef none) ≡ f (orNoDef (entry ks p))
+pub absent-def : {A : Type 0} (f : Def → A) (ks : List Def) (p : ℕ) → p ≡ 0
+    → f (orNoDef none) ≡ f (orNoDef (entry ks p))
 absent-def f ks p e = rw e
 
-pub absent-attribute : {A : Type 0} (f : Attribute → A) (ms : List Attribute) (q : ℕ) → q ≡ 0 → f (orNoAttribute none) ≡ f (orNoAttribute (entry ms q))
+pub absent-attribute : {A : Type 0} (f : Attribute → A) (ms : List Attribute) (q : ℕ) → q ≡ 0
+    → f (orNoAttribute none) ≡ f (orNoAttribute (entry ms q))
 absent-attribute f ms q e = rw e
 
 -- ---- types
-struct-typed : (t b : List ℕ) (d : Def) (c : Typing) → isSort domain (d .sort) ≡ false → c ≡ Structure → Typed t b (tyOf (naming d)) c
+struct-typed : (t b : List ℕ) (d : Def) (c : Typing) → isSort domain (d .sort) ≡ false → c ≡ Structure
+    → Typed t b (tyOf (naming d)) c
 struct-typed t b d c e h = rw e h
 
-domain-typed : (t b : List ℕ) (d : Def) (c : Typing) → isSort domain (d .sort) ≡ true → Typed t b (d .type) c → Typed t b (tyOf (naming d)) c
+domain-typed : (t b : List ℕ) (d : Def) (c : Typing) → isSort domain (d .sort) ≡ true → Typed t b (d .type) c
+    → Typed t b (tyOf (naming d)) c
 domain-typed t b d c e h = rw e h
 
-module _ (t b : List ℕ) (ks : List Def) (ms : List Attribute) (x : List ℕ) (count : ℕ) (y : List ℕ) (total : ℕ) (r : Ready t b ks ms x count y total) where
+module _ (t b : List ℕ) (ks : List Def) (ms : List Attribute) (x : List ℕ) (count : ℕ) (y : List ℕ) (total : ℕ)
+    (r : Ready t b ks ms x count y total) where
   -- of the domain or structure at a position, whose sort is s
-  module _ (p : ℕ) (d : Def) (e : entry ks p ≡ some d) (s : ℕ) (es : (u : List ℕ) (d : Def) → Says u d (row definitionWidth x p) → s ≡ sortNumber (d .sort)) where
+  module _ (p : ℕ) (d : Def) (e : entry ks p ≡ some d) (s : ℕ)
+      (es : (u : List ℕ) (d : Def) → Says u d (row definitionWidth x p) → s ≡ sortNumber (d .sort)) where
     same-sort : s ≡ sortNumber (d .sort)
     same-sort = es t d (r .held .def-rows p d e .says)
 
-    pub named-domain : s ≡ 3 → (at : ℕ) → at ≡ getD (row definitionWidth x p) 6 0 → (c : Typing) → ((u : List ℕ) (i : Record) (v : Ty) → length i ≡ headSize → Fair u v → Stands b at (i ∷ typeRecords v) → Typed u b v c) → Typed t b (tyOf (naming d)) c
+    pub named-domain : s ≡ 3 → (at : ℕ) → at ≡ getD (row definitionWidth x p) 6 0 → (c : Typing)
+        → ((u : List ℕ) (i : Record) (v : Ty) → length i ≡ headSize → Fair u v → Stands b at (i ∷ typeRecords v)
+        → Typed u b v c) → Typed t b (tyOf (naming d)) c
     named-domain h at ea c g =
         let k : isSort domain (d .sort) ≡ true = is-domain s (d .sort) same-sort h in
         let q : d .sort ≡ domain = sort-domain (d .sort) k in
-        let w : Stands b (getD (row definitionWidth x p) 6 0) (heading domain d) = subst (λ (i : Sort). Stands b (getD (row definitionWidth x p) 6 0) (heading i d)) q (r .held .def-rows p d e .stands) in
+        let w : Stands b (getD (row definitionWidth x p) 6 0) (heading domain d) =
+        subst (λ (i : Sort). Stands b (getD (row definitionWidth x p) 6 0) (heading i d)) q
+        (r .held .def-rows p d e .stands) in
         domain-typed t b d c k (g t (defRecord 7 d) (d .type) refl (r .types p d e q) (rw ea w))
 
     pub named-structure : ¬ (s ≡ 3) → (c : Typing) → c ≡ Structure → Typed t b (tyOf (naming d)) c
@@ -116,26 +139,33 @@ module _ (t b : List ℕ) (ks : List Def) (ms : List Attribute) (x : List ℕ) (
     abbrev head : Attribute → Record
     head a = headRecord 6 (a .name) (flags false (a .final) (a .extended) (a .mandatory)) (numberOr (a .base))
 
-    pub type-in-place : u ≡ 0 → (at : ℕ) → at ≡ getD (row attributeWidth y q) 3 0 → (c : Typing) → ((i : List ℕ) (j : Record) (v : Ty) → length j ≡ headSize → Fair i v → Stands b at (j ∷ typeRecords v) → Typed i b v c) → Typed t b (tyOf (orNoAttribute (entry ms q) .use-of)) c
+    pub type-in-place : u ≡ 0 → (at : ℕ) → at ≡ getD (row attributeWidth y q) 3 0 → (c : Typing)
+        → ((i : List ℕ) (j : Record) (v : Ty) → length j ≡ headSize → Fair i v → Stands b at (j ∷ typeRecords v)
+        → Typed i b v c) → Typed t b (tyOf (orNoAttribute (entry ms q) .use-of)) c
     type-in-place o at ea c g =
         let (a, p, k) = here in
         let n : getD (row attributeWidth y q) 5 0 ≡ 0 = sym (eu (omega arith)) ∙ o in
-        let i : a .use-of ≡ inline (tyOf (a .use-of)) = sym (k .uses) ∙ ap (λ (j : ℕ). useFor (entry ks j) (tyOf (a .use-of))) n in
-        let s : Stands b at (head a ∷ typeRecords (tyOf (a .use-of))) = rw ea (subst (λ (v : Use). Stands b (getD (row attributeWidth y q) 3 0) (head a ∷ useRecords v)) i (k .stands)) in
+        let i : a .use-of ≡ inline (tyOf (a .use-of)) =
+        sym (k .uses) ∙ ap (λ (j : ℕ). useFor (entry ks j) (tyOf (a .use-of))) n in
+        let s : Stands b at (head a ∷ typeRecords (tyOf (a .use-of))) = rw ea
+        (subst (λ (v : Use). Stands b (getD (row attributeWidth y q) 3 0) (head a ∷ useRecords v)) i (k .stands)) in
         rw p (g t (head a) (tyOf (a .use-of)) refl (inline-fair (a .use-of) i (r .uses q a p)) s)
 
-    pub type-named : ¬ (u ≡ 0) → (c : Typing) → ((d : Def) → entry ks u ≡ some d → Typed t b (tyOf (naming d)) c) → Typed t b (tyOf (orNoAttribute (entry ms q) .use-of)) c
+    pub type-named : ¬ (u ≡ 0) → (c : Typing) → ((d : Def) → entry ks u ≡ some d → Typed t b (tyOf (naming d)) c)
+        → Typed t b (tyOf (orNoAttribute (entry ms q) .use-of)) c
     type-named o c g =
         let (a, p, k) = here in
         let n : u ≡ getD (row attributeWidth y q) 5 0 = eu (omega arith) in
         let (d, e, i) = use-named t b ks a (row attributeWidth y q) k (omega arith) in
         rw p (subst (λ (v : Use). Typed t b (tyOf v) c) i (g d (ap (entry ks) n ∙ e)))
 
-pub no-type : (t b : List ℕ) (ms : List Attribute) (q : ℕ) → q ≡ 0 → Typed t b (tyOf (orNoAttribute (entry ms q) .use-of)) Structure
+pub no-type : (t b : List ℕ) (ms : List Attribute) (q : ℕ) → q ≡ 0
+    → Typed t b (tyOf (orNoAttribute (entry ms q) .use-of)) Structure
 no-type t b ms q e = rw e
 
 -- ---- the attribute's own type
-pub in-place-type : (w : Option WrittenType) (g : Option Def) (b : Use) → referenceIn w ≡ none → tyOf (attributeUse w g b) ≡ domainType w (tyOf b)
+pub in-place-type : (w : Option WrittenType) (g : Option Def) (b : Use) → referenceIn w ≡ none
+    → tyOf (attributeUse w g b) ≡ domainType w (tyOf b)
 in-place-type none g b e = refl
 in-place-type (some (G.text m n)) g b e = refl
 in-place-type (some (G.range m n)) g b e = refl
@@ -144,7 +174,8 @@ in-place-type (some (G.enum m)) g b e = refl
 in-place-type (some (G.named m)) g b e = let z : _≡_ {A = ℕ} 0 1 = cc in absurd (omega arith)
 
 -- a reference is there where what it names is
-pub named-type : (w : Option WrittenType) (d : Def) (b : Use) → Refers (referenceIn w) (some d) → attributeUse w (some d) b ≡ naming d
+pub named-type : (w : Option WrittenType) (d : Def) (b : Use) → Refers (referenceIn w) (some d)
+    → attributeUse w (some d) b ≡ naming d
 named-type none d b e = let z : _≡_ {A = ℕ} 0 1 = cc in absurd (omega arith)
 named-type (some (G.text m n)) d b e = let z : _≡_ {A = ℕ} 0 1 = cc in absurd (omega arith)
 named-type (some (G.range m n)) d b e = let z : _≡_ {A = ℕ} 0 1 = cc in absurd (omega arith)
@@ -156,12 +187,16 @@ pub refers-none : (r : Option Reference) → Refers r none → r ≡ none
 refers-none none e = refl
 refers-none (some r) e = let (d, q, m) = e in let z : _≡_ {A = ℕ} 0 1 = cc in absurd (omega arith)
 
-pub own-in-place : (ks : List Def) (p : ℕ) (w : Option WrittenType) (b : Use) (c : Typing) → p ≡ 0 → Refers (referenceIn w) (entry ks p) → Valued (domainType w (tyOf b)) c → Valued (tyOf (attributeUse w (entry ks p) b)) c
+pub own-in-place : (ks : List Def) (p : ℕ) (w : Option WrittenType) (b : Use) (c : Typing) → p ≡ 0 → Refers
+    (referenceIn w) (entry ks p) → Valued (domainType w (tyOf b)) c → Valued (tyOf (attributeUse w (entry ks p) b)) c
 own-in-place ks p w b c z r h =
-    let e : referenceIn w ≡ none = refers-none (referenceIn w) (subst (λ (i : ℕ). Refers (referenceIn w) (entry ks i)) z r) in
+    let e : referenceIn w ≡ none =
+    refers-none (referenceIn w) (subst (λ (i : ℕ). Refers (referenceIn w) (entry ks i)) z r) in
     rw (in-place-type w (entry ks p) b e) h
 
-pub own-named : (t o : List ℕ) (ks : List Def) (p : ℕ) (w : Option WrittenType) (b : Use) (c : Typing) → p ≤ length ks → ¬ (p ≡ 0) → Refers (referenceIn w) (entry ks p) → ((d : Def) → entry ks p ≡ some d → Typed t o (tyOf (naming d)) c)
+pub own-named : (t o : List ℕ) (ks : List Def) (p : ℕ) (w : Option WrittenType) (b : Use) (c : Typing) → p ≤ length ks
+    → ¬ (p ≡ 0) → Refers (referenceIn w) (entry ks p)
+    → ((d : Def) → entry ks p ≡ some d → Typed t o (tyOf (naming d)) c)
     → Typed t o (tyOf (attributeUse w (entry ks p) b)) c
 own-named t o ks p w b c l z r g =
     let (d, e) = entry-there ks p (omega arith) l in
@@ -169,7 +204,8 @@ own-named t o ks p w b c l z r g =
 
 -- ---- 12 and 13
 -- the last part of 13
-pub abstract-is : (w : Option WrittenType) (g : Option Def) (b : Use) → Refers (referenceIn w) g → (isDomain (attributeUse w g b) && orNoDef g .abstract) ≡ abstractDomain g
+pub abstract-is : (w : Option WrittenType) (g : Option Def) (b : Use) → Refers (referenceIn w) g
+    → (isDomain (attributeUse w g b) && orNoDef g .abstract) ≡ abstractDomain g
 abstract-is w none b r = none-and (isDomain (attributeUse w none b))
   where
     none-and : (c : Bool) → (c && false) ≡ false
@@ -177,11 +213,14 @@ abstract-is w none b r = none-and (isDomain (attributeUse w none b))
     none-and false = refl
 abstract-is w (some d) b r = rw (named-type w d b r) (go (isSort domain (d .sort)))
   where
-    go : (k : Bool) → (isDomain (cond k (ofDomain (linkOf d) (d .bases)) (ofStructure (linkOf d) (d .bases))) && d .abstract) ≡ (k && d .abstract)
+    go : (k : Bool)
+        → (isDomain (cond k (ofDomain (linkOf d) (d .bases)) (ofStructure (linkOf d) (d .bases))) && d .abstract)
+        ≡ (k && d .abstract)
     go true = refl
     go false = refl
 
-module _ (p : ℕ) (f twice : Bool) (w : Option WrittenType) (g : Option Def) (b : Use) (r : Refers (referenceIn w) g) where
+module _ (p : ℕ) (f twice : Bool) (w : Option WrittenType) (g : Option Def) (b : Use)
+    (r : Refers (referenceIn w) g) where
   abbrev own : Use
   own = attributeUse w g b
 
@@ -204,11 +243,16 @@ module _ (p : ℕ) (f twice : Bool) (w : Option WrittenType) (g : Option Def) (b
         head-fine h = rw (← ev, hv, ht, ← en, hn, abstract-is w g b r, ← ea, h)
 
 -- an ABSTRACT domain, of a definition that is there
-module _ (t b : List ℕ) (ks : List Def) (ms : List Attribute) (x : List ℕ) (count : ℕ) (y : List ℕ) (total : ℕ) (h : Held t b ks ms x count y total) (p : ℕ) (w : p ≤ count) (z : ¬ (p ≡ 0)) (s : ℕ) (es : (u : List ℕ) (d : Def) → Says u d (row definitionWidth x p) → s ≡ sortNumber (d .sort)) where
-  pub abstract-domain : s ≡ 3 → (f : ℕ) → ((u : List ℕ) (d : Def) → Says u d (row definitionWidth x p) → f ≡ flags (d .abstract) (d .final) false (d .mandatory)) → (v : Bool) → ((a i e m : Bool) → f ≡ flags a i e m → v ≡ a) → v ≡ abstractDomain (entry ks p)
+module _ (t b : List ℕ) (ks : List Def) (ms : List Attribute) (x : List ℕ) (count : ℕ) (y : List ℕ) (total : ℕ)
+    (h : Held t b ks ms x count y total) (p : ℕ) (w : p ≤ count) (z : ¬ (p ≡ 0)) (s : ℕ)
+    (es : (u : List ℕ) (d : Def) → Says u d (row definitionWidth x p) → s ≡ sortNumber (d .sort)) where
+  pub abstract-domain : s ≡ 3 → (f : ℕ) → ((u : List ℕ) (d : Def) → Says u d (row definitionWidth x p)
+      → f ≡ flags (d .abstract) (d .final) false (d .mandatory)) → (v : Bool)
+      → ((a i e m : Bool) → f ≡ flags a i e m → v ≡ a) → v ≡ abstractDomain (entry ks p)
   abstract-domain k f ef v ev =
       let (d, q, r) = def-there t b ks ms x count y total h p w z in
-      rw (q, is-domain s (d .sort) (es t d (r .says)) k) (ev (d .abstract) (d .final) false (d .mandatory) (ef t d (r .says)))
+      rw (q, is-domain s (d .sort) (es t d (r .says)) k)
+      (ev (d .abstract) (d .final) false (d .mandatory) (ef t d (r .says)))
 
   pub no-abstract : ¬ (s ≡ 3) → false ≡ abstractDomain (entry ks p)
   no-abstract k =
@@ -216,41 +260,39 @@ module _ (t b : List ℕ) (ks : List Def) (ms : List Attribute) (x : List ℕ) (
       rw (q, no-domain s (d .sort) (es t d (r .says)) k)
 
 -- ---- types of bases are fair
-fair-any : (t : List ℕ) (x : Ty) → Fair t x → FairOrNone t x
-fair-any t (T.text m n) f = f
-fair-any t (T.range r) f = f
-fair-any t T.numeric f = tt
-fair-any t (T.enum e) f = f
-fair-any t T.structure f = tt
-
-pub fair-or-none : (t : List ℕ) (u : Use) → FairUse t u → FairOrNone t (tyOf u)
-fair-or-none t (inline x) f = fair-any t x f
-fair-or-none t (ofDomain l bs) f = fair-any t (l .type) f
-fair-or-none t (ofStructure l bs) f = tt
+pub fair-use : (t : List ℕ) (u : Use) → FairUse t u → FairOrNone t (tyOf u)
+fair-use t (inline x) f = fair-or-none t x f
+fair-use t (ofDomain l bs) f = fair-or-none t (l .type) f
+fair-use t (ofStructure l bs) f = tt
 
 -- of what is named at all
 pub fair-naming : (t : List ℕ) (d : Def) → (d .sort ≡ domain → Fair t (d .type)) → FairOrNone t (tyOf (naming d))
 fair-naming t d f = go (isSort domain (d .sort)) refl
   where
-    go : (k : Bool) → isSort domain (d .sort) ≡ k → FairOrNone t (tyOf (cond k (ofDomain (linkOf d) (d .bases)) (ofStructure (linkOf d) (d .bases))))
-    go true e = fair-any t (d .type) (f (sort-domain (d .sort) e))
+    go : (k : Bool) → isSort domain (d .sort) ≡ k
+        → FairOrNone t (tyOf (cond k (ofDomain (linkOf d) (d .bases)) (ofStructure (linkOf d) (d .bases))))
+    go true e = fair-or-none t (d .type) (f (sort-domain (d .sort) e))
     go false e = tt
 
-pub fair-base : (t b : List ℕ) (ks : List Def) (ms : List Attribute) (x : List ℕ) (count : ℕ) (y : List ℕ) (total : ℕ) → Ready t b ks ms x count y total → (q : ℕ) → FairOrNone t (tyOf (orNoAttribute (entry ms q) .use-of))
+pub fair-base : (t b : List ℕ) (ks : List Def) (ms : List Attribute) (x : List ℕ) (count : ℕ) (y : List ℕ) (total : ℕ)
+    → Ready t b ks ms x count y total → (q : ℕ) → FairOrNone t (tyOf (orNoAttribute (entry ms q) .use-of))
 fair-base t b ks ms x count y total r q = go (entry ms q) refl
   where
     go : (o : Option Attribute) → entry ms q ≡ o → FairOrNone t (tyOf (orNoAttribute o .use-of))
     go none e = tt
-    go (some a) e = fair-or-none t (a .use-of) (r .uses q a e)
+    go (some a) e = fair-use t (a .use-of) (r .uses q a e)
 
 -- ---- bounds of both types
-pub own-sized : (t b : List ℕ) (ks : List Def) (ms : List Attribute) (x : List ℕ) (count : ℕ) (y : List ℕ) (total : ℕ) → Ready t b ks ms x count y total → (p : ℕ) (w : Option WrittenType) (u : Use) (c : Typing) → AnyIs (FairType t) w
-    → Refers (referenceIn w) (entry ks p) → FairOrNone t (tyOf u) → Valued (tyOf (attributeUse w (entry ks p) u)) c → Sized c
+pub own-sized : (t b : List ℕ) (ks : List Def) (ms : List Attribute) (x : List ℕ) (count : ℕ) (y : List ℕ) (total : ℕ)
+    → Ready t b ks ms x count y total → (p : ℕ) (w : Option WrittenType) (u : Use) (c : Typing) → AnyIs (FairType t) w
+    → Refers (referenceIn w) (entry ks p) → FairOrNone t (tyOf u)
+    → Valued (tyOf (attributeUse w (entry ks p) u)) c → Sized c
 own-sized t b ks ms x count y total r p w u c f h k v = go (entry ks p) refl h v
   where
     go : (g : Option Def) → entry ks p ≡ g → Refers (referenceIn w) g → Valued (tyOf (attributeUse w g u)) c → Sized c
     go none e h v = sized-meant t w (tyOf u) c f k (rw (in-place-type w none u (refers-none (referenceIn w) h)) at v)
-    go (some d) e h v = sized-base t (tyOf (naming d)) c (fair-naming t d (r .types p d e)) (rw (named-type w d u h) at v)
+    go (some d) e h v =
+        sized-base t (tyOf (naming d)) c (fair-naming t d (r .types p d e)) (rw (named-type w d u h) at v)
 
 -- ---- positions
 pub found-positive : {A : Type 0} (l : List A) (p : ℕ) → isFound (entry l p) ≡ true → 0 < p
@@ -258,9 +300,12 @@ found-positive l zero e = let z : _≡_ {A = ℕ} 0 1 = cc in absurd (omega arit
 found-positive l (suc i) e = omega arith
 
 -- ---- of a state that is kept
-pub ready : (t : List ℕ) (s : State) (st : code.State) (o x z y hs : List ℕ) → Keeps t s st o x z y hs → Ready t (take (st .extent .used) o) (known (s .decls)) (attributesIn s) x (st .listing .count) y (st .listing .total)
+pub ready : (t : List ℕ) (s : State) (st : code.State) (o x z y hs : List ℕ) → Keeps t s st o x z y hs → Ready t
+    (take (st .extent .used) o) (known (s .decls)) (attributesIn s) x (st .listing .count) y (st .listing .total)
 ready t s st o x z y hs k = record {
-  held = subst (λ (b : List ℕ). Held t b (known (s .decls)) (attributesIn s) x (st .listing .count) y (st .listing .total)) (sym (k .written)) (k .held);
+  held =
+      subst (λ (b : List ℕ). Held t b (known (s .decls)) (attributesIn s) x (st .listing .count) y (st .listing .total))
+      (sym (k .written)) (k .held);
   types = λ p d e q. all-entry (FairDef t (length (records s))) (known (s .decls)) p d (k .fair .defs) e .type q;
   uses = λ q a e. attribute-fair t s (k .fair) q a e .used;
 }

@@ -11,15 +11,16 @@ use Rattle.rules.specs.Judge.{attributeUse, orNoAttribute}
 use Rattle.names.specs.Index.{entry}
 use Rattle.members.specs.Held.{Held, useFor}
 use Rattle.wellformed.specs.Fairness.{Fair, FairUse}
-use Rattle.types.specs.Rulings.{rulingOf}
-use Rattle.types.specs.Values.{Valued, Typed, Sized}
+use Rattle.ground.specs.Rulings.{rulingOf}
+use Rattle.fitting.specs.Values.{Valued, Typed, Sized}
 use Rattle.attribute_names.specs.declared.Bonds.{Bonds}
 use Rattle.attribute_types.specs.Stages.{headRules}
 use Rattle.attribute_types.specs.declared.Uses.{Uses}
 use Rattle.attribute_types.specs.declared.Typings.{Typings}
 
 -- rows whose definitions and attributes have types that are fair
-pub record Ready (t b : List ℕ) (ks : List Def) (ms : List Attribute) (x : List ℕ) (count : ℕ) (y : List ℕ) (total : ℕ) : Type 0 where
+pub record Ready (t b : List ℕ) (ks : List Def) (ms : List Attribute) (x : List ℕ) (count : ℕ)
+    (y : List ℕ) (total : ℕ) : Type 0 where
   pub held : Held t b ks ms x count y total
   pub types : (p : ℕ) (d : Def) → entry ks p ≡ some d → d .sort ≡ domain → Fair t (d .type)
   pub uses : (q : ℕ) (a : Attribute) → entry ms q ≡ some a → FairUse t (a .use-of)
@@ -32,8 +33,10 @@ pub record Binds (b : Bonds) (count : ℕ) (u : Uses) : Type 0 where
   pub based : u .over .based ≡ ltb 0 (b .base)
 
 -- 12 and 13; the types of the attribute and of its base, o, where b is the book
-pub record TypingsAre (t b : List ℕ) (ks : List Def) (p : ℕ) (twice : Bool) (w : Option WrittenType) (g : Option Def) (o : Option Attribute) (r : Typings) : Type 0 where
-  pub ruling : r .ruling ≡ rulingOf (headRules p (orNoAttribute o .final) twice (attributeUse w g (orNoAttribute o .use-of)) g)
+pub record TypingsAre (t b : List ℕ) (ks : List Def) (p : ℕ) (twice : Bool) (w : Option WrittenType) (g : Option Def)
+    (o : Option Attribute) (r : Typings) : Type 0 where
+  pub ruling : r .ruling
+      ≡ rulingOf (headRules p (orNoAttribute o .final) twice (attributeUse w g (orNoAttribute o .use-of)) g)
   pub kept : useFor (entry ks (r .uses .kept)) (tyOf (orNoAttribute o .use-of)) ≡ orNoAttribute o .use-of
   pub base : Typed t b (tyOf (orNoAttribute o .use-of)) (r .uses .over .base)
   pub own : Valued (tyOf (attributeUse w g (orNoAttribute o .use-of))) (r .uses .over .own)

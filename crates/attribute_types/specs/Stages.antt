@@ -12,4 +12,5 @@ abstractDomain (some d) = isSort domain (d .sort) && d .abstract
 
 -- 12 and 13; u types the attribute
 abbrev pub headRules : ℕ → Bool → Bool → Use → Option Def → List Rule
-headRules p final twice u g = rule 12 p final ∷ rule 13 p (twice || (isNumeric (tyOf u) || (isDomain u && orNoDef g .abstract))) ∷ []
+headRules p final twice u g =
+    rule 12 p final ∷ rule 13 p (twice || (isNumeric (tyOf u) || (isDomain u && orNoDef g .abstract))) ∷ []

@@ -2,11 +2,11 @@
 use attribute_names::Bonds;
 use attribute_names::broken;
 use attribute_names::fine;
+use fitting::Typing;
+use ground::Ruling;
 use parts::types::Meant;
 use state::State;
 use types::Over;
-use types::Ruling;
-use types::Typing;
 use units::AttributeUnit;
 ghost use mathlib.Core.Path.{_≡_};
 ghost use mathlib.Core.Option.{Option, some};
@@ -22,8 +22,8 @@ ghost use Rattle.members.specs.Members.{attributeWidth, AttributeRows};
 ghost use Rattle.members.specs.Held.{Held, useFor};
 ghost use Rattle.parts.specs.Forms.{anyOf};
 ghost use Rattle.wellformed.specs.Fairness.{FairType};
-ghost use Rattle.types.specs.Rulings.{rulingOf};
-ghost use Rattle.types.specs.Values.{Valued, Typed};
+ghost use Rattle.ground.specs.Rulings.{rulingOf};
+ghost use Rattle.fitting.specs.Values.{Valued, Typed};
 ghost use Rattle.state.specs.Parts.{indexIn, rowsIn, Ample};
 ghost use Rattle.attribute_names.specs.Facts.{Refers, Within};
 ghost use Rattle.attribute_types.specs.Stages.{abstractDomain, headRules};
@@ -70,7 +70,7 @@ fn named_type(front: &[u8], index: &[u16], p: usize) -> Typing
         → Typed t (now (front .entry)) (tyOf (naming d)) r) ⌝ }
 {
     if names::sort_of(index, p) == 3 {
-        return types::type_behind(front, names::place_of(index, p));
+        return fitting::type_behind(front, names::place_of(index, p));
     }
     Typing::Structure
 }
@@ -88,7 +88,7 @@ fn base_type(front: &[u8], index: &[u16], rows: &[u16], q: usize, u: usize) -> T
         return Typing::Structure;
     }
     if u == 0 {
-        return types::type_behind(front, members::member_place(rows, q));
+        return fitting::type_behind(front, members::member_place(rows, q));
     }
     named_type(front, index, u)
 }
@@ -160,7 +160,7 @@ fn head_ruling(
     if twice {
         return broken(13, place);
     }
-    if types::is_numeric(own) {
+    if fitting::is_numeric(own) {
         return broken(13, place);
     }
     if is_abstract_domain(index, named) {

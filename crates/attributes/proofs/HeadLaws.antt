@@ -32,11 +32,14 @@ pub mandatory-inherited : (w n i : Bool) → w ≡ false → false ≡ n → (v 
 mandatory-inherited w n i e q v h = rw (e, sym q) h
 
 -- ---- the base in a slot
-module _ (ms h : List Attribute) (hs : List ℕ) (k : ℕ) (n : List ℕ) (f : Filled ms hs k h) (slot : ℕ) (e : slot ≡ slotOf n h) where
+module _ (ms h : List Attribute) (hs : List ℕ) (k : ℕ) (n : List ℕ) (f : Filled ms hs k h)
+    (slot : ℕ) (e : slot ≡ slotOf n h) where
   pub no-base : slot ≡ 0 → 4294967295 ≡ numberOr (baseOfAttribute (attributeAt n h))
-  no-base z = ap (λ (o : Option Attribute). numberOr (baseOfAttribute o)) (sym (ap (entry h) (sym e ∙ z)) ∙ slot-finds n h)
+  no-base z =
+      ap (λ (o : Option Attribute). numberOr (baseOfAttribute o)) (sym (ap (entry h) (sym e ∙ z)) ∙ slot-finds n h)
 
-  pub base-in-slot : ¬ (slot ≡ 0) → (v : ℕ) → v ≡ getD hs (slot - 1) 0 → v ≡ numberOr (baseOfAttribute (attributeAt n h))
+  pub base-in-slot : ¬ (slot ≡ 0) → (v : ℕ) → v ≡ getD hs (slot - 1) 0
+      → v ≡ numberOr (baseOfAttribute (attributeAt n h))
   base-in-slot z v ev =
       let s : slot ≡ suc (slot - 1) = omega arith in
       let (a, w) = found-some (attributeAt n h) (slot-some n 0 h (λ y. z (e ∙ y))) in
@@ -44,11 +47,16 @@ module _ (ms h : List Attribute) (hs : List ℕ) (k : ℕ) (n : List ℕ) (f : F
       ev ∙ f .at-number (slot - 1) a p ∙ ap (λ (o : Option Attribute). numberOr (baseOfAttribute o)) (sym w)
 
 -- ---- the head
-module _ (t : List ℕ) (n : R.Name) (p : List (List ℕ)) (w : G.Written) (rs : List ℕ) (a : AttributeUnit) (g : Given t n p w rs a) (x m : Bool) (em : m ≡ (a .written .mandatory || x)) (f : ℕ) (ef : f ≡ flags false (a .properties .«is_final») (a .properties .extended) m) where
+module _ (t : List ℕ) (n : R.Name) (p : List (List ℕ)) (w : G.Written) (rs : List ℕ) (a : AttributeUnit)
+    (g : Given t n p w rs a) (x m : Bool) (em : m ≡ (a .written .mandatory || x)) (f : ℕ)
+    (ef : f ≡ flags false (a .properties .«is_final») (a .properties .extended) m) where
   pub head-flags : f ≡ flags false (isFinal p) (isExtended p) (w .mandatory || x)
-  head-flags = ef ∙ ap (flags false (a .properties .«is_final») (a .properties .extended)) em ∙ ap (λ (u : AttributeUnit). flags false (u .properties .«is_final») (u .properties .extended) (u .written .mandatory || x)) (g .is)
+  head-flags =
+      ef ∙ ap (flags false (a .properties .«is_final») (a .properties .extended)) em ∙ ap (λ (u : AttributeUnit). flags
+      false (u .properties .«is_final») (u .properties .extended) (u .written .mandatory || x)) (g .is)
 
-  pub head-form : (k b : ℕ) (r : List ℕ) → r ≡ headForm 6 (a .name .offset) (a .name .len) f b → b ≡ k → r ≡ headRecord 6 n (flags false (isFinal p) (isExtended p) (w .mandatory || x)) k
+  pub head-form : (k b : ℕ) (r : List ℕ) → r ≡ headForm 6 (a .name .offset) (a .name .len) f b → b ≡ k
+      → r ≡ headRecord 6 n (flags false (isFinal p) (isExtended p) (w .mandatory || x)) k
   head-form k b r e eb =
       e ∙ ap (λ (u : AttributeUnit). headForm 6 (u .name .offset) (u .name .len) f b) (g .is)
       ∙ ap (λ (i : ℕ). headForm 6 (n .offset) (length (n .bytes)) i b) head-flags

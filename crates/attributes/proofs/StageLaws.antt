@@ -9,10 +9,12 @@ use Rattle.rules.specs.Names as R
 use Rattle.rules.specs.Grammar as G
 use Rattle.rules.specs.Units as U
 use Rattle.rules.specs.Declarations.{tyOf, Attribute, Def, attributeAt, isFound, State}
-use Rattle.rules.specs.Judge.{Rule, Judged, ok, refused, firstBrokenOr, judge, memberRules, afterMember, attributeRules, attributeTo16, attribute17To18, newAttribute, orNoAttribute, isExtended, hasTwice, referenceIn, resolved, elementRule, typeRules, kindRule}
-use Rattle.types.specs.Rulings.{rulingOf, judgedBy}
-use Rattle.types.specs.declared.Ruling.{Ruling}
-use Rattle.types.proofs.RulingLaws.{Positive, first-broken-by, positive-append}
+use Rattle.rules.specs.Judge.{Rule, Judged, ok, refused, firstBrokenOr, judge, memberRules, afterMember, attributeRules}
+use Rattle.rules.specs.Judge.{attributeTo16, attribute17To18, newAttribute, orNoAttribute, isExtended, hasTwice}
+use Rattle.rules.specs.Judge.{referenceIn, resolved, elementRule, typeRules, kindRule}
+use Rattle.ground.specs.Rulings.{rulingOf, judgedBy}
+use Rattle.ground.specs.declared.Ruling.{Ruling}
+use Rattle.ground.proofs.RulingLaws.{Positive, first-broken-by, positive-append}
 use Rattle.written.proofs.WrittenLaws.{type-positive}
 use Rattle.attribute_names.specs.Stages.{referenceRules, rulesTo11}
 use Rattle.attribute_names.proofs.BondLaws.{element-positive}
@@ -40,27 +42,42 @@ module _ (s : State) (c : Def) (n : R.Name) (p : List (List ℕ)) (w : G.Written
   in-stages : attributeRules s c n p w base· named· ≡ to-11 ++ (to-13 ++ to-18)
   unfolding attributeRules attributeTo16 newAttribute
   in-stages =
-      rw (append-assoc (typeRules (isFound base·) (w .place) (w .type)) (kindRule (w .place) (isFound base·) (tyOf (useIn s c n w)) (tyOf (orNoAttribute base· .use-of)) ∷ []) (attribute17To18 (w .place) (isFound base·) (isFound (referenceIn (w .type))) (useIn s c n w) (orNoAttribute base· .use-of)))
+      rw (append-assoc (typeRules (isFound base·) (w .place) (w .type)) (kindRule (w .place) (isFound base·)
+      (tyOf (useIn s c n w)) (tyOf (orNoAttribute base· .use-of)) ∷ []) (attribute17To18 (w .place) (isFound base·)
+      (isFound (referenceIn (w .type))) (useIn s c n w) (orNoAttribute base· .use-of)))
 
   positive-11 : Positive to-11
-  positive-11 = (omega arith, (omega arith, positive-append (elementRule (w .type) ∷ []) (referenceRules (n .offset) (isExtended p) (isFound base·) (referenceIn (w .type)) named·) (element-positive (w .type)) (omega arith, (omega arith, (omega arith, tt)))))
+  positive-11 = (
+    omega arith,
+    (
+      omega arith,
+      positive-append (elementRule (w .type) ∷ [])
+          (referenceRules (n .offset) (isExtended p) (isFound base·) (referenceIn (w .type)) named·)
+          (element-positive (w .type)) (omega arith, (omega arith, (omega arith, tt))),
+    ),
+  )
 
   positive-13 : Positive to-13
   positive-13 = (omega arith, (omega arith, tt))
 
   positive-18 : Positive to-18
-  positive-18 = positive-append (typeRules (isFound base·) (w .place) (w .type)) _ (type-positive (isFound base·) (w .place) (w .type)) (omega arith, (omega arith, (omega arith, tt)))
+  positive-18 = positive-append (typeRules (isFound base·) (w .place) (w .type)) _
+      (type-positive (isFound base·) (w .place) (w .type)) (omega arith, (omega arith, (omega arith, tt)))
 
-  all-rules : firstBrokenOr (attributeRules s c n p w base· named·) (afterAttribute s c n p w) ≡ judgedBy (rulingOf to-11) (judgedBy (rulingOf to-13) (judgedBy (rulingOf to-18) (ok (afterAttribute s c n p w))))
+  all-rules : firstBrokenOr (attributeRules s c n p w base· named·) (afterAttribute s c n p w) ≡ judgedBy
+      (rulingOf to-11) (judgedBy (rulingOf to-13) (judgedBy (rulingOf to-18) (ok (afterAttribute s c n p w))))
   all-rules =
       ap (λ (l : List Rule). firstBrokenOr l (afterAttribute s c n p w)) in-stages
       ∙ first-broken-by to-11 (to-13 ++ to-18) (afterAttribute s c n p w) positive-11
       ∙ ap (judgedBy (rulingOf to-11)) (first-broken-by to-13 to-18 (afterAttribute s c n p w) positive-13
-      ∙ ap (judgedBy (rulingOf to-13)) (ap (λ (l : List Rule). firstBrokenOr l (afterAttribute s c n p w)) (sym (append-nil to-18)) ∙ first-broken-by to-18 [] (afterAttribute s c n p w) positive-18))
+      ∙ ap (judgedBy (rulingOf to-13)) (ap (λ (l : List Rule). firstBrokenOr l (afterAttribute s c n p w))
+      (sym (append-nil to-18)) ∙ first-broken-by to-18 [] (afterAttribute s c n p w) positive-18))
 
-  pub judged-in-stages : s .open-class ≡ some c → judge s (U.attribute n p w) ≡ judgedBy (rulingOf to-11) (judgedBy (rulingOf to-13) (judgedBy (rulingOf to-18) (ok (afterAttribute s c n p w))))
+  pub judged-in-stages : s .open-class ≡ some c → judge s (U.attribute n p w) ≡ judgedBy (rulingOf to-11)
+      (judgedBy (rulingOf to-13) (judgedBy (rulingOf to-18) (ok (afterAttribute s c n p w))))
   unfolding judge
-  judged-in-stages e = ap (λ (o : Option Def). firstBrokenOr (memberRules s n p w o) (afterMember s n p w o)) e ∙ all-rules
+  judged-in-stages e =
+      ap (λ (o : Option Def). firstBrokenOr (memberRules s n p w o) (afterMember s n p w o)) e ∙ all-rules
 
 -- one stage
 pub stage-broken : (r : Ruling) (j : Judged) → 0 < r .number → judgedBy r j ≡ refused (r .number) (r .place)

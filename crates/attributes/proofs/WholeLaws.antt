@@ -13,7 +13,8 @@ use Rattle.rules.specs.Grammar as G
 use Rattle.rules.specs.Units as U
 use Rattle.rules.specs.Declarations.{tyOf, Attribute, Def, attributeAt, isFound, State, known}
 use Rattle.rules.specs.Book.{Record, bytes, useRecords}
-use Rattle.rules.specs.Judge.{attributeUse, Judged, ok, refused, judge, orNoAttribute, isExtended, hasTwice, elementRule, referenceIn, resolved}
+use Rattle.rules.specs.Judge.{attributeUse, Judged, ok, refused, judge, orNoAttribute, isExtended, hasTwice}
+use Rattle.rules.specs.Judge.{elementRule, referenceIn, resolved}
 use Rattle.rules.specs.Check.{lent, room}
 use Rattle.ground.specs.Parts.{splice}
 use Rattle.book.specs.Sizes.{headSize}
@@ -24,8 +25,8 @@ use Rattle.members.specs.Held.{attributesIn, useFor}
 use Rattle.rules.specs.All.{AnyIs}
 use Rattle.wellformed.specs.Fairness.{Begins}
 use Rattle.wellformed.proofs.KeepLaws.{judge-fair, found-there}
-use Rattle.types.specs.Rulings.{rulingOf, judgedBy}
-use Rattle.types.specs.declared.Ruling.{Ruling}
+use Rattle.ground.specs.Rulings.{rulingOf, judgedBy}
+use Rattle.ground.specs.declared.Ruling.{Ruling}
 use Rattle.types.proofs.TypeLaws.{once-of}
 use Rattle.units.specs.declared.AttributeUnit.{AttributeUnit}
 use Rattle.units.specs.declared.Unit.the-variants.{Attribute as V·Attribute}
@@ -50,15 +51,19 @@ use Rattle.attribute_records.specs.Facts.{Lays, LaidAs}
 use Rattle.attributes.specs.Facts.{Passes, useIn, afterAttribute}
 use Rattle.attributes.proofs.StageLaws.{to-11, to-13, to-18, judged-in-stages, stage-broken, stage-passed}
 
-laid-refused : (b : Bool) (q : Ruling) (l : List Record) (i : ℕ) (o o₁ : List ℕ) (r : Ruling) → LaidWhen b q l i o o₁ (Broken r) → (b ≡ true) × (r ≡ q)
+laid-refused : (b : Bool) (q : Ruling) (l : List Record) (i : ℕ) (o o₁ : List ℕ) (r : Ruling)
+    → LaidWhen b q l i o o₁ (Broken r) → (b ≡ true) × (r ≡ q)
 laid-refused true q l i o o₁ r h = let e : r ≡ q = cc in (refl, e)
 laid-refused false q l i o o₁ r h = let e = h .0 in let z : _≡_ {A = ℕ} 0 1 = cc in absurd (omega arith)
 
-laid-accepted : (b : Bool) (q : Ruling) (l : List Record) (i : ℕ) (o o₁ : List ℕ) (s : Size) → LaidWhen b q l i o o₁ (Whole s) → (b ≡ false) × (s ≡ sizeOf l) × (i + length (bytes l) ≤ length o → o₁ ≡ splice o i (bytes l))
+laid-accepted : (b : Bool) (q : Ruling) (l : List Record) (i : ℕ) (o o₁ : List ℕ) (s : Size) → LaidWhen b q l i o o₁
+    (Whole s) → (b ≡ false) × (s ≡ sizeOf l) × (i + length (bytes l) ≤ length o → o₁ ≡ splice o i (bytes l))
 laid-accepted true q l i o o₁ s h = let z : _≡_ {A = ℕ} 0 1 = cc in absurd (omega arith)
 laid-accepted false q l i o o₁ s h = let e = h .0 in let k : s ≡ sizeOf l = cc in (refl, k, h .1)
 
-module _ {t : List ℕ} {s : State} {st : code.State} {o x z y hs : List ℕ} {n : R.Name} {p : List (List ℕ)} {w : G.Written} {a : AttributeUnit} {rs : List ℕ} (k : Keeps t s st o x z y hs) (m : Comes t s (U.attribute n p w) (V·Attribute a) rs) where
+module _ {t : List ℕ} {s : State} {st : code.State} {o x z y hs : List ℕ} {n : R.Name} {p : List
+    (List ℕ)} {w : G.Written} {a : AttributeUnit} {rs : List ℕ} (k : Keeps t s st o x z y hs)
+    (m : Comes t s (U.attribute n p w) (V·Attribute a) rs) where
   pub unit-is : Given t n p w rs a
   unit-is = given t s n p w a rs m
 
@@ -74,19 +79,28 @@ module _ {t : List ℕ} {s : State} {st : code.State} {o x z y hs : List ℕ} {n
   abbrev named· : Option Def
   named· = resolved s (referenceIn (w .type))
 
-  stages : judge s (U.attribute n p w) ≡ judgedBy (rulingOf (to-11 s c· n p w)) (judgedBy (rulingOf (to-13 s c· n p w)) (judgedBy (rulingOf (to-18 s c· n p w)) (ok (afterAttribute s c· n p w))))
+  stages : judge s (U.attribute n p w) ≡ judgedBy (rulingOf (to-11 s c· n p w))
+      (judgedBy (rulingOf (to-13 s c· n p w)) (judgedBy (rulingOf (to-18 s c· n p w)) (ok (afterAttribute s c· n p w))))
   stages = judged-in-stages s c· n p w (class-is .1)
 
   module _ {e : Bonds} (ei : BondsAre s (class-is .0) n (isExtended p) (w .type) hs (st .context .«in_hand») e) where
-    pub judged-first : 0 < e .ruling .number → judge s (U.attribute n p w) ≡ refused (e .ruling .number) (e .ruling .place)
-    judged-first h = stages ∙ ap (λ (r : Ruling). judgedBy r (judgedBy (rulingOf (to-13 s c· n p w)) (judgedBy (rulingOf (to-18 s c· n p w)) (ok (afterAttribute s c· n p w))))) (sym (ei .ruling)) ∙ stage-broken (e .ruling) _ h
+    pub judged-first : 0 < e .ruling .number
+        → judge s (U.attribute n p w) ≡ refused (e .ruling .number) (e .ruling .place)
+    judged-first h =
+        stages ∙ ap (λ (r : Ruling). judgedBy r (judgedBy (rulingOf (to-13 s c· n p w))
+        (judgedBy (rulingOf (to-18 s c· n p w)) (ok (afterAttribute s c· n p w))))) (sym (ei .ruling))
+        ∙ stage-broken (e .ruling) _ h
 
     module _ (h : e .ruling .number ≤ 0) where
       first-off : e .ruling .number ≡ 0
       first-off = omega arith
 
-      past-first : judge s (U.attribute n p w) ≡ judgedBy (rulingOf (to-13 s c· n p w)) (judgedBy (rulingOf (to-18 s c· n p w)) (ok (afterAttribute s c· n p w)))
-      past-first = stages ∙ ap (λ (r : Ruling). judgedBy r (judgedBy (rulingOf (to-13 s c· n p w)) (judgedBy (rulingOf (to-18 s c· n p w)) (ok (afterAttribute s c· n p w))))) (sym (ei .ruling)) ∙ stage-passed (e .ruling) _ h
+      past-first : judge s (U.attribute n p w) ≡ judgedBy (rulingOf (to-13 s c· n p w))
+          (judgedBy (rulingOf (to-18 s c· n p w)) (ok (afterAttribute s c· n p w)))
+      past-first =
+          stages ∙ ap (λ (r : Ruling). judgedBy r (judgedBy (rulingOf (to-13 s c· n p w))
+          (judgedBy (rulingOf (to-18 s c· n p w)) (ok (afterAttribute s c· n p w))))) (sym (ei .ruling))
+          ∙ stage-passed (e .ruling) _ h
 
       base-is : entry (attributesIn s) (e .base) ≡ base·
       base-is = ei .reaches first-off .base
@@ -94,11 +108,15 @@ module _ {t : List ℕ} {s : State} {st : code.State} {o x z y hs : List ℕ} {n
       named-is : entry (known (s .decls)) (e .named) ≡ named·
       named-is = ei .reaches first-off .named
 
-      offs : (rulingOf (nameRules c· n (isExtended p)) .number ≡ 0) × (rulingOf (elementRule (w .type) ∷ []) .number ≡ 0) × (rulingOf (referenceRules (n .offset) (isExtended p) (isFound base·) (referenceIn (w .type)) named·) .number ≡ 0)
-      offs = to-11-off c· n (isExtended p) (isFound base·) (w .type) named· (ap (λ (r : Ruling). r .number) (sym (ei .ruling)) ∙ first-off)
+      offs : (rulingOf (nameRules c· n (isExtended p)) .number ≡ 0)
+          × (rulingOf (elementRule (w .type) ∷ []) .number ≡ 0) × (rulingOf
+          (referenceRules (n .offset) (isExtended p) (isFound base·) (referenceIn (w .type)) named·) .number ≡ 0)
+      offs = to-11-off c· n (isExtended p) (isFound base·) (w .type) named·
+          (ap (λ (r : Ruling). r .number) (sym (ei .ruling)) ∙ first-off)
 
       refer : Refers (referenceIn (w .type)) named· × ((isExtended p && not (isFound base·)) ≡ false)
-      refer = refers-is (n .offset) (isExtended p) (isFound base·) (referenceIn (w .type)) named· (λ q. ap (resolved s) q) (offs .2)
+      refer = refers-is (n .offset) (isExtended p) (isFound base·) (referenceIn (w .type)) named·
+          (λ q. ap (resolved s) q) (offs .2)
 
       pub refers-to : Refers (referenceIn (w .type)) (entry (known (s .decls)) (e .named))
       refers-to = subst (Refers (referenceIn (w .type))) (sym named-is) (refer .0)
@@ -106,29 +124,51 @@ module _ {t : List ℕ} {s : State} {st : code.State} {o x z y hs : List ℕ} {n
       alone : w .type ≡ none → isFound (entry (attributesIn s) (e .base)) ≡ true
       alone q = ap isFound base-is ∙ found-there (isExtended p) (isFound base·) (unit-is .fair .alone q) (refer .1)
 
-      module _ {r : Typings} (bi : Binds e (st .listing .count) (r .uses)) (ri : TypingsAre t (take (st .extent .used) o) (known (s .decls)) (a .name .offset) (a .properties .twice) (w .type) (entry (known (s .decls)) (e .named)) (entry (attributesIn s) (e .base)) r) where
+      module _ {r : Typings} (bi : Binds e (st .listing .count) (r .uses))
+          (ri : TypingsAre t (take (st .extent .used) o) (known (s .decls)) (a .name .offset) (a .properties .twice)
+          (w .type) (entry (known (s .decls)) (e .named)) (entry (attributesIn s) (e .base)) r) where
         to-13-are : r .ruling ≡ rulingOf (to-13 s c· n p w)
         to-13-are =
             ri .ruling
-            ∙ ap (λ (i : ℕ). rulingOf (headRules i (orNoAttribute (entry (attributesIn s) (e .base)) .final) (a .properties .twice) (attributeUse (w .type) (entry (known (s .decls)) (e .named)) (orNoAttribute (entry (attributesIn s) (e .base)) .use-of)) (entry (known (s .decls)) (e .named)))) (at-name t n p w rs a unit-is)
-            ∙ ap (λ (b : Bool). rulingOf (headRules (n .offset) (orNoAttribute (entry (attributesIn s) (e .base)) .final) b (attributeUse (w .type) (entry (known (s .decls)) (e .named)) (orNoAttribute (entry (attributesIn s) (e .base)) .use-of)) (entry (known (s .decls)) (e .named)))) (is-twice t n p w rs a unit-is)
-            ∙ ap (λ (i : Option Attribute). rulingOf (headRules (n .offset) (orNoAttribute i .final) (hasTwice p) (attributeUse (w .type) (entry (known (s .decls)) (e .named)) (orNoAttribute i .use-of)) (entry (known (s .decls)) (e .named)))) base-is
-            ∙ ap (λ (d : Option Def). rulingOf (headRules (n .offset) (orNoAttribute base· .final) (hasTwice p) (attributeUse (w .type) d (orNoAttribute base· .use-of)) d)) named-is
+            ∙ ap (λ (i : ℕ). rulingOf (headRules i (orNoAttribute (entry (attributesIn s) (e .base)) .final)
+            (a .properties .twice) (attributeUse (w .type) (entry (known (s .decls)) (e .named))
+            (orNoAttribute (entry (attributesIn s) (e .base)) .use-of)) (entry (known (s .decls)) (e .named))))
+            (at-name t n p w rs a unit-is)
+            ∙ ap (λ (b : Bool). rulingOf (headRules (n .offset) (orNoAttribute
+            (entry (attributesIn s) (e .base)) .final) b (attributeUse (w .type) (entry (known (s .decls)) (e .named))
+            (orNoAttribute (entry (attributesIn s) (e .base)) .use-of)) (entry (known (s .decls)) (e .named))))
+            (is-twice t n p w rs a unit-is)
+            ∙ ap (λ (i : Option Attribute). rulingOf (headRules (n .offset) (orNoAttribute i .final) (hasTwice p)
+            (attributeUse (w .type) (entry (known (s .decls)) (e .named)) (orNoAttribute i .use-of))
+            (entry (known (s .decls)) (e .named)))) base-is
+            ∙ ap (λ (d : Option Def). rulingOf (headRules (n .offset) (orNoAttribute base· .final) (hasTwice p)
+            (attributeUse (w .type) d (orNoAttribute base· .use-of)) d)) named-is
 
-        pub judged-second : 0 < r .ruling .number → judge s (U.attribute n p w) ≡ refused (r .ruling .number) (r .ruling .place)
-        judged-second h2 = past-first ∙ ap (λ (q : Ruling). judgedBy q (judgedBy (rulingOf (to-18 s c· n p w)) (ok (afterAttribute s c· n p w)))) (sym to-13-are) ∙ stage-broken (r .ruling) _ h2
+        pub judged-second : 0 < r .ruling .number
+            → judge s (U.attribute n p w) ≡ refused (r .ruling .number) (r .ruling .place)
+        judged-second h2 =
+            past-first
+            ∙ ap (λ (q : Ruling). judgedBy q (judgedBy (rulingOf (to-18 s c· n p w)) (ok (afterAttribute s c· n p w))))
+            (sym to-13-are) ∙ stage-broken (r .ruling) _ h2
 
         module _ (h2 : r .ruling .number ≤ 0) where
-          past-second : judge s (U.attribute n p w) ≡ judgedBy (rulingOf (to-18 s c· n p w)) (ok (afterAttribute s c· n p w))
-          past-second = past-first ∙ ap (λ (q : Ruling). judgedBy q (judgedBy (rulingOf (to-18 s c· n p w)) (ok (afterAttribute s c· n p w)))) (sym to-13-are) ∙ stage-passed (r .ruling) _ h2
+          past-second : judge s (U.attribute n p w)
+              ≡ judgedBy (rulingOf (to-18 s c· n p w)) (ok (afterAttribute s c· n p w))
+          past-second =
+              past-first ∙ ap
+              (λ (q : Ruling). judgedBy q (judgedBy (rulingOf (to-18 s c· n p w)) (ok (afterAttribute s c· n p w))))
+              (sym to-13-are) ∙ stage-passed (r .ruling) _ h2
 
-          pub lays : e .base ≤ st .listing .total → e .named ≤ st .listing .count → Lays t (take (st .extent .used) o) (known (s .decls)) (attributesIn s) x (st .listing .count) y (st .listing .total) rs (a .written) (r .uses .base) (r .uses .named) (r .uses .kept) (r .uses .over) (w .type)
+          pub lays : e .base ≤ st .listing .total → e .named ≤ st .listing .count → Lays t (take (st .extent .used) o)
+              (known (s .decls)) (attributesIn s) x (st .listing .count) y (st .listing .total) rs (a .written)
+              (r .uses .base) (r .uses .named) (r .uses .kept) (r .uses .over) (w .type)
           lays hb hn = rw (bi .base, bi .named) (record {
             ready = ready t s st o x z y hs k;
             within = hb;
             based = bi .based;
             meant = is-meant t n p w rs a unit-is;
-            begins = subst (λ (i : ℕ). AnyIs (Begins i) (w .type)) (sym (at-type t n p w rs a unit-is)) (unit-is .fair .begins);
+            begins = subst (λ (i : ℕ). AnyIs (Begins i) (w .type))
+                (sym (at-type t n p w rs a unit-is)) (unit-is .fair .begins);
             scratched = unit-is .scratched;
             once = once-of (w .type) (offs .1);
             refers = refers-to;
@@ -136,35 +176,60 @@ module _ {t : List ℕ} {s : State} {st : code.State} {o x z y hs : List ℕ} {n
             used = ri .kept;
             typed = ri .base;
             valued = ri .own;
-            typed-named = λ v. ri .named (found-is (known (s .decls)) (e .named) (let i = k .held .all-defs in omega arith) ∙ lt-ltb 0 (e .named) v);
+            typed-named = λ v. ri .named (found-is (known (s .decls)) (e .named) (let i = k .held .all-defs in
+                omega arith) ∙ lt-ltb 0 (e .named) v);
           })
 
-          module _ (l : Laying) (o₁ : List ℕ) (li : LaidAs (a .written .place) (w .type) (entry (known (s .decls)) (r .uses .named)) (entry (attributesIn s) (r .uses .base)) (st .extent .used + headSize) o o₁ l) where
+          module _ (l : Laying) (o₁ : List ℕ)
+              (li : LaidAs (a .written .place) (w .type) (entry (known (s .decls)) (r .uses .named))
+              (entry (attributesIn s) (r .uses .base)) (st .extent .used + headSize) o o₁ l) where
             laid : LaidAs (w .place) (w .type) named· base· (st .extent .used + headSize) o o₁ l
             laid =
-                subst (λ (d : Option Def). LaidAs (w .place) (w .type) d base· (st .extent .used + headSize) o o₁ l) (ap (entry (known (s .decls))) (bi .named) ∙ named-is)
-                (subst (λ (i : Option Attribute). LaidAs (w .place) (w .type) (entry (known (s .decls)) (r .uses .named)) i (st .extent .used + headSize) o o₁ l) (ap (entry (attributesIn s)) (bi .base) ∙ base-is)
-                (subst (λ (i : ℕ). LaidAs i (w .type) (entry (known (s .decls)) (r .uses .named)) (entry (attributesIn s) (r .uses .base)) (st .extent .used + headSize) o o₁ l) (at-type t n p w rs a unit-is) li))
+                subst (λ (d : Option Def). LaidAs (w .place) (w .type) d base· (st .extent .used + headSize) o o₁ l)
+                (ap (entry (known (s .decls))) (bi .named) ∙ named-is)
+                (subst (λ (i : Option Attribute). LaidAs (w .place) (w .type)
+                (entry (known (s .decls)) (r .uses .named)) i (st .extent .used + headSize) o o₁ l)
+                (ap (entry (attributesIn s)) (bi .base) ∙ base-is)
+                (subst (λ (i : ℕ). LaidAs i (w .type) (entry (known (s .decls)) (r .uses .named))
+                (entry (attributesIn s) (r .uses .base)) (st .extent .used + headSize) o o₁ l)
+                (at-type t n p w rs a unit-is) li))
 
             abbrev Is : Laying → Type 0
-            Is i = LaidWhen (ltb 0 (rulingOf (to-18 s c· n p w) .number)) (rulingOf (to-18 s c· n p w)) (useRecords (useIn s c· n w)) (st .extent .used + headSize) o o₁ i
+            Is i = LaidWhen (ltb 0 (rulingOf (to-18 s c· n p w) .number)) (rulingOf (to-18 s c· n p w))
+                (useRecords (useIn s c· n w)) (st .extent .used + headSize) o o₁ i
 
-            pub judged-third : (q : Ruling) → l ≡ Broken q → judge s (U.attribute n p w) ≡ refused (q .number) (q .place)
+            pub judged-third : (q : Ruling) → l ≡ Broken q
+                → judge s (U.attribute n p w) ≡ refused (q .number) (q .place)
             judged-third q f =
-                let (b, i) = laid-refused (ltb 0 (rulingOf (to-18 s c· n p w) .number)) (rulingOf (to-18 s c· n p w)) (useRecords (useIn s c· n w)) (st .extent .used + headSize) o o₁ q (subst Is f laid) in
-                past-second ∙ stage-broken (rulingOf (to-18 s c· n p w)) (ok (afterAttribute s c· n p w)) (ltb-true 0 (rulingOf (to-18 s c· n p w) .number) b) ∙ ap (λ (j : Ruling). refused (j .number) (j .place)) (sym i)
+                let (b, i) = laid-refused (ltb 0 (rulingOf (to-18 s c· n p w) .number)) (rulingOf (to-18 s c· n p w))
+                (useRecords (useIn s c· n w)) (st .extent .used + headSize) o o₁ q (subst Is f laid) in
+                past-second ∙ stage-broken (rulingOf (to-18 s c· n p w)) (ok (afterAttribute s c· n p w))
+                (ltb-true 0 (rulingOf (to-18 s c· n p w) .number) b)
+                ∙ ap (λ (j : Ruling). refused (j .number) (j .place)) (sym i)
 
             module _ (size : Size) (f : l ≡ Whole size) where
-              accepted : (ltb 0 (rulingOf (to-18 s c· n p w) .number) ≡ false) × (size ≡ sizeOf (useRecords (useIn s c· n w))) × (st .extent .used + headSize + length (bytes (useRecords (useIn s c· n w))) ≤ length o → o₁ ≡ splice o (st .extent .used + headSize) (bytes (useRecords (useIn s c· n w))))
-              accepted = laid-accepted (ltb 0 (rulingOf (to-18 s c· n p w) .number)) (rulingOf (to-18 s c· n p w)) (useRecords (useIn s c· n w)) (st .extent .used + headSize) o o₁ size (subst Is f laid)
+              accepted : (ltb 0 (rulingOf (to-18 s c· n p w) .number) ≡ false)
+                  × (size ≡ sizeOf (useRecords (useIn s c· n w)))
+                  × (st .extent .used + headSize + length (bytes (useRecords (useIn s c· n w))) ≤ length o
+                  → o₁ ≡ splice o (st .extent .used + headSize) (bytes (useRecords (useIn s c· n w))))
+              accepted = laid-accepted (ltb 0 (rulingOf (to-18 s c· n p w) .number)) (rulingOf (to-18 s c· n p w))
+                  (useRecords (useIn s c· n w)) (st .extent .used + headSize) o o₁ size (subst Is f laid)
 
               pub judged-all : judge s (U.attribute n p w) ≡ ok (afterAttribute s c· n p w)
-              judged-all = past-second ∙ stage-passed (rulingOf (to-18 s c· n p w)) (ok (afterAttribute s c· n p w)) (ltb-false 0 (rulingOf (to-18 s c· n p w) .number) (accepted .0))
+              judged-all =
+                  past-second ∙ stage-passed (rulingOf (to-18 s c· n p w)) (ok (afterAttribute s c· n p w))
+                  (ltb-false 0 (rulingOf (to-18 s c· n p w) .number) (accepted .0))
 
               pub size-solid : size .records ≤ size .bytes
-              size-solid = let i = ap (λ (j : Size). j .records) (accepted .1) in let j = ap (λ (j : Size). j .bytes) (accepted .1) in let q = plain-use (useIn s c· n w) .solid in omega arith
+              size-solid =
+                  let i = ap (λ (j : Size). j .records) (accepted .1) in
+                  let j = ap (λ (j : Size). j .bytes) (accepted .1) in
+                  let q = plain-use (useIn s c· n w) .solid in omega arith
 
-              pub passes : (u : ℕ) → useFor (entry (known (s .decls)) u) (tyOf (attributeUse (w .type) (entry (known (s .decls)) (e .named)) (orNoAttribute (entry (attributesIn s) (e .base)) .use-of))) ≡ attributeUse (w .type) (entry (known (s .decls)) (e .named)) (orNoAttribute (entry (attributesIn s) (e .base)) .use-of)
+              pub passes : (u : ℕ) → useFor (entry (known (s .decls)) u) (tyOf (attributeUse (w .type)
+                  (entry (known (s .decls)) (e .named)) (orNoAttribute (entry (attributesIn s) (e .base)) .use-of)))
+                  ≡ attributeUse (w .type) (entry (known (s .decls)) (e .named))
+                  (orNoAttribute (entry (attributesIn s) (e .base)) .use-of)
                   → Passes t s st o o₁ x z y hs rs c· n p w a e u size
               passes u eu = record {
                 keeps = k;
@@ -176,9 +241,14 @@ module _ {t : List ℕ} {s : State} {st : code.State} {o x z y hs : List ℕ} {n
                 uses = rw (named-is, base-is) at eu;
                 sized = accepted .1;
                 laid = accepted .2;
-                fair = judge-fair t s (afterAttribute s c· n p w) (U.attribute n p w) (m .fair) (m .stands) (k .fair) judged-all;
+                fair = judge-fair t s (afterAttribute s c· n p w) (U.attribute n p w) (m .fair)
+                    (m .stands) (k .fair) judged-all;
               }
 
               -- the end's answer is the whole answer
-              pub judged-end : (j : code-judged.Judged) (o₂ x′ z′ y′ hs′ : List ℕ) → JudgedAs t (room (lent (length o)) (n .offset) (ok (afterAttribute s c· n p w))) st j o₂ x′ z′ y′ hs′ → JudgedAs t (verdict s (U.attribute n p w) o) st j o₂ x′ z′ y′ hs′
-              judged-end j o₂ x′ z′ y′ hs′ q = subst (λ (i : Judged). JudgedAs t (room (lent (length o)) (n .offset) i) st j o₂ x′ z′ y′ hs′) (sym judged-all) q
+              pub judged-end : (j : code-judged.Judged) (o₂ x′ z′ y′ hs′ : List ℕ) → JudgedAs t
+                  (room (lent (length o)) (n .offset) (ok (afterAttribute s c· n p w))) st j o₂ x′ z′ y′ hs′
+                  → JudgedAs t (verdict s (U.attribute n p w) o) st j o₂ x′ z′ y′ hs′
+              judged-end j o₂ x′ z′ y′ hs′ q =
+                  subst (λ (i : Judged). JudgedAs t (room (lent (length o)) (n .offset) i) st j o₂ x′ z′ y′ hs′)
+                  (sym judged-all) q

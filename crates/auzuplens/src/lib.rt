@@ -1,6 +1,6 @@
 // The three public operations, and their exports to C and Rust.
+use answers::Answer;
 use numbers::Reading;
-use running::Answer;
 use state::Layout;
 ghost use mathlib.Core.Path.{_≡_};
 ghost use mathlib.Core.Bool.{false};
@@ -12,8 +12,8 @@ ghost use Rattle.rules.specs.Check.{lent, check};
 ghost use Rattle.rules.specs.Promise.{Promise};
 ghost use Rattle.numbers.specs.Answer.{Promised};
 ghost use Rattle.book.specs.Names.{Shows};
-ghost use Rattle.trying.specs.Promise.{answerOf, full};
-ghost use Rattle.auzuplens.specs.Packing.{packed, packedPart};
+ghost use Rattle.answers.specs.Answers.{answerOf, full};
+ghost use Rattle.answers.specs.Packing.{packed, packedPart};
 
 const HAND: usize = members::MOST + members::MOST;
 
@@ -43,7 +43,7 @@ fn check_small(text: &[u8], book: &mut [u8]) -> Answer
         chains: SMALL_CHAINS,
         end: SMALL_END,
     };
-    trying::check_with(
+    running::check_with(
         text,
         book,
         SMALL_BOOK,
@@ -80,7 +80,7 @@ fn check_medium(text: &[u8], book: &mut [u8]) -> Answer
         chains: MEDIUM_CHAINS,
         end: MEDIUM_END,
     };
-    trying::check_with(
+    running::check_with(
         text,
         book,
         MEDIUM_BOOK,
@@ -115,7 +115,7 @@ fn check_large(text: &[u8], book: &mut [u8]) -> Answer
         chains: LARGE_CHAINS,
         end: LARGE_END,
     };
-    trying::check_with(
+    running::check_with(
         text,
         book,
         LARGE,
@@ -125,16 +125,6 @@ fn check_large(text: &[u8], book: &mut [u8]) -> Answer
         &mut tables,
         layout,
     )
-}
-
-// Whether the book does not fit the buffer.
-fn is_full(a: Answer) -> bool
-    ensures { λ r. ⌜ r ≡ full (answerOf a) ⌝ }
-{
-    match a {
-        Answer::Accepted { .. } => false,
-        Answer::Refused { number, .. } => number == 19,
-    }
 }
 
 // Whether the text keeps every rule of document 01. The book is written to the lent buffer, with zeros behind it; after
@@ -153,14 +143,14 @@ pub fn check_text(text: &[u8], book: &mut [u8]) -> Answer
     }
     if n <= SMALL {
         let a = check_small(text, book);
-        if is_full(a) {
+        if answers::is_full(a) {
             return check_large(text, book);
         }
         return a;
     }
     if n <= MEDIUM {
         let a = check_medium(text, book);
-        if is_full(a) {
+        if answers::is_full(a) {
             return check_large(text, book);
         }
         return a;
@@ -184,27 +174,13 @@ pub fn show_name<'a>(text: &'a [u8], book: &[u8], record: usize) -> &'a [u8]
 }
 
 // ---- for C and Rust
-fn pack(a: Answer) -> u64
-    ensures { λ r. ⌜ r ≡ packed (answerOf a) ⌝ }
-{
-    match a {
-        Answer::Accepted {
-            length,
-            definitions,
-        } => (definitions % 65536) as u64 * 4294967296 + (length % 4294967296) as u64,
-        Answer::Refused { number, place } => {
-            number as u64 * 281474976710656 + (place % 4294967296) as u64
-        }
-    }
-}
-
 #[no_mangle]
 pub extern "C" fn auzuplens_check(text: &[u8], book: &mut [u8]) -> u64
     ensures { λ r. ⌜ (r ≡ packed (check (now (text .entry)) (lent (length (now (book .entry)))) .answer))
         × (now (book .exit) ≡ check (now (text .entry)) (lent (length (now (book .entry)))) .buffer) ⌝ }
 {
     let a = check_text(text, book);
-    pack(a)
+    answers::pack(a)
 }
 
 // 0 after a refusal.

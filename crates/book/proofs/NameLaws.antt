@@ -31,7 +31,8 @@ no-name k h l = not-is (on (λ x. not (isNamed x)) 15 241 refl k h (omega arith)
 -- a record that has a name holds an offset and a length
 pub named-size : (k : ℕ) → k < 256 → isNamed k ≡ true → nameSize ≤ sizeOf k
 unfolding isNamed sizeOf
-named-size k h e = leb-true nameSize (sizeOf k) (implies (on (λ x. not (isNamed x) || leb nameSize (sizeOf x)) 0 256 refl k (omega arith) (omega arith)) e)
+named-size k h e = leb-true nameSize (sizeOf k)
+    (implies (on (λ x. not (isNamed x) || leb nameSize (sizeOf x)) 0 256 refl k (omega arith) (omega arith)) e)
 
 abbrev none : code.Part
 none = partOf noPart
@@ -56,10 +57,19 @@ module _ (t : List ℕ) {b : List ℕ} {i n : ℕ} (w : Whole b i n) where
   name-fits k e = rw (w .size) (named-size (getD b i 0) k e)
 
   module _ (k : getD b i 0 < 256) (e : isNamed (getD b i 0) ≡ true) (p : code.Part) (f : Written b i p) where
-    named : (q : Bool) → leb (p .start + p .len) (length t) ≡ q → nameHere t b i ≡ cond q (record { start = p .start; length = p .len }) noPart
+    named : (q : Bool) → leb (p .start + p .len) (length t) ≡ q
+        → nameHere t b i ≡ cond q (record { start = p .start; length = p .len }) noPart
     named q h =
         let s : nameSize ≤ n = name-fits k e in
-        here ∙ rw (kind (omega arith), e, read4-part b i n 1 (omega arith), getD-part b i n 5 (omega arith), ← f .offset, ← f .length, h)
+        here ∙ rw (
+          kind (omega arith),
+          e,
+          read4-part b i n 1 (omega arith),
+          getD-part b i n 5 (omega arith),
+          ← f .offset,
+          ← f .length,
+          h,
+        )
 
     -- the name lies in the text, or passes its end
     pub name-in : p .start + p .len ≤ length t → p ≡ partOf (nameHere t b i)
@@ -71,19 +81,24 @@ module _ (t : List ℕ) {b : List ℕ} {i n : ℕ} (w : Whole b i n) where
 -- ---- by number
 show-from : (t b : List ℕ) (k i : ℕ) → nameAt t (recordsAt b i) k ≡ nameFound t b (startIn i (recordsAt b i) k)
 unfolding nameHere
-show-from t b zero i = ⊎-elim (λ e. rw (none-at b i e)) (λ z. rw (start-here (whole-at b i _ refl z))) (eq-zero-or-pos (sizeAt b i))
-show-from t b (suc k) i = ⊎-elim (λ e. rw (none-at b i e)) (λ z. next (whole-at b i _ refl z) (show-from t b k)) (eq-zero-or-pos (sizeAt b i))
+show-from t b zero i =
+    ⊎-elim (λ e. rw (none-at b i e)) (λ z. rw (start-here (whole-at b i _ refl z))) (eq-zero-or-pos (sizeAt b i))
+show-from t b (suc k) i =
+    ⊎-elim (λ e. rw (none-at b i e)) (λ z. next (whole-at b i _ refl z) (show-from t b k)) (eq-zero-or-pos (sizeAt b i))
   where
-    next : {n : ℕ} → Whole b i n → ((j : ℕ) → nameAt t (recordsAt b j) k ≡ nameFound t b (startIn j (recordsAt b j) k)) →
-        nameAt t (recordsAt b i) (suc k) ≡ nameFound t b (startIn i (recordsAt b i) (suc k))
-    next {n} w again = ap (λ (l : List Record). nameAt t l (suc k)) (w .first) ∙ again (i + n) ∙ ap (nameFound t b) (sym (start-suc k w))
+    next : {n : ℕ} → Whole b i n → ((j : ℕ) → nameAt t (recordsAt b j) k ≡ nameFound t b (startIn j (recordsAt b j) k))
+        → nameAt t (recordsAt b i) (suc k) ≡ nameFound t b (startIn i (recordsAt b i) (suc k))
+    next {n} w again =
+        ap (λ (l : List Record). nameAt t l (suc k)) (w .first) ∙ again (i + n)
+        ∙ ap (nameFound t b) (sym (start-suc k w))
 
 -- the record is found, and then shown
 show-found : (t b : List ℕ) (k : ℕ) → showName t b k ≡ nameFound t b (recordStart b k)
 unfolding showName recordStart
 show-found t b k = show-from t b k 0
 
-pub shown-by : (t b : List ℕ) (k : ℕ) (f g : Found) → f ≡ recordStart b k → f ≡ g → partOf (nameFound t b g) ≡ partOf (showName t b k)
+pub shown-by : (t b : List ℕ) (k : ℕ) (f g : Found) → f ≡ recordStart b k → f ≡ g
+    → partOf (nameFound t b g) ≡ partOf (showName t b k)
 shown-by t b k f g ef eg = ap partOf (sym (show-found t b k ∙ ap (nameFound t b) (sym ef ∙ eg)))
 
 in-text : (t : List ℕ) (r : Record) → nameIn t r .start + nameIn t r .length ≤ length t
@@ -110,11 +125,14 @@ shown-within t b k p e = rw e (within t (recordsFrom 0 b) k)
 pub starts-at : (p : code.Part) (q : Part) → p ≡ partOf q → p .start ≡ q .start
 starts-at p q e = ap (λ (x : code.Part). x .start) e
 
-pub cut : (t : List ℕ) (p : code.Part) (q : Part) → p ≡ partOf q → take (p .start + p .len - p .start) (drop (p .start) t) ≡ part t (q .start) (q .length)
+pub cut : (t : List ℕ) (p : code.Part) (q : Part) → p ≡ partOf q
+    → take (p .start + p .len - p .start) (drop (p .start) t) ≡ part t (q .start) (q .length)
 cut t p q e = rw (add-sub-cancel-left (p .start) (p .len)) (ap (λ (x : code.Part). part t (x .start) (x .len)) e)
 
 -- ---- one outcome
--- `name_part` promises an equation. What `show_name` promises fixes where the part lies and its bytes; a reference's ghost name, which no program
--- sees, is all that it leaves open.
-pub one-shown : (t : RefT (List ℕ)) (b : List ℕ) (k : ℕ) (r s : RefT (List ℕ)) → Shows t b k r → Shows t b k s → (r .ptr ≡ s .ptr) × (r .now ≡ s .now)
-one-shown t b k r s p q = ((λ j. ((p .block ∙ sym (q .block)) j, (p .place ∙ sym (q .place)) j)), p .bytes ∙ sym (q .bytes))
+-- `name_part` promises an equation. What `show_name` promises fixes where the part lies and its bytes; a reference's
+-- ghost name, which no program sees, is all that it leaves open.
+pub one-shown : (t : RefT (List ℕ)) (b : List ℕ) (k : ℕ) (r s : RefT (List ℕ)) → Shows t b k r → Shows t b k s
+    → (r .ptr ≡ s .ptr) × (r .now ≡ s .now)
+one-shown t b k r s p q =
+    ((λ j. ((p .block ∙ sym (q .block)) j, (p .place ∙ sym (q .place)) j)), p .bytes ∙ sym (q .bytes))

@@ -11,9 +11,11 @@ use Rattle.rules.specs.Enumerations.{Enum, end}
 use Rattle.rules.specs.Types.{text, range, numeric}
 use Rattle.rules.specs.Declarations as D
 use Rattle.rules.specs.Declarations.{Link, ofDomain, ofStructure}
-use Rattle.rules.specs.Book.{nameRecord, headRecord, openRecord, elementRecords, typeRecords, useRecords, endRecords, declRecords, bytes}
+use Rattle.rules.specs.Book.{nameRecord, headRecord, openRecord, elementRecords, typeRecords, useRecords, endRecords}
+use Rattle.rules.specs.Book.{declRecords, bytes}
 use Rattle.rules.specs.Show.{sizes}
-use Rattle.book.specs.Sizes.{nameSize, modelSize, topicSize, topicEndSize, headSize, lengthSize, rangeSize, numericSize}
+use Rattle.book.specs.Sizes.{nameSize, modelSize, topicSize, topicEndSize, headSize, lengthSize, rangeSize}
+use Rattle.book.specs.Sizes.{numericSize}
 use Rattle.book.specs.Sizes.{listSize, elementSize, listEndSize, classEndSize}
 
 -- ---- by kind, 0 to 17

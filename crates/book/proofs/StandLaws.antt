@@ -5,17 +5,17 @@ use Prim.Native.Nat.{ℕ, _+_}
 use native.Mathlib.Omega.{arith}
 use lib.ListN.{length, length-append, length-drop, drop}
 use lib.Seq.{drop-drop, drop-append-seam, drop-append-le}
-use Rattle.rules.specs.Names.{Name}
-use Rattle.rules.specs.Book.{Record, bytes, headRecord}
+use Rattle.rules.specs.Book.{Record, bytes}
 use Rattle.book.specs.Places.{Stands}
-use Rattle.book.specs.Sizes.{headSize}
 
 -- a book grows behind them
 pub stands-more : (b v : List ℕ) (p : ℕ) (rs : List Record) → Stands b p rs → Stands (b ++ v) p rs
 stands-more b v p rs h = record {
   within = let l = length-append b v in let w = h .within in omega arith;
   behind = h .behind ++ v;
-  bytes-are = drop-append-le p b v (h .within) ∙ ap (λ (l : List ℕ). l ++ v) (h .bytes-are) ∙ append-assoc (bytes rs) (h .behind) v;
+  bytes-are =
+      drop-append-le p b v (h .within) ∙ ap (λ (l : List ℕ). l ++ v) (h .bytes-are)
+      ∙ append-assoc (bytes rs) (h .behind) v;
 }
 
 -- what is written at the book's end stands there
@@ -27,15 +27,16 @@ stands-new b rs v = record {
 }
 
 -- the records behind the first
-pub stands-behind : (b : List ℕ) (p : ℕ) (r : Record) (rs : List Record) → Stands b p (r ∷ rs) → Stands b (p + length r) rs
+pub stands-behind : (b : List ℕ) (p : ℕ) (r : Record) (rs : List Record)
+    → Stands b p (r ∷ rs) → Stands b (p + length r) rs
 stands-behind b p r rs h =
     let e : drop p b ≡ r ++ (bytes rs ++ h .behind) = h .bytes-are ∙ append-assoc r (bytes rs) (h .behind) in
     record {
-      within = let l = ap length e in let m = length-append r (bytes rs ++ h .behind) in let k = length-drop p b in let w = h .within in omega arith;
+      within =
+          let l = ap length e in
+          let m = length-append r (bytes rs ++ h .behind) in
+          let k = length-drop p b in
+          let w = h .within in omega arith;
       behind = h .behind;
       bytes-are = sym (drop-drop (length r) p b) ∙ ap (drop (length r)) e ∙ drop-append-seam r (bytes rs ++ h .behind);
     }
-
--- the type behind the record of a domain or attribute
-pub stands-typed : (b : List ℕ) (p k : ℕ) (n : Name) (f c : ℕ) (rs : List Record) → Stands b p (headRecord k n f c ∷ rs) → Stands b (p + headSize) rs
-stands-typed b p k n f c rs h = stands-behind b p (headRecord k n f c) rs h

@@ -35,7 +35,8 @@ drop-first zero x l h = absurd (omega arith)
 drop-first (suc n) x l h = rw sub-one
 
 -- a whole record of n bytes
-pub front : (l : List ℕ) (n : ℕ) → sizeOf (getD l 0 0) ≡ n → 0 < n → n ≤ length l → recordsFrom 0 l ≡ take n l ∷ recordsFrom 0 (drop n l)
+pub front : (l : List ℕ) (n : ℕ) → sizeOf (getD l 0 0) ≡ n → 0 < n → n ≤ length l
+    → recordsFrom 0 l ≡ take n l ∷ recordsFrom 0 (drop n l)
 unfolding recordsFrom
 front [] n e z h = absurd (omega arith)
 front (x ∷ l) n e z h =
@@ -43,13 +44,15 @@ front (x ∷ l) n e z h =
     rw (ne-eqb (sizeOf x) 0 some, e, le-leb n (suc (length l)) h, records-skip (n - 1) l, drop-first n x l z)
 
 -- no kind, or cut off
-pub no-front : (l : List ℕ) → (0 < length l → 0 < sizeOf (getD l 0 0) → length l < sizeOf (getD l 0 0)) → recordsFrom 0 l ≡ []
+pub no-front : (l : List ℕ) → (0 < length l → 0 < sizeOf (getD l 0 0) → length l < sizeOf (getD l 0 0))
+    → recordsFrom 0 l ≡ []
 unfolding recordsFrom
 no-front [] h = refl
 no-front (x ∷ l) h = pick (eqb (sizeOf x) 0) refl
   where
     pick : (q : Bool) → eqb (sizeOf x) 0 ≡ q →
-        cond q [] (cond (leb (sizeOf x) (suc (length l))) (take (sizeOf x) (x ∷ l) ∷ recordsFrom (sizeOf x - 1) l) []) ≡ []
+        cond q [] (cond (leb (sizeOf x) (suc (length l))) (take (sizeOf x) (x ∷ l) ∷ recordsFrom (sizeOf x - 1) l) [])
+        ≡ []
     pick true e = refl
     pick false e =
         let some : ¬ (sizeOf x ≡ 0) = eqb-false (sizeOf x) 0 e in
@@ -102,7 +105,11 @@ unfolding sizeAt
 none-at b i e = ⊎-elim (λ p. p) some (look (drop i b))
   where
     some : (0 < sizeOf (getD (drop i b) 0 0)) × (sizeOf (getD (drop i b) 0 0) ≤ length (drop i b)) → recordsAt b i ≡ []
-    some (z, s) = absurd (omega (arith, length-take-le (sizeOf (getD (drop i b) 0 0)) (drop i b) s, sym (ap firstSize (front (drop i b) _ refl z s)) ∙ e))
+    some (z, s) = absurd (omega (
+      arith,
+      length-take-le (sizeOf (getD (drop i b) 0 0)) (drop i b) s,
+      sym (ap firstSize (front (drop i b) _ refl z s)) ∙ e,
+    ))
 
 pub whole-at : (b : List ℕ) (i n : ℕ) → n ≡ sizeAt b i → 0 < n → Whole b i n
 unfolding sizeAt
@@ -127,9 +134,13 @@ start-none i l k e = rw e
 pub start-here : {b : List ℕ} {i n : ℕ} → Whole b i n → startIn i (recordsAt b i) 0 ≡ At i
 start-here w = rw (w .first)
 
-pub start-suc : {b : List ℕ} {i n : ℕ} (k : ℕ) → Whole b i n → startIn i (recordsAt b i) (suc k) ≡ startIn (i + n) (recordsAt b (i + n)) k
-start-suc {b} {i} {n} k w = ap (λ (l : List Record). startIn i l (suc k)) (w .first) ∙ ap (λ (m : ℕ). startIn (i + m) (recordsAt b (i + n)) k) (w .long)
+pub start-suc : {b : List ℕ} {i n : ℕ} (k : ℕ) → Whole b i n
+    → startIn i (recordsAt b i) (suc k) ≡ startIn (i + n) (recordsAt b (i + n)) k
+start-suc {b} {i} {n} k w =
+    ap (λ (l : List Record). startIn i l (suc k)) (w .first)
+    ∙ ap (λ (m : ℕ). startIn (i + m) (recordsAt b (i + n)) k) (w .long)
 
-pub start-next : {b : List ℕ} {i n : ℕ} (k : ℕ) → 0 < k → Whole b i n → startIn i (recordsAt b i) k ≡ startIn (i + n) (recordsAt b (i + n)) (k - 1)
+pub start-next : {b : List ℕ} {i n : ℕ} (k : ℕ) → 0 < k → Whole b i n
+    → startIn i (recordsAt b i) k ≡ startIn (i + n) (recordsAt b (i + n)) (k - 1)
 start-next zero z w = absurd (omega arith)
 start-next (suc k) z w = rw sub-one (start-suc k w)

@@ -1,4 +1,5 @@
--- Where the records of a book begin and stand. A book here is any list of bytes, and its records are those that the rules read from it.
+-- Where the records of a book begin and stand. A book here is any list of bytes, and its records are those that
+-- the rules read from it.
 use mathlib.Core.Path.{_≡_}
 use mathlib.Core.List.{List, [], _∷_, _++_}
 use Prim.Native.Nat.{ℕ, zero, suc, _+_, _≤_}

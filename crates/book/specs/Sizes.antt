@@ -1,4 +1,5 @@
--- The sizes of records by name, the byte of kind with them. The rules' own table and records are held to these names in proofs/SizeLaws.
+-- The sizes of records by name, the byte of kind with them. The rules' own table and records are held to these
+-- names in proofs/SizeLaws.
 use Prim.Native.Nat.{ℕ}
 
 -- what a record with a name begins with: kind, offset, length

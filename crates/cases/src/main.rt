@@ -2,9 +2,9 @@
 // six digits each, with a blank between and an LF behind, then the text and an LF. For each it writes a line: the
 // answer and, if the text is accepted, the book in hexadecimal; then `dirty` if what stands behind the book is not
 // zero.
+use answers::Answer;
 use libc::STDIN_FILENO;
 use libc::STDOUT_FILENO;
-use running::Answer;
 ghost use Prim.Native.Nat.{_≤_};
 ghost use Rattle.io.specs.Counts.{Counts};
 

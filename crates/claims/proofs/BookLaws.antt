@@ -13,7 +13,9 @@ use Rattle.rules.specs.Enumerations.{Enum, end, elem}
 use Rattle.rules.specs.Types.{Ty, text, range, numeric, structure, enum}
 use Rattle.rules.specs.Declarations as D
 use Rattle.rules.specs.Declarations.{Use, inline, ofDomain, ofStructure, Attribute, Sort, Def, Decl, State}
-use Rattle.rules.specs.Book.{Record, openRecord, innerRecords, elementRecords, typeRecords, useRecords, attributeRecords, attributesRecords, headRecords, endRecords, declRecords, declsRecords, openRecords, records, bytes, book, padded}
+use Rattle.rules.specs.Book.{Record, openRecord, innerRecords, elementRecords, typeRecords, useRecords}
+use Rattle.rules.specs.Book.{attributeRecords, attributesRecords, headRecords, endRecords, declRecords, declsRecords}
+use Rattle.rules.specs.Book.{openRecords, records, bytes, book, padded}
 use Rattle.rules.specs.Show.{sizeOf, recordsFrom}
 use Rattle.rules.specs.All.{All}
 use Rattle.rules.proofs.AllLaws.{all-append}
@@ -26,7 +28,11 @@ Sized (b ∷ r) = sizeOf b ≡ suc (length r)
 elements-sized : (e : Enum) → All Sized (elementRecords e)
 unfolding sizeOf
 elements-sized (end f) = (refl, tt)
-elements-sized (elem n i r) = (refl, all-append Sized (innerRecords i (openRecord i ∷ elementRecords i)) (elementRecords r) (inner i (elements-sized i)) (elements-sized r))
+elements-sized (elem n i r) = (
+  refl,
+  all-append Sized (innerRecords i (openRecord i ∷ elementRecords i))
+      (elementRecords r) (inner i (elements-sized i)) (elements-sized r),
+)
   where
     inner : (i : Enum) → All Sized (elementRecords i) → All Sized (innerRecords i (openRecord i ∷ elementRecords i))
     inner (end false) h = tt
@@ -51,7 +57,8 @@ use-sized (ofStructure l bs) = (refl, tt)
 attributes-sized : (l : List Attribute) → All Sized (attributesRecords l)
 unfolding sizeOf
 attributes-sized [] = tt
-attributes-sized (a ∷ l) = all-append Sized (attributeRecords a) (attributesRecords l) (refl, use-sized (a .use-of)) (attributes-sized l)
+attributes-sized (a ∷ l) =
+    all-append Sized (attributeRecords a) (attributesRecords l) (refl, use-sized (a .use-of)) (attributes-sized l)
 
 head-sized : (x : Sort) (d : Def) → All Sized (headRecords x d)
 unfolding sizeOf
@@ -71,11 +78,13 @@ decls-sized : (l : List Decl) → All Sized (declsRecords l)
 unfolding sizeOf
 decls-sized [] = tt
 decls-sized (D.model n ∷ l) = (refl, decls-sized l)
-decls-sized (D.def d ∷ l) = all-append Sized (declRecords (D.def d)) (declsRecords l) (all-append Sized (headRecords (d .sort) d) (endRecords (d .sort)) (head-sized (d .sort) d) (end-sized (d .sort))) (decls-sized l)
+decls-sized (D.def d ∷ l) = all-append Sized (declRecords (D.def d)) (declsRecords l) (all-append Sized
+    (headRecords (d .sort) d) (endRecords (d .sort)) (head-sized (d .sort) d) (end-sized (d .sort))) (decls-sized l)
 decls-sized (D.endTopic n ∷ l) = (refl, decls-sized l)
 
 records-sized : (s : State) → All Sized (records s)
-records-sized s = all-append Sized (declsRecords (s .decls)) (openRecords (s .open-class)) (decls-sized (s .decls)) (go (s .open-class))
+records-sized s = all-append Sized (declsRecords (s .decls)) (openRecords (s .open-class))
+    (decls-sized (s .decls)) (go (s .open-class))
   where
     go : (o : Option Def) → All Sized (openRecords o)
     go none = tt
@@ -87,19 +96,22 @@ unfolding recordsFrom
 skip [] rest = refl
 skip (b ∷ l) rest = skip l rest
 
-one : (b : ℕ) (r rest : List ℕ) → sizeOf b ≡ suc (length r) → recordsFrom 0 (b ∷ (r ++ rest)) ≡ (b ∷ r) ∷ recordsFrom 0 rest
+one : (b : ℕ) (r rest : List ℕ) → sizeOf b ≡ suc (length r)
+    → recordsFrom 0 (b ∷ (r ++ rest)) ≡ (b ∷ r) ∷ recordsFrom 0 rest
 unfolding recordsFrom
 one b r rest e =
     let x = ne-eqb (suc (length r)) 0 (λ q. omega arith) in
     let l = length-append r rest in
-    let y : leb (suc (length r)) (length (b ∷ (r ++ rest))) ≡ true = le-leb (suc (length r)) (length (b ∷ (r ++ rest))) (omega arith) in
+    let y : leb (suc (length r)) (length (b ∷ (r ++ rest)))
+    ≡ true = le-leb (suc (length r)) (length (b ∷ (r ++ rest))) (omega arith) in
     let z : suc (length r) - 1 ≡ length r = omega arith in
     rw (e, x, y, z, skip r rest, take-append-seam r rest)
 
 all : (l : List Record) (rest : List ℕ) → All Sized l → recordsFrom 0 (bytes l ++ rest) ≡ l ++ recordsFrom 0 rest
 all [] rest h = refl
 all ([] ∷ l) rest h = absurd (h .0)
-all ((b ∷ r) ∷ l) rest h = rw append-assoc (one b r (bytes l ++ rest) (h .0) ∙ ap (λ (x : List Record). (b ∷ r) ∷ x) (all l rest (h .1)))
+all ((b ∷ r) ∷ l) rest h =
+    rw append-assoc (one b r (bytes l ++ rest) (h .0) ∙ ap (λ (x : List Record). (b ∷ r) ∷ x) (all l rest (h .1)))
 
 -- kind 0 ends the book
 ends : (n : ℕ) → recordsFrom 0 (replicate n 0) ≡ []
@@ -108,4 +120,6 @@ ends zero = refl
 ends (suc n) = refl
 
 pub records-again : (s : State) (m : ℕ) → recordsFrom 0 (padded (book s) m) ≡ records s
-records-again s m = all (records s) (replicate (m - length (book s)) 0) (records-sized s) ∙ rw (ends (m - length (book s))) (append-nil (records s))
+records-again s m =
+    all (records s) (replicate (m - length (book s)) 0) (records-sized s)
+    ∙ rw (ends (m - length (book s))) (append-nil (records s))

@@ -18,7 +18,10 @@ use Rattle.rules.specs.Types.{Ty, kindOf, fits}
 use Rattle.rules.specs.Declarations.{Use, inline, ofDomain, ofStructure, tyOf, Attribute, Def, isFound, State, known}
 use Rattle.rules.specs.Book.{book}
 use Rattle.rules.specs.Judge as J
-use Rattle.rules.specs.Judge.{Rule, Judged, ok, refused, firstBrokenOr, orNoAttribute, resolved, domainType, referenceIn, descends, elementRule, typeRules, extendsRules, classRules, domainTo16, domain17, domainRules, newAttribute, attributeTo16, attribute17, attribute18, attributeRules, inheritedAs, memberRules, openName, judge}
+use Rattle.rules.specs.Judge.{Rule, Judged, ok, refused, firstBrokenOr, orNoAttribute, resolved, domainType}
+use Rattle.rules.specs.Judge.{referenceIn, descends, elementRule, typeRules, extendsRules, classRules, domainTo16}
+use Rattle.rules.specs.Judge.{domain17, domainRules, newAttribute, attributeTo16, attribute17, attribute18}
+use Rattle.rules.specs.Judge.{attributeRules, inheritedAs, memberRules, openName, judge}
 use Rattle.rules.specs.Check.{Given, unitPlace, capacity, room, answerOf, check}
 use Rattle.rules.specs.All.{All, AnyIs, Unbroken}
 use Rattle.rules.proofs.AllLaws.{any-is, apart}
@@ -29,8 +32,10 @@ use Rattle.claims.specs.Ranking.{rank, RuleBroken}
 use Rattle.claims.specs.Demand3.{useOver, AcceptedReads, Extends, Misfit, RefusedHasValue, ValueRefuses, Demand3}
 use Rattle.claims.proofs.TypeLaws.{fits-reads, misfit}
 use Rattle.claims.proofs.StateLaws.{GoodUse, GoodDef, KnownDef, Sound, GoodAttribute}
-use Rattle.claims.proofs.RuleLaws.{not-refused, first-broken-came, first-broken-never, first-broken-hit, under, under-append, Refuses, first-broken-refuses}
-use Rattle.claims.proofs.JudgeLaws.{type-proper, domain-types, domain-kind, good-use, attribute-types, attribute-kind, based, inherited-use, open-good}
+use Rattle.claims.proofs.RuleLaws.{not-refused, first-broken-came, first-broken-never, first-broken-hit, under}
+use Rattle.claims.proofs.RuleLaws.{under-append, Refuses, first-broken-refuses}
+use Rattle.claims.proofs.JudgeLaws.{type-proper, domain-types, domain-kind, good-use, attribute-types}
+use Rattle.claims.proofs.JudgeLaws.{attribute-kind, based, inherited-use, open-good}
 use Rattle.claims.proofs.RunLaws.{Ended, Ending, run-ends, judged-run, reached-sound, ended-closed}
 use Rattle.claims.proofs.PromiseLaws.{accepted-book}
 use Rattle.claims.proofs.RankingLaws.{texts-ranked}
@@ -52,7 +57,8 @@ types-under b p (some G.numeric) = refl
 types-under b p (some (G.enum e)) = refl
 types-under b p (some (G.named r)) = refl
 
-kinds-under : (b : Bool) (p : ℕ) (x : Option WrittenType) (l : List Rule) → under 17 l ≡ true → under 17 (typeRules b p x ++ l) ≡ true
+kinds-under : (b : Bool) (p : ℕ) (x : Option WrittenType) (l : List Rule) → under 17 l ≡ true
+    → under 17 (typeRules b p x ++ l) ≡ true
 kinds-under b p x l h = under-append 17 (typeRules b p x) l (types-under b p x) h
 
 -- ---- what 17 says of a unit
@@ -65,7 +71,8 @@ record Step (s : State) (u : U.Unit) : Type 0 where
 
 -- of types that are t and b
 outside-misfit : {x y : Ty} (t b : Ty) → x ≡ t → y ≡ b → Outside x y → fits t b ≡ false
-outside-misfit {x} {y} t b d e (v, p, q) = subst (λ (z : Ty). fits t z ≡ false) e (subst (λ (z : Ty). fits z y ≡ false) d (is-false (λ f. not-both (fits-reads x y f v p) q)))
+outside-misfit {x} {y} t b d e (v, p, q) = subst (λ (z : Ty). fits t z ≡ false) e
+    (subst (λ (z : Ty). fits z y ≡ false) d (is-false (λ f. not-both (fits-reads x y f v p) q)))
 
 -- ---- domains
 module _ (s : State) (n : Name) (p : List (List ℕ)) (b : Option Reference) (w : Written) where
@@ -80,7 +87,8 @@ module _ (s : State) (n : Name) (p : List (List ℕ)) (b : Option Reference) (w 
       let r = first-broken-came (domainTo16 s n p b w o) _ _ 17 q (domain-under o) z in
       (r .kept, first-broken-hit (domain17 w o) [] _ 17 q refl (r .rest))
 
-  domain-refuses : (o : Option Def) (x : State) → domain17 w o .broken ≡ true → Refuses 17 (firstBrokenOr (domainRules s n p b w o) x)
+  domain-refuses : (o : Option Def) (x : State) → domain17 w o .broken ≡ true
+      → Refuses 17 (firstBrokenOr (domainRules s n p b w o) x)
   unfolding domainRules
   domain-refuses o x h = first-broken-refuses (domainTo16 s n p b w o) (domain17 w o) [] _ (domain-under o) h
 
@@ -90,7 +98,8 @@ module _ (s : State) (n : Name) (p : List (List ℕ)) (b : Option Reference) (w 
   domain-misfit (some d) x q e h z =
       let r = domain-came (some d) x q z in
       let k = eqb-true (kindOf (domainType (w .type) (d .type))) (kindOf (d .type)) (domain-kind s n p b w d (r .0)) in
-      let o = type-proper true (w .place) (w .type) (d .type) (h .good .proper-type) (domain-types s n p b w (some d) (r .0)) in
+      let o =
+      type-proper true (w .place) (w .type) (d .type) (h .good .proper-type) (domain-types s n p b w (some d) (r .0)) in
       record {
         type = domainType (w .type) (d .type);
         base = d .type;
@@ -99,8 +108,9 @@ module _ (s : State) (n : Name) (p : List (List ℕ)) (b : Option Reference) (w 
         outside = misfit (domainType (w .type) (d .type)) (d .type) o k (not-is (r .1));
       }
 
-  domain-value : (o : Option Def) (t : State) → resolved s b ≡ o → (x y : Ty) → Extends s (U.domain n p b w) x y → Outside x y →
-      Refuses 17 (firstBrokenOr (domainRules s n p b w o) t)
+  domain-value : (o : Option Def) (t : State) → resolved s b ≡ o → (x y : Ty)
+      → Extends s (U.domain n p b w) x y → Outside x y
+      → Refuses 17 (firstBrokenOr (domainRules s n p b w o) t)
   domain-value o t e x y (d, f, g, i) v =
       let k : o ≡ some d = sym e ∙ f in
       let j = outside-misfit (domainType (w .type) (d .type)) (d .type) g i v in
@@ -118,38 +128,46 @@ module _ (s : State) (c : Def) (n : Name) (p : List (List ℕ)) (w : Written) wh
   target = resolved s (referenceIn (w .type))
 
   abbrev fitOver : Option Attribute → Rule
-  fitOver o = attribute17 (w .place) (isFound o) (isGiven (referenceIn (w .type))) (useOver s w (orNoAttribute o)) (orNoAttribute o .use-of)
+  fitOver o = attribute17 (w .place) (isFound o) (isGiven (referenceIn (w .type)))
+      (useOver s w (orNoAttribute o)) (orNoAttribute o .use-of)
 
   abbrev descentOver : Option Attribute → Rule
-  descentOver o = attribute18 (w .place) (isFound o) (isGiven (referenceIn (w .type))) (useOver s w (orNoAttribute o)) (orNoAttribute o .use-of)
+  descentOver o = attribute18 (w .place) (isFound o) (isGiven (referenceIn (w .type)))
+      (useOver s w (orNoAttribute o)) (orNoAttribute o .use-of)
 
   attribute-under : (o : Option Attribute) → under 17 (attributeTo16 s c n p w o target) ≡ true
   unfolding rank attributeTo16
   attribute-under o = both (element-under (w .type)) (kinds-under (isFound o) (w .place) (w .type) _ refl)
 
-  attribute-came : (o : Option Attribute) (x : State) (q : ℕ) → firstBrokenOr (attributeRules s c n p w o target) x ≡ refused 17 q →
-      All Unbroken (attributeTo16 s c n p w o target) × (fitOver o .broken ≡ true)
+  attribute-came : (o : Option Attribute) (x : State) (q : ℕ)
+      → firstBrokenOr (attributeRules s c n p w o target) x ≡ refused 17 q
+      → All Unbroken (attributeTo16 s c n p w o target) × (fitOver o .broken ≡ true)
   unfolding attributeRules newAttribute
   attribute-came o x q z =
       let r = first-broken-came (attributeTo16 s c n p w o target) _ _ 17 q (attribute-under o) z in
       (r .kept, first-broken-hit (fitOver o) (descentOver o ∷ []) _ 17 q refl (r .rest))
 
-  attribute-refuses : (o : Option Attribute) (x : State) → fitOver o .broken ≡ true → Refuses 17 (firstBrokenOr (attributeRules s c n p w o target) x)
+  attribute-refuses : (o : Option Attribute) (x : State) → fitOver o .broken ≡ true
+      → Refuses 17 (firstBrokenOr (attributeRules s c n p w o target) x)
   unfolding attributeRules newAttribute
-  attribute-refuses o x h = first-broken-refuses (attributeTo16 s c n p w o target) (fitOver o) (descentOver o ∷ []) _ (attribute-under o) h
+  attribute-refuses o x h =
+      first-broken-refuses (attributeTo16 s c n p w o target) (fitOver o) (descentOver o ∷ []) _ (attribute-under o) h
 
-  attribute-misfit : (o : Option Attribute) (t : State) (q : ℕ) → (sound : Sound s) → s .open-class ≡ some c → inheritedAs c n ≡ o →
-      firstBrokenOr (attributeRules s c n p w o target) t ≡ refused 17 q → Step s (U.attribute n p w)
+  attribute-misfit : (o : Option Attribute) (t : State) (q : ℕ) → (sound : Sound s)
+      → s .open-class ≡ some c → inheritedAs c n ≡ o
+      → firstBrokenOr (attributeRules s c n p w o target) t ≡ refused 17 q → Step s (U.attribute n p w)
   attribute-misfit none t q sound e f z = never (attribute-came none t q z .1)
   attribute-misfit (some a) t q sound e f z =
       let r = attribute-came (some a) t q z in
       let K = known (s .decls) in
       let h : GoodDef K c = open-good s sound c e .good in
       let u = useOver s w a in
-      let x : (not (isGiven (referenceIn (w .type)) && descends u (a .use-of)) ≡ true) × (not (fits (tyOf u) (tyOf (a .use-of))) ≡ true) = split (r .1) in
+      let x : (not (isGiven (referenceIn (w .type)) && descends u (a .use-of)) ≡ true)
+      × (not (fits (tyOf u) (tyOf (a .use-of))) ≡ true) = split (r .1) in
       let k = eqb-true (kindOf (tyOf u)) (kindOf (tyOf (a .use-of))) (attribute-kind s c n p w target a (r .0)) in
       let i : GoodUse K (a .use-of) = any-is (GoodAttribute K) _ a (inherited-use K c h (n .bytes)) f in
-      let m = good-use K true (w .place) (w .type) target (a .use-of) (based s sound (referenceIn (w .type))) i (attribute-types s c n p w target (some a) (r .0)) in
+      let m = good-use K true (w .place) (w .type) target (a .use-of) (based s sound (referenceIn (w .type))) i
+      (attribute-types s c n p w target (some a) (r .0)) in
       record {
         type = tyOf u;
         base = tyOf (a .use-of);
@@ -158,18 +176,22 @@ module _ (s : State) (c : Def) (n : Name) (p : List (List ℕ)) (w : Written) wh
         outside = misfit (tyOf u) (tyOf (a .use-of)) (use-proper K u m) k (not-is (x .1));
       }
 
-  attribute-value : (o : Option Attribute) (t : State) → (sound : Sound s) → s .open-class ≡ some c → inheritedAs c n ≡ o → (x y : Ty) →
-      Extends s (U.attribute n p w) x y → Outside x y → Refuses 17 (firstBrokenOr (attributeRules s c n p w o target) t)
+  attribute-value : (o : Option Attribute) (t : State) → (sound : Sound s) → s .open-class ≡ some c
+      → inheritedAs c n ≡ o → (x y : Ty)
+      → Extends s (U.attribute n p w) x y → Outside x y
+      → Refuses 17 (firstBrokenOr (attributeRules s c n p w o target) t)
   attribute-value o t sound e f x y (d, a, i, r, m, j, k) v =
       let q : some c ≡ some d = sym e ∙ i in
       let z : d ≡ c = cc in
-      let u : o ≡ some a = sym f ∙ inherits-found s sound (n .bytes) a (open-good s sound c e .good) (subst (Inherits s (n .bytes) a) z r) in
+      let u : o ≡ some a =
+      sym f ∙ inherits-found s sound (n .bytes) a (open-good s sound c e .good) (subst (Inherits s (n .bytes) a) z r) in
       let b = outside-misfit (tyOf (useOver s w a)) (tyOf (a .use-of)) j k v in
       attribute-refuses o t (subst (λ (o : Option Attribute). fitOver o .broken ≡ true) (sym u) (rw (m, b)))
 
 -- ---- every unit
-member-misfit : (s : State) (n : Name) (p : List (List ℕ)) (w : Written) (t : State) (q : ℕ) → Sound s → (o : Option Def) → s .open-class ≡ o →
-    firstBrokenOr (memberRules s n p w o) t ≡ refused 17 q → Step s (U.attribute n p w)
+member-misfit : (s : State) (n : Name) (p : List (List ℕ)) (w : Written) (t : State) (q : ℕ) → Sound s
+    → (o : Option Def) → s .open-class ≡ o
+    → firstBrokenOr (memberRules s n p w o) t ≡ refused 17 q → Step s (U.attribute n p w)
 member-misfit s n p w t q h none e z = not-refused z
 member-misfit s n p w t q h (some c) e z = attribute-misfit s c n p w (inheritedAs c n) t q h e refl z
 
@@ -181,10 +203,12 @@ judge-misfit s (U.topic n) q h z = absurd (first-broken-never (J.topicRules s n)
 judge-misfit s (U.class c n p r) q h z = absurd (first-broken-never (classRules s c n p r (resolved s r)) _ 17 q refl z)
 judge-misfit s (U.domain n p r w) q h z = domain-misfit s n p r w (resolved s r) _ q refl (based s h r) z
 judge-misfit s (U.attribute n p w) q h z = member-misfit s n p w _ q h (s .open-class) refl z
-judge-misfit s (U.close n) q h z = absurd (first-broken-never (J.endRules n (openName s (s .open-class) (s .topic))) _ 17 q refl z)
+judge-misfit s (U.close n) q h z =
+    absurd (first-broken-never (J.endRules n (openName s (s .open-class) (s .topic))) _ 17 q refl z)
 
-member-value : (s : State) (n : Name) (p : List (List ℕ)) (w : Written) (t : State) → Sound s → (o : Option Def) → s .open-class ≡ o → (x y : Ty) →
-    Extends s (U.attribute n p w) x y → Outside x y → Refuses 17 (firstBrokenOr (memberRules s n p w o) t)
+member-value : (s : State) (n : Name) (p : List (List ℕ)) (w : Written) (t : State) → Sound s → (o : Option Def)
+    → s .open-class ≡ o → (x y : Ty)
+    → Extends s (U.attribute n p w) x y → Outside x y → Refuses 17 (firstBrokenOr (memberRules s n p w o) t)
 member-value s n p w t h none e x y f v = apart (sym (f .2) ∙ e)
 member-value s n p w t h (some c) e x y i v = attribute-value s c n p w (inheritedAs c n) t h e refl x y i v
 
@@ -213,7 +237,14 @@ accepted-reads t g n k a =
     let s = b .state in
     let h : Ended t g s = subst (Ending t g) (b .runs) (run-ends t g) in
     let r = reached-sound t g (h .reaches) in
-    record { state = s; runs = b .runs; closed = ended-closed t g s h; reads = every-reading s r; bases = booked-bases s r; numbers = record-numbers t g s h }
+    record {
+      state = s;
+      runs = b .runs;
+      closed = ended-closed t g s h;
+      reads = every-reading s r;
+      bases = booked-bases s r;
+      numbers = record-numbers t g s h;
+    }
 
 broken-misfit : (t : List ℕ) (g : Given) (s : State) (p : ℕ) → RuleBroken t g s 17 p → Misfit t g p
 broken-misfit t g s p b =
@@ -242,4 +273,8 @@ value-refuses t g s u j x b e o =
     record { number = n; place = p; answers = ap answerOf r; refuses = z; by = l }
 
 pub demand3 : Demand3
-demand3 = record { accepted-reads = accepted-reads; refused-has-value = refused-has-value; value-refuses = value-refuses }
+demand3 = record {
+  accepted-reads = accepted-reads;
+  refused-has-value = refused-has-value;
+  value-refuses = value-refuses;
+}

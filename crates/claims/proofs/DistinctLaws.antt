@@ -11,8 +11,12 @@ use Rattle.rules.specs.Types.{Ty, text, range, numeric, structure, enum, fits}
 use Rattle.rules.specs.Grammar as G
 use Rattle.rules.specs.Grammar.{Reference, WrittenType, Written}
 use Rattle.rules.specs.Units as U
-use Rattle.rules.specs.Declarations.{Use, ofDomain, ofStructure, tyOf, Attribute, Sort, domain, isSort, Def, linkOf, attributesOf, def, State, known}
-use Rattle.rules.specs.Judge.{elementRule, mergedInto, domainType, attributeUse, orNoDef, orNoAttribute, resolved, referenceIn, declare, opened, newTopic, newClass, newDomain, newAttribute, withAttribute, domainTo16, domainRules, attributeTo16, attributeRules, inheritedAs, memberRules, afterMember, afterClose, rulesOf, nextState}
+use Rattle.rules.specs.Declarations.{Use, ofDomain, ofStructure, tyOf, Attribute, Sort, domain, isSort, Def, linkOf}
+use Rattle.rules.specs.Declarations.{attributesOf, def, State, known}
+use Rattle.rules.specs.Judge.{elementRule, mergedInto, domainType, attributeUse, orNoDef, orNoAttribute, resolved}
+use Rattle.rules.specs.Judge.{referenceIn, declare, opened, newTopic, newClass, newDomain, newAttribute, withAttribute}
+use Rattle.rules.specs.Judge.{domainTo16, domainRules, attributeTo16, attributeRules, inheritedAs, memberRules}
+use Rattle.rules.specs.Judge.{afterMember, afterClose, rulesOf, nextState}
 use Rattle.rules.specs.Merged.{distinct, addsNothing}
 use Rattle.rules.specs.All.{All, AnyIs, In, Unbroken}
 use Rattle.rules.proofs.AllLaws.{all-append, all-left, all-right, any-is, any-attribute, any-resolved}
@@ -30,7 +34,8 @@ merged-distinct numeric e d p = d
 merged-distinct (enum b) e d p = all-merged b e .still-distinct p d
 merged-distinct structure e d p = d
 
-meant-distinct : (w : Option WrittenType) (b : Ty) → elementRule w .broken ≡ false → distinctIn b ≡ true → distinctIn (domainType w b) ≡ true
+meant-distinct : (w : Option WrittenType) (b : Ty) → elementRule w .broken ≡ false → distinctIn b ≡ true
+    → distinctIn (domainType w b) ≡ true
 meant-distinct none b p q = q
 meant-distinct (some (G.text m n)) b p q = refl
 meant-distinct (some (G.range x y)) b p q = refl
@@ -59,7 +64,8 @@ plain-or (some a) h = h
 resolved-tidy : (s : State) → Neat s → (b : Option Reference) → AnyIs Tidy (resolved s b)
 resolved-tidy s h = any-resolved Tidy s (h .0)
 
-use-distinct : (w : Option WrittenType) (g : Option Def) (b : Use) → AnyIs Tidy g → elementRule w .broken ≡ false → distinctIn (tyOf b) ≡ true → distinctIn (tyOf (attributeUse w g b)) ≡ true
+use-distinct : (w : Option WrittenType) (g : Option Def) (b : Use) → AnyIs Tidy g → elementRule w .broken ≡ false
+    → distinctIn (tyOf b) ≡ true → distinctIn (tyOf (attributeUse w g b)) ≡ true
 use-distinct none g b h p q = q
 use-distinct (some (G.text m n)) g b h p q = refl
 use-distinct (some (G.range x y)) g b h p q = refl
@@ -67,7 +73,8 @@ use-distinct (some G.numeric) g b h p q = refl
 use-distinct (some (G.enum e)) g b h p q = meant-distinct (some (G.enum e)) (tyOf b) p q
 use-distinct (some (G.named r)) g b h p q = let d = orNoDef g in go d (tidy-or g h) (isSort domain (d .sort))
   where
-    go : (d : Def) → Tidy d → (t : Bool) → distinctIn (tyOf (cond t (ofDomain (linkOf d) (d .bases)) (ofStructure (linkOf d) (d .bases)))) ≡ true
+    go : (d : Def) → Tidy d → (t : Bool)
+        → distinctIn (tyOf (cond t (ofDomain (linkOf d) (d .bases)) (ofStructure (linkOf d) (d .bases)))) ≡ true
     go d k true = k .0
     go d k false = refl
 
@@ -81,30 +88,41 @@ module _ (s : State) (h : Neat s) where
   unfolding newTopic
   topic-neat n = declare-neat s (newTopic s n) h (refl, tt)
 
-  class-neat : (c : Sort) (n : Name) (p : List (List ℕ)) (o : Option Def) → AnyIs Tidy o → Neat (opened s (newClass s c n p o))
+  class-neat : (c : Sort) (n : Name) (p : List (List ℕ)) (o : Option Def) → AnyIs Tidy o
+      → Neat (opened s (newClass s c n p o))
   unfolding newClass
   class-neat c n p o k = (h .0, (refl, tidy-or o k .1))
 
   domain-neat : (n : Name) (p : List (List ℕ)) (b : Option Reference) (w : Written) (o : Option Def) → AnyIs Tidy o →
       All Unbroken (domainRules s n p b w o) → Neat (declare s (def (newDomain s n p w o)))
   unfolding newDomain domainRules domainTo16
-  domain-neat n p b w o k q = (declare-neat s (newDomain s n p w o) h (meant-distinct (w .type) (orNoDef o .type) (q .1 .0) (tidy-or o k .0), tt), tt)
+  domain-neat n p b w o k q = (
+    declare-neat s (newDomain s n p w o) h
+        (meant-distinct (w .type) (orNoDef o .type) (q .1 .0) (tidy-or o k .0), tt),
+    tt,
+  )
 
-  attribute-neat : (c : Def) (n : Name) (p : List (List ℕ)) (w : Written) (o : Option Attribute) (g : Option Def) → Tidy c → AnyIs Plain o →
-      AnyIs Tidy g → All Unbroken (attributeRules s c n p w o g) → Neat (opened s (withAttribute c (newAttribute s n p w o g)))
+  attribute-neat : (c : Def) (n : Name) (p : List (List ℕ)) (w : Written) (o : Option Attribute) (g : Option Def)
+      → Tidy c → AnyIs Plain o
+      → AnyIs Tidy g → All Unbroken (attributeRules s c n p w o g)
+      → Neat (opened s (withAttribute c (newAttribute s n p w o g)))
   unfolding newAttribute withAttribute attributeRules attributeTo16
   attribute-neat c n p w o g k z t q =
       let a = newAttribute s n p w o g in
       let u : Plain a = use-distinct (w .type) g (orNoAttribute o .use-of) t (q .1 .1 .0) (plain-or o z) in
-      let l = all-append Plain (c .own) (a ∷ []) (all-left Plain (c .own) (c .inherited) (k .1)) (u, tt) in
-      (h .0, (k .0, all-append Plain (c .own ++ (a ∷ [])) (c .inherited) l (all-right Plain (c .own) (c .inherited) (k .1))))
+      let l = all-append Plain (c .own) (a ∷ []) (all-left Plain (c .own) (c .inherited) (k .1)) (u, tt) in (
+        h .0,
+        (k .0, all-append Plain (c .own ++ (a ∷ [])) (c .inherited) l (all-right Plain (c .own) (c .inherited) (k .1))),
+      )
 
-  member-neat : (n : Name) (p : List (List ℕ)) (w : Written) (o : Option Def) → AnyIs Tidy o → All Unbroken (memberRules s n p w o) →
-      Neat (afterMember s n p w o)
+  member-neat : (n : Name) (p : List (List ℕ)) (w : Written) (o : Option Def) → AnyIs Tidy o
+      → All Unbroken (memberRules s n p w o)
+      → Neat (afterMember s n p w o)
   member-neat n p w none k q = h
   member-neat n p w (some c) k q =
       let b = any-attribute Plain (n .bytes) (c .inherited) (all-right Plain (c .own) (c .inherited) (k .1)) in
-      attribute-neat c n p w (inheritedAs c n) (resolved s (referenceIn (w .type))) k b (resolved-tidy s h (referenceIn (w .type))) q
+      attribute-neat c n p w (inheritedAs c n) (resolved s (referenceIn (w .type))) k b
+      (resolved-tidy s h (referenceIn (w .type))) q
 
   close-neat : (o t : Option Def) → AnyIs Tidy o → Neat (afterClose s o t)
   close-neat (some c) t k = (declare-neat s c h k, tt)
@@ -129,7 +147,8 @@ distinct-type t h = record {
   elements = h;
   added = λ b e p q.
       let d : distinct b ≡ true = subst (λ (x : Ty). distinctIn x ≡ true) p h in
-      subst (λ (x : Ty). fits (mergedInto x e) x ≡ addsNothing e b) (sym p) (all-merged b e .fits-base d (distinct-found e .0 q));
+      subst (λ (x : Ty). fits (mergedInto x e) x ≡ addsNothing e b) (sym p)
+      (all-merged b e .fits-base d (distinct-found e .0 q));
 }
 
 distinct-uses : (d : Def) → Tidy d → (a : Attribute) → In a (attributesOf d) → Distinct (tyOf (a .use-of))

@@ -7,12 +7,14 @@ use mathlib.Core.List.{List}
 use Prim.Native.Nat.{ℕ}
 use Rattle.rules.specs.Bytes.{same}
 use Rattle.rules.specs.Names.{Name}
-use Rattle.rules.specs.Enumerations.{Enum, end, elem, isLeaf, final, at, Path, here, others, into, through, legalIn, legalPath, beyond, under, readPath, orElse, fitsIn, enumFits}
+use Rattle.rules.specs.Enumerations.{Enum, end, elem, isLeaf, final, at, Path, here, others, into, through, legalIn}
+use Rattle.rules.specs.Enumerations.{legalPath, beyond, under, readPath, orElse, fitsIn, enumFits}
 use Rattle.rules.proofs.Tests.{never, both, split, either-fails, or-l, or-r, or-split, not-is, not-fails}
 use Rattle.rules.proofs.ByteLaws.{same-eq, same-refl}
 use Rattle.rules.proofs.MergeLaws.{at-cases, fits-parts}
 
-read-some : (b : Enum) (n : List ℕ) (p : Path) {i : Enum} → at n b ≡ some i → readPath b (into n p) ≡ under n (readPath i p)
+read-some : (b : Enum) (n : List ℕ) (p : Path) {i : Enum} → at n b ≡ some i
+    → readPath b (into n p) ≡ under n (readPath i p)
 read-some b n p e = rw (e, readPath)
 
 read-none : (b : Enum) (n : List ℕ) (p : Path) → at n b ≡ none → readPath b (into n p) ≡ beyond b
@@ -23,7 +25,8 @@ others-legal : (b : Enum) → final b ≡ false → legalIn b others ≡ true
 others-legal (end f) p = rw p
 others-legal (elem n i r) p = others-legal r p
 
-into-legalIn : (b : Enum) (n : List ℕ) (u : Path) (j : Enum) → at n b ≡ some j → legalPath j u ≡ true → legalIn b (into n u) ≡ true
+into-legalIn : (b : Enum) (n : List ℕ) (u : Path) (j : Enum) → at n b ≡ some j
+    → legalPath j u ≡ true → legalIn b (into n u) ≡ true
 into-legalIn (end f) n u j p q = cc
 into-legalIn (elem m i r) n u j p q =
     at-cases n m i r (λ o. o ≡ some j → legalIn (elem m i r) (into n u) ≡ true)
@@ -31,7 +34,8 @@ into-legalIn (elem m i r) n u j p q =
     (λ e p. or-r (same n (m .bytes) && legalPath i u) (into-legalIn r n u j p q))
     p
 
-into-legal : (b : Enum) (n : List ℕ) (u : Path) (j : Enum) → at n b ≡ some j → legalPath j u ≡ true → legalPath b (into n u) ≡ true
+into-legal : (b : Enum) (n : List ℕ) (u : Path) (j : Enum) → at n b ≡ some j → legalPath j u ≡ true
+    → legalPath b (into n u) ≡ true
 into-legal (end f) n u j p q = cc
 into-legal (elem m i r) n u j p q = into-legalIn (elem m i r) n u j p q
 
@@ -62,7 +66,8 @@ outer-sound (end f) s b h (into n p) q = never q
 outer-sound (elem n i r) s b h p q = s b h p q
 
 elem-sound : (n m : List ℕ) (i b : Enum) (p : Path) → Sound enumFits legalPath i →
-    (o : Option Enum) → at n b ≡ o → orElse o (not (final b)) (enumFits i) ≡ true → same m n ≡ true → legalPath i p ≡ true → Read b (into m p)
+    (o : Option Enum) → at n b ≡ o → orElse o (not (final b)) (enumFits i) ≡ true → same m n ≡ true
+    → legalPath i p ≡ true → Read b (into m p)
 elem-sound n m i b p s none e f h q = read-beyond b (into m p) (read-none b m p (rw (same-eq m n h) e)) (not-is f)
 elem-sound n m i b p s (some j) e f h q = read-into b m p j (rw (same-eq m n h) e) (s j f p q)
 
@@ -77,7 +82,8 @@ fitsIn-sound (elem n i r) b h (into m p) q =
     let (h₁, h₂) = fits-parts n i r b h in
     let k : (same m (n .bytes) && legalPath i p ≡ true) ⊎ (legalIn r (into m p) ≡ true) = or-split q in
     ⊎-elim
-    (λ g. let (g₁, g₂) : (same m (n .bytes) ≡ true) × (legalPath i p ≡ true) = split g in elem-sound (n .bytes) m i b p (outer-sound i (fitsIn-sound i)) (at (n .bytes) b) refl h₁ g₁ g₂)
+    (λ g. let (g₁, g₂) : (same m (n .bytes) ≡ true) × (legalPath i p ≡ true) = split g in
+    elem-sound (n .bytes) m i b p (outer-sound i (fitsIn-sound i)) (at (n .bytes) b) refl h₁ g₁ g₂)
     (λ g. fitsIn-sound r b h₂ (into m p) g)
     k
 
@@ -98,7 +104,8 @@ outer-unread (end f) (elem n i r) s h = (here, refl, refl)
 outer-unread (elem n i r) b s h = s h
 
 elem-unread : (n : Name) (i r b : Enum) → ((j : Enum) → enumFits i j ≡ false → Unread legalPath i j) →
-    (o : Option Enum) → at (n .bytes) b ≡ o → orElse o (not (final b)) (enumFits i) ≡ false → Unread legalIn (elem n i r) b
+    (o : Option Enum) → at (n .bytes) b ≡ o → orElse o (not (final b)) (enumFits i) ≡ false
+    → Unread legalIn (elem n i r) b
 elem-unread n i r b s none e f =
     let (p, h) = a-path i in
     let z : final b ≡ true = not-fails f in
@@ -115,7 +122,8 @@ fitsIn-unread (end true) b h = absurd (true≢false h)
 fitsIn-unread (end false) b h = let z : final b ≡ true = not-fails h in (others, refl, rw z)
 fitsIn-unread (elem n i r) b h =
     let k : (orElse (at (n .bytes) b) (not (final b)) (enumFits i) ≡ false) ⊎ (fitsIn r b ≡ false) = either-fails h in
-    ⊎-elim (λ g. elem-unread n i r b (λ j. outer-unread i j (fitsIn-unread i j)) (at (n .bytes) b) refl g) (λ g. later-unread n i r b (fitsIn-unread r b g)) k
+    ⊎-elim (λ g. elem-unread n i r b (λ j. outer-unread i j (fitsIn-unread i j)) (at (n .bytes) b) refl g)
+    (λ g. later-unread n i r b (fitsIn-unread r b g)) k
 
 pub fits-complete : (e b : Enum) → enumFits e b ≡ false → Unread legalPath e b
 fits-complete e b = outer-unread e b (fitsIn-unread e b)

@@ -17,17 +17,24 @@ use Rattle.rules.specs.Units.{isGiven}
 use Rattle.rules.specs.Types as Y
 use Rattle.rules.specs.Types.{Ty, kindOf, fits}
 use Rattle.rules.specs.Declarations as D
-use Rattle.rules.specs.Declarations.{Link, Use, inline, ofDomain, ofStructure, tyOf, Attribute, Sort, domain, isSort, Def, linkOf, attributesOf, attributeAt, isFound, def, State, known}
+use Rattle.rules.specs.Declarations.{Link, Use, inline, ofDomain, ofStructure, tyOf, Attribute, Sort, domain, isSort}
+use Rattle.rules.specs.Declarations.{Def, linkOf, attributesOf, attributeAt, isFound, def, State, known}
 use Rattle.rules.specs.Book.{declsRecords, headRecords, endRecords, records}
 use Rattle.rules.specs.Judge as J
-use Rattle.rules.specs.Judge.{orNoDef, resolved, meant, mergedInto, domainType, attributeUse, referenceIn, typeRules, declare, opened, inTopic, extendsRules, newTopic, newClass, newDomain, domainTo16, domainRules, baseOfAttribute, newAttribute, withAttribute, attributeTo16, attribute17To18, attributeRules, inheritedAs, memberRules, afterMember, afterClose, rulesOf, nextState, descends}
+use Rattle.rules.specs.Judge.{orNoDef, resolved, meant, mergedInto, domainType, attributeUse, referenceIn, typeRules}
+use Rattle.rules.specs.Judge.{declare, opened, inTopic, extendsRules, newTopic, newClass, newDomain, domainTo16}
+use Rattle.rules.specs.Judge.{domainRules, baseOfAttribute, newAttribute, withAttribute, attributeTo16, attribute17To18}
+use Rattle.rules.specs.Judge.{attributeRules, inheritedAs, memberRules, afterMember, afterClose, rulesOf, nextState}
+use Rattle.rules.specs.Judge.{descends}
 use Rattle.rules.specs.All.{All, AnyIs, Unbroken}
 use Rattle.rules.proofs.AllLaws.{all-map, all-append, all-left, all-right, any-is, any-attribute, any-resolved}
-use Rattle.rules.proofs.GrowLaws.{known-append, decls-count, attributes-count, closed-records, open-records, head-some, with-sort}
+use Rattle.rules.proofs.GrowLaws.{known-append, decls-count, attributes-count, closed-records, open-records, head-some}
+use Rattle.rules.proofs.GrowLaws.{with-sort}
 use Rattle.rules.proofs.NumberLaws.{in-order}
 use Rattle.rules.proofs.Tests.{never, not-both, or-l, or-fails, not-fails}
 use Rattle.claims.specs.Readings.{proper}
-use Rattle.claims.proofs.StateLaws.{GoodUse, Over, GoodOwn, GoodDef, KnownDef, GoodOpen, Sound, becomes-known, grow, good-naming, GoodAttribute, OverBase}
+use Rattle.claims.proofs.StateLaws.{GoodUse, Over, GoodOwn, GoodDef, KnownDef, GoodOpen, Sound, becomes-known}
+use Rattle.claims.proofs.StateLaws.{grow, good-naming, GoodAttribute, OverBase}
 use Rattle.claims.proofs.UnitLaws.{Moves, isClass}
 
 -- ---- what a declaration adds
@@ -42,11 +49,13 @@ module _ (s : State) (h : Sound s) where
   K = known (s .decls)
 
   -- a topic, domain or, at its END, a class becomes known
-  declare-sound : (e : Def) → GoodDef K e → All (Below (e .number)) K → length (records s) ≤ length (declsRecords (s .decls ++ (def e ∷ []))) →
-      e .number < length (declsRecords (s .decls ++ (def e ∷ []))) → Sound (declare s (def e))
+  declare-sound : (e : Def) → GoodDef K e → All (Below (e .number)) K
+      → length (records s) ≤ length (declsRecords (s .decls ++ (def e ∷ [])))
+      → e .number < length (declsRecords (s .decls ++ (def e ∷ []))) → Sound (declare s (def e))
   declare-sound e g b l k =
       let r = length-append (declsRecords (s .decls ++ (def e ∷ []))) [] in
-      rw known-append (grow K (e ∷ []) (length (records s)) _ none (h .defs) (h .before) (omega arith) (becomes-known K e b g, tt) (omega arith, tt) tt)
+      rw known-append (grow K (e ∷ []) (length (records s)) _ none (h .defs) (h .before) (omega arith)
+      (becomes-known K e b g, tt) (omega arith, tt) tt)
 
   new-sound : isOpen s ≡ false → (e : Def) → e .number ≡ length (records s) → GoodDef K e → Sound (declare s (def e))
   new-sound o e n g =
@@ -65,7 +74,8 @@ module _ (s : State) (h : Sound s) where
 
   -- a class is being read
   opened-sound : (c : Def) → GoodDef K c → isSort domain (c .sort) ≡ false → All (Below (c .number)) K →
-      length (records s) ≤ length (records (opened s c)) → c .number < length (records (opened s c)) → Sound (opened s c)
+      length (records s) ≤ length (records (opened s c))
+      → c .number < length (records (opened s c)) → Sound (opened s c)
   opened-sound c g z b l k = record {
     defs = h .defs;
     before = all-map (λ x q. omega arith) K (h .before);
@@ -80,25 +90,29 @@ merged-proper Y.numeric e = refl
 merged-proper (Y.enum f) e = refl
 merged-proper Y.structure e = refl
 
-meant-proper : (based : Bool) (p : ℕ) (x : WrittenType) (b : Ty) → All Unbroken (typeRules based p (some x)) → proper (meant x b) ≡ true
+meant-proper : (based : Bool) (p : ℕ) (x : WrittenType) (b : Ty)
+    → All Unbroken (typeRules based p (some x)) → proper (meant x b) ≡ true
 meant-proper based p (G.text m n) b h = refl
 meant-proper based p (G.range x y) b h = in-order (x .bytes) (y .bytes) (h .0)
 meant-proper based p G.numeric b h = refl
 meant-proper based p (G.enum e) b h = merged-proper b e
 meant-proper based p (G.named r) b h = refl
 
-pub type-proper : (based : Bool) (p : ℕ) (x : Option WrittenType) (b : Ty) → proper b ≡ true → All Unbroken (typeRules based p x) →
-    proper (domainType x b) ≡ true
+pub type-proper : (based : Bool) (p : ℕ) (x : Option WrittenType) (b : Ty) → proper b ≡ true
+    → All Unbroken (typeRules based p x)
+    → proper (domainType x b) ≡ true
 type-proper based p none b q h = q
 type-proper based p (some x) b q h = meant-proper based p x b h
 
 -- ---- domains
 module _ (s : State) (n : Name) (p : List (List ℕ)) (b : Option Reference) (w : Written) where
-  pub domain-types : (o : Option Def) → All Unbroken (domainTo16 s n p b w o) → All Unbroken (typeRules (isFound o) (w .place) (w .type))
+  pub domain-types : (o : Option Def) → All Unbroken (domainTo16 s n p b w o)
+      → All Unbroken (typeRules (isFound o) (w .place) (w .type))
   unfolding domainTo16 extendsRules
   domain-types o h = all-left Unbroken (typeRules (isFound o) (w .place) (w .type)) _ (h .1 .1 .1 .1 .1 .1)
 
-  pub domain-kind : (d : Def) → All Unbroken (domainTo16 s n p b w (some d)) → eqb (kindOf (domainType (w .type) (d .type))) (kindOf (d .type)) ≡ true
+  pub domain-kind : (d : Def) → All Unbroken (domainTo16 s n p b w (some d))
+      → eqb (kindOf (domainType (w .type) (d .type))) (kindOf (d .type)) ≡ true
   unfolding domainTo16 extendsRules newDomain
   domain-kind d h = not-fails ((all-right Unbroken (typeRules true (w .place) (w .type)) _ (h .1 .1 .1 .1 .1 .1)) .0)
 
@@ -106,7 +120,8 @@ module _ (s : State) (n : Name) (p : List (List ℕ)) (b : Option Reference) (w 
   unfolding domainTo16 extendsRules
   domain-sort d h = not-fails (h .1 .1 .1 .0)
 
-  domain-fits : (d : Def) → All Unbroken (domainRules s n p b w (some d)) → fits (domainType (w .type) (d .type)) (d .type) ≡ true
+  domain-fits : (d : Def) → All Unbroken (domainRules s n p b w (some d))
+      → fits (domainType (w .type) (d .type)) (d .type) ≡ true
   unfolding domainRules
   domain-fits d h = not-fails ((all-right Unbroken (domainTo16 s n p b w (some d)) _ h) .0)
 
@@ -126,10 +141,12 @@ module _ (s : State) (n : Name) (p : List (List ℕ)) (b : Option Reference) (w 
     uses = tt;
   }
   new-domain (some d) k q = record {
-    proper-type = type-proper true (w .place) (w .type) (d .type) (k .good .proper-type) (domain-types (some d) (domain-early (some d) q));
+    proper-type = type-proper true (w .place) (w .type) (d .type) (k .good .proper-type)
+        (domain-types (some d) (domain-early (some d) q));
     chained = (domain-fits d q, (d, k .again, refl, refl), k .good .chained);
     bare = λ z. refl;
-    inherits = sym (ap (λ (o : Option Def). attributesOf (orNoDef o)) (k .again) ∙ k .good .bare (domain-sort d (domain-early (some d) q)));
+    inherits = sym (ap (λ (o : Option Def). attributesOf (orNoDef o)) (k .again)
+        ∙ k .good .bare (domain-sort d (domain-early (some d) q)));
     own = tt;
     uses = tt;
   }
@@ -138,15 +155,24 @@ module _ (s : State) (n : Name) (p : List (List ℕ)) (b : Option Reference) (w 
   unfolding newDomain
   domain-number o = refl
 
-  sound-domain : (o : Option Def) → Sound s → isOpen s ≡ false → AnyIs (KnownDef (known (s .decls))) o → All Unbroken (domainRules s n p b w o) →
-      Sound (declare s (def (newDomain s n p w o)))
+  sound-domain : (o : Option Def) → Sound s → isOpen s ≡ false → AnyIs (KnownDef (known (s .decls))) o
+      → All Unbroken (domainRules s n p b w o)
+      → Sound (declare s (def (newDomain s n p w o)))
   sound-domain o h c k q = new-sound s h c (newDomain s n p w o) (domain-number o) (new-domain o k q)
 
 -- ---- classes and structures
 module _ (s : State) (x : Sort) (n : Name) (p : List (List ℕ)) where
-  new-class : isSort domain x ≡ false → (o : Option Def) → AnyIs (KnownDef (known (s .decls))) o → GoodDef (known (s .decls)) (newClass s x n p o)
+  new-class : isSort domain x ≡ false → (o : Option Def) → AnyIs (KnownDef (known (s .decls))) o
+      → GoodDef (known (s .decls)) (newClass s x n p o)
   unfolding newClass
-  new-class z none k = record { proper-type = refl; chained = tt; bare = λ y. not-both y z; inherits = refl; own = tt; uses = tt }
+  new-class z none k = record {
+    proper-type = refl;
+    chained = tt;
+    bare = λ y. not-both y z;
+    inherits = refl;
+    own = tt;
+    uses = tt;
+  }
   new-class z (some d) k = record {
     proper-type = refl;
     chained = (refl, (d, k .again, refl, refl), k .good .chained);
@@ -164,19 +190,22 @@ module _ (s : State) (x : Sort) (n : Name) (p : List (List ℕ)) where
   unfolding newClass
   class-number o = refl
 
-  sound-class : isSort domain x ≡ false → (o : Option Def) → Sound s → isOpen s ≡ false → AnyIs (KnownDef (known (s .decls))) o →
-      Sound (opened s (newClass s x n p o))
+  sound-class : isSort domain x ≡ false → (o : Option Def) → Sound s → isOpen s ≡ false
+      → AnyIs (KnownDef (known (s .decls))) o
+      → Sound (opened s (newClass s x n p o))
   sound-class z o h c k =
       let e = newClass s x n p o in
       let m = class-number o in
       let i = closed-records s c in
       let j = length-append (declsRecords (s .decls)) (headRecords (e .sort) e) in
       let f = head-some (e .sort) e in
-      opened-sound s h e (new-class z o k) (class-sort z o) (all-map (λ d y. omega arith) (known (s .decls)) (h .before)) (omega arith) (omega arith)
+      opened-sound s h e (new-class z o k) (class-sort z o)
+      (all-map (λ d y. omega arith) (known (s .decls)) (h .before)) (omega arith) (omega arith)
 
 -- ---- attributes
-pub good-use : (K : List Def) (based : Bool) (p : ℕ) (x : Option WrittenType) (g : Option Def) (b : Use) → AnyIs (KnownDef K) g → GoodUse K b →
-    All Unbroken (typeRules based p x) → GoodUse K (attributeUse x g b)
+pub good-use : (K : List Def) (based : Bool) (p : ℕ) (x : Option WrittenType) (g : Option Def) (b : Use)
+    → AnyIs (KnownDef K) g → GoodUse K b
+    → All Unbroken (typeRules based p x) → GoodUse K (attributeUse x g b)
 good-use K based p none g b h z k = z
 good-use K based p (some (G.text m n)) g b h z k = refl
 good-use K based p (some (G.range x y)) g b h z k = meant-proper based p (G.range x y) (tyOf b) k
@@ -190,8 +219,9 @@ over-self (inline t) f = f
 over-self (ofDomain l bs) f = or-l _ (eq-eqb (l .number) (l .number) refl)
 over-self (ofStructure l bs) f = tt
 
-over-naming : (t : Bool) (l : Link) (bs : List Link) (b : Use) → descends (cond t (ofDomain l bs) (ofStructure l bs)) b ≡ true →
-    Over (cond t (ofDomain l bs) (ofStructure l bs)) b
+over-naming : (t : Bool) (l : Link) (bs : List Link) (b : Use)
+    → descends (cond t (ofDomain l bs) (ofStructure l bs)) b ≡ true
+    → Over (cond t (ofDomain l bs) (ofStructure l bs)) b
 over-naming true l bs b h = h
 over-naming false l bs b h = tt
 
@@ -209,41 +239,51 @@ late-over p (some (G.text m n)) g b k = not-fails (k .0)
 late-over p (some (G.range x y)) g b k = not-fails (k .0)
 late-over p (some G.numeric) g b k = not-fails (k .0)
 late-over p (some (G.enum e)) g b k = not-fails (k .0)
-late-over p (some (G.named r)) g b k = let d = orNoDef g in over-naming (isSort domain (d .sort)) (linkOf d) (d .bases) b (not-fails (k .1 .0))
+late-over p (some (G.named r)) g b k =
+    let d = orNoDef g in
+    over-naming (isSort domain (d .sort)) (linkOf d) (d .bases) b (not-fails (k .1 .0))
 
 module _ (s : State) (c : Def) (n : Name) (p : List (List ℕ)) (w : Written) (g : Option Def) where
-  pub attribute-types : (o : Option Attribute) → All Unbroken (attributeTo16 s c n p w o g) → All Unbroken (typeRules (isFound o) (w .place) (w .type))
+  pub attribute-types : (o : Option Attribute) → All Unbroken (attributeTo16 s c n p w o g)
+      → All Unbroken (typeRules (isFound o) (w .place) (w .type))
   unfolding attributeTo16
   attribute-types o k = all-left Unbroken (typeRules (isFound o) (w .place) (w .type)) _ (k .1 .1 .1 .1 .1 .1 .1 .1)
 
   pub attribute-kind : (a : Attribute) → All Unbroken (attributeTo16 s c n p w (some a) g) →
       eqb (kindOf (tyOf (attributeUse (w .type) g (a .use-of)))) (kindOf (tyOf (a .use-of))) ≡ true
   unfolding attributeTo16 newAttribute
-  attribute-kind a k = not-fails ((all-right Unbroken (typeRules true (w .place) (w .type)) _ (k .1 .1 .1 .1 .1 .1 .1 .1)) .0)
+  attribute-kind a k =
+      not-fails ((all-right Unbroken (typeRules true (w .place) (w .type)) _ (k .1 .1 .1 .1 .1 .1 .1 .1)) .0)
 
-  attribute-early : (o : Option Attribute) → All Unbroken (attributeRules s c n p w o g) → All Unbroken (attributeTo16 s c n p w o g)
+  attribute-early : (o : Option Attribute) → All Unbroken (attributeRules s c n p w o g)
+      → All Unbroken (attributeTo16 s c n p w o g)
   unfolding attributeRules
   attribute-early o k = all-left Unbroken (attributeTo16 s c n p w o g) _ k
 
-  new-use : AnyIs (KnownDef (known (s .decls))) g → (o : Option Attribute) → AnyIs (GoodAttribute (known (s .decls))) o →
-      All Unbroken (attributeRules s c n p w o g) → GoodUse (known (s .decls)) (newAttribute s n p w o g .use-of)
+  new-use : AnyIs (KnownDef (known (s .decls))) g → (o : Option Attribute) → AnyIs (GoodAttribute (known (s .decls))) o
+      → All Unbroken (attributeRules s c n p w o g) → GoodUse (known (s .decls)) (newAttribute s n p w o g .use-of)
   unfolding newAttribute
-  new-use h none z k = good-use (known (s .decls)) false (w .place) (w .type) g (inline Y.structure) h refl (attribute-types none (attribute-early none k))
-  new-use h (some a) z k = good-use (known (s .decls)) true (w .place) (w .type) g (a .use-of) h z (attribute-types (some a) (attribute-early (some a) k))
+  new-use h none z k = good-use (known (s .decls)) false (w .place) (w .type) g (inline Y.structure) h refl
+      (attribute-types none (attribute-early none k))
+  new-use h (some a) z k = good-use (known (s .decls)) true (w .place) (w .type) g (a .use-of) h z
+      (attribute-types (some a) (attribute-early (some a) k))
 
   new-over : (o : Option Attribute) → All Unbroken (attributeRules s c n p w o g) →
       AnyIs (OverBase (newAttribute s n p w o g .use-of)) o
   unfolding attributeRules newAttribute
   new-over none k = tt
-  new-over (some a) k = late-over (w .place) (w .type) g (a .use-of) (all-right Unbroken (attributeTo16 s c n p w (some a) g) _ k)
+  new-over (some a) k =
+      late-over (w .place) (w .type) g (a .use-of) (all-right Unbroken (attributeTo16 s c n p w (some a) g) _ k)
 
   -- 9 and 10: EXTENDED exactly where there is something inherited
   attribute-extended : (o : Option Attribute) → All Unbroken (attributeTo16 s c n p w o g) → J.isExtended p ≡ isFound o
   unfolding attributeTo16
-  attribute-extended o k = alike (J.isExtended p) (isFound o) (or-fails {x = isFound (attributeAt (n .bytes) (c .own))} (k .1 .0) .1) (k .1 .1 .1 .0)
+  attribute-extended o k = alike (J.isExtended p) (isFound o)
+      (or-fails {x = isFound (attributeAt (n .bytes) (c .own))} (k .1 .0) .1) (k .1 .1 .1 .0)
 
-  new-own : (o : Option Attribute) → attributeAt (n .bytes) (c .inherited) ≡ o → All Unbroken (attributeRules s c n p w o g) →
-      GoodOwn (c .inherited) (newAttribute s n p w o g)
+  new-own : (o : Option Attribute) → attributeAt (n .bytes) (c .inherited) ≡ o
+      → All Unbroken (attributeRules s c n p w o g)
+      → GoodOwn (c .inherited) (newAttribute s n p w o g)
   unfolding newAttribute
   new-own o e k = record {
     extended = attribute-extended o (attribute-early o k) ∙ ap isFound (sym e);
@@ -251,8 +291,9 @@ module _ (s : State) (c : Def) (n : Name) (p : List (List ℕ)) (w : Written) (g
     over = subst (AnyIs (OverBase (newAttribute s n p w o g .use-of))) (sym e) (new-over o k);
   }
 
-with-attribute : (K : List Def) (c : Def) (a : Attribute) → isSort domain (c .sort) ≡ false → GoodDef K c → GoodOwn (c .inherited) a →
-    GoodUse K (a .use-of) → GoodDef K (withAttribute c a)
+with-attribute : (K : List Def) (c : Def) (a : Attribute) → isSort domain (c .sort) ≡ false
+    → GoodDef K c → GoodOwn (c .inherited) a
+    → GoodUse K (a .use-of) → GoodDef K (withAttribute c a)
 unfolding withAttribute
 with-attribute K c a z h o u = record {
   proper-type = h .proper-type;
@@ -261,11 +302,13 @@ with-attribute K c a z h o u = record {
   inherits = h .inherits;
   own = all-append (GoodOwn (c .inherited)) (c .own) (a ∷ []) (h .own) (o, tt);
   uses = all-append (GoodAttribute K) (c .own ++ (a ∷ [])) (c .inherited)
-      (all-append (GoodAttribute K) (c .own) (a ∷ []) (all-left (GoodAttribute K) (c .own) (c .inherited) (h .uses)) (u, tt))
+      (all-append (GoodAttribute K) (c .own) (a ∷ [])
+      (all-left (GoodAttribute K) (c .own) (c .inherited) (h .uses)) (u, tt))
       (all-right (GoodAttribute K) (c .own) (c .inherited) (h .uses));
 }
 
-head-grows : (x : Sort) (c : Def) (a : Attribute) → length (headRecords x c) ≤ length (headRecords x (withAttribute c a))
+head-grows : (x : Sort) (c : Def) (a : Attribute)
+    → length (headRecords x c) ≤ length (headRecords x (withAttribute c a))
 unfolding withAttribute
 head-grows D.topic c a = omega arith
 head-grows D.class c a = let h = attributes-count (c .own) a in omega arith
@@ -277,21 +320,26 @@ unfolding withAttribute
 with-number c a = refl
 
 module _ (s : State) (c : Def) (n : Name) (p : List (List ℕ)) (w : Written) (g : Option Def) where
-  sound-attribute : (o : Option Attribute) → attributeAt (n .bytes) (c .inherited) ≡ o → Sound s → s .open-class ≡ some c →
-      GoodOpen (known (s .decls)) (length (records s)) c → AnyIs (KnownDef (known (s .decls))) g →
-      AnyIs (GoodAttribute (known (s .decls))) o → All Unbroken (attributeRules s c n p w o g) → Sound (opened s (withAttribute c (newAttribute s n p w o g)))
+  sound-attribute : (o : Option Attribute) → attributeAt (n .bytes) (c .inherited) ≡ o
+      → Sound s → s .open-class ≡ some c
+      → GoodOpen (known (s .decls)) (length (records s)) c → AnyIs (KnownDef (known (s .decls))) g →
+      AnyIs (GoodAttribute (known (s .decls))) o → All Unbroken (attributeRules s c n p w o g)
+      → Sound (opened s (withAttribute c (newAttribute s n p w o g)))
   sound-attribute o e h f z t k q =
       let a = newAttribute s n p w o g in
       let d = withAttribute c a in
       let i = open-records s c f in
       let j = length-append (declsRecords (s .decls)) (headRecords (d .sort) d) in
       let m = head-grows (c .sort) c a in
-      let x : length (headRecords (d .sort) d) ≡ length (headRecords (c .sort) d) = ap (λ (y : Sort). length (headRecords y d)) (with-sort c a) in
+      let x : length (headRecords (d .sort) d)
+      ≡ length (headRecords (c .sort) d) = ap (λ (y : Sort). length (headRecords y d)) (with-sort c a) in
       let y = with-number c a in
       let u = z .before in
-      let good = with-attribute (known (s .decls)) c a (z .sort) (z .good) (new-own s c n p w g o e q) (new-use s c n p w g t o k q) in
+      let good = with-attribute (known (s .decls)) c a (z .sort) (z .good) (new-own s c n p w g o e q)
+      (new-use s c n p w g t o k q) in
       let sort = ap (λ (v : Sort). isSort domain v) (with-sort c a) ∙ z .sort in
-      opened-sound s h d good sort (all-map (λ v b. omega arith) (known (s .decls)) (z .last)) (omega arith) (omega arith)
+      opened-sound s h d good sort (all-map (λ v b. omega arith) (known (s .decls)) (z .last)) (omega arith)
+      (omega arith)
 
 -- ---- every unit, where the open class is as the grammar has it
 pub based : (s : State) → Sound s → (b : Option Reference) → AnyIs (KnownDef (known (s .decls))) (resolved s b)
@@ -299,18 +347,21 @@ based s h = any-resolved (KnownDef (known (s .decls))) s (h .defs)
 
 pub inherited-use : (K : List Def) (c : Def) → GoodDef K c → (n : List ℕ) →
     AnyIs (GoodAttribute K) (attributeAt n (c .inherited))
-inherited-use K c h n = any-attribute (GoodAttribute K) n (c .inherited) (all-right (GoodAttribute K) (c .own) (c .inherited) (h .uses))
+inherited-use K c h n =
+    any-attribute (GoodAttribute K) n (c .inherited) (all-right (GoodAttribute K) (c .own) (c .inherited) (h .uses))
 
-pub open-good : (s : State) → Sound s → (c : Def) → s .open-class ≡ some c → GoodOpen (known (s .decls)) (length (records s)) c
+pub open-good : (s : State) → Sound s → (c : Def) → s .open-class ≡ some c
+    → GoodOpen (known (s .decls)) (length (records s)) c
 open-good s h c e = any-is (GoodOpen (known (s .decls)) (length (records s))) (s .open-class) c (h .opened) e
 
-sound-member : (s : State) (n : Name) (p : List (List ℕ)) (w : Written) → Sound s → (o : Option Def) → s .open-class ≡ o →
-    All Unbroken (memberRules s n p w o) → Sound (afterMember s n p w o)
+sound-member : (s : State) (n : Name) (p : List (List ℕ)) (w : Written) → Sound s → (o : Option Def) → s .open-class ≡ o
+    → All Unbroken (memberRules s n p w o) → Sound (afterMember s n p w o)
 sound-member s n p w h none e q = h
 sound-member s n p w h (some c) e q =
     let z = open-good s h c e in
     let r = referenceIn (w .type) in
-    sound-attribute s c n p w (resolved s r) (inheritedAs c n) refl h e z (based s h r) (inherited-use (known (s .decls)) c (z .good) (n .bytes)) q
+    sound-attribute s c n p w (resolved s r) (inheritedAs c n) refl h e z (based s h r)
+    (inherited-use (known (s .decls)) c (z .good) (n .bytes)) q
 
 sound-close : (s : State) → Sound s → (o : Option Def) → s .open-class ≡ o → (t : Option Def) → Sound (afterClose s o t)
 sound-close s h (some c) e t =
@@ -337,11 +388,14 @@ class-no-domain D.class e = refl
 class-no-domain D.struct e = refl
 class-no-domain D.domain e = never e
 
-pub judge-sound : (s : State) (u : U.Unit) (b : Bool) → Sound s → Moves (isOpen s) (some u) b → All Unbroken (rulesOf s u) → Sound (nextState s u)
+pub judge-sound : (s : State) (u : U.Unit) (b : Bool) → Sound s → Moves (isOpen s) (some u) b
+    → All Unbroken (rulesOf s u) → Sound (nextState s u)
 judge-sound s (U.header v) b h m q = h
 judge-sound s (U.model n x) b h m q = record { defs = tt; before = tt; opened = tt }
-judge-sound s (U.topic n) b h m q = new-sound s h (m .0) (newTopic s n) (topic-number s n) (topic-good (known (s .decls)) s n)
-judge-sound s (U.class c n p r) b h m q = sound-class s c n p (class-no-domain c (m .2)) (resolved s r) h (m .0) (based s h r)
+judge-sound s (U.topic n) b h m q =
+    new-sound s h (m .0) (newTopic s n) (topic-number s n) (topic-good (known (s .decls)) s n)
+judge-sound s (U.class c n p r) b h m q =
+    sound-class s c n p (class-no-domain c (m .2)) (resolved s r) h (m .0) (based s h r)
 judge-sound s (U.domain n p r w) b h m q = sound-domain s n p r w (resolved s r) h (m .0) (based s h r) q
 judge-sound s (U.attribute n p w) b h m q = sound-member s n p w h (s .open-class) refl q
 judge-sound s (U.close n) b h m q = sound-close s h (s .open-class) refl (s .topic)

@@ -1,4 +1,3 @@
-pub mod Tables
 pub mod NumberLaws
 pub mod TextLaws
 pub mod EnumerationLaws
@@ -17,7 +16,6 @@ pub mod SymbolFirstLaws
 pub mod RankingLaws
 pub mod NumberedLaws
 pub mod DistinctLaws
-pub mod ShutLaws
 pub mod RecordLaws
 pub mod BookLaws
 pub mod Demand3Laws

@@ -1,5 +1,6 @@
 -- The claims on merging, from the laws of merging.
-use Rattle.rules.proofs.MergeLaws.{names-merge, at-shared, at-unwritten, at-merge-none, final-merge, distinct-merge, merged-fits, once-distinct, distinct-once}
+use Rattle.rules.proofs.MergeLaws.{names-merge, at-shared, at-unwritten, at-merge-none, final-merge, distinct-merge}
+use Rattle.rules.proofs.MergeLaws.{merged-fits, once-distinct, distinct-once}
 use Rattle.claims.specs.Merging.{AllMerged, DistinctFound}
 
 pub all-merged : AllMerged

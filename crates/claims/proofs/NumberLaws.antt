@@ -1,4 +1,5 @@
--- A range fits another exactly when every number of it has its reading there: readings keep the order of numbers, so the bounds decide.
+-- A range fits another exactly when every number of it has its reading there: readings keep the order of
+-- numbers, so the bounds decide.
 use mathlib.Core.Path.{_≡_}
 use mathlib.Core.Logic.{⊎-elim}
 use mathlib.Core.Bool.{true, false}
@@ -20,9 +21,13 @@ module _ (e b : Range) where
       let r : (inRange b (readAt (e .low)) ≡ true) × (inRange b (readAt (e .high)) ≡ true) = split f in
       let (s, t) = within e v h in
       both
-      (leZ-is .1 (≤ℤ-trans (within b (readAt (e .low)) (r .0) .0) (reading-mono (e .decimals) (b .decimals) (e .low) v s)))
-      (leZ-is .1 (≤ℤ-trans (reading-mono (e .decimals) (b .decimals) v (e .high) t) (within b (readAt (e .high)) (r .1) .1)))
+      (leZ-is .1
+      (≤ℤ-trans (within b (readAt (e .low)) (r .0) .0) (reading-mono (e .decimals) (b .decimals) (e .low) v s)))
+      (leZ-is .1
+      (≤ℤ-trans (reading-mono (e .decimals) (b .decimals) v (e .high) t) (within b (readAt (e .high)) (r .1) .1)))
 
   -- where it does not fit, one of its two bounds is a number that does not read into the base
-  pub fits-complete : leZ (e .low) (e .high) ≡ true → rangeFits e b ≡ false → (v : ℤ) × (inRange e v ≡ true) × (inRange b (readAt v) ≡ false)
-  fits-complete o f = ⊎-elim (λ p. (e .low, both (leZ-is .1 (≤ℤ-refl (e .low))) o, p)) (λ p. (e .high, both o (leZ-is .1 (≤ℤ-refl (e .high))), p)) (either-fails f)
+  pub fits-complete : leZ (e .low) (e .high) ≡ true → rangeFits e b ≡ false
+      → (v : ℤ) × (inRange e v ≡ true) × (inRange b (readAt v) ≡ false)
+  fits-complete o f = ⊎-elim (λ p. (e .low, both (leZ-is .1 (≤ℤ-refl (e .low))) o, p))
+      (λ p. (e .high, both o (leZ-is .1 (≤ℤ-refl (e .high))), p)) (either-fails f)

@@ -67,12 +67,18 @@ module _ (t : List ℕ) (g : Given) where
   rule-broken s n p b =
       let f = b .first in
       let l = allRules g s (b .unit) in
-      let i : In (rule n p true) l = subst (In (rule n p true)) (sym (f .split)) (in-behind (f .before) (f .behind) (rule n p true)) in
+      let i : In (rule n p true) l =
+      subst (In (rule n p true)) (sym (f .split)) (in-behind (f .before) (f .behind) (rule n p true)) in
       let j = b .judges in
-      let u : UnitIn t (b .unit) = any-is (UnitIn t) _ (b .unit) (reached-reads t g (j .reaches) (j .step) (j .after) (j .reads) .places) (j .unit) in
+      let u : UnitIn t (b .unit) = any-is (UnitIn t) _ (b .unit)
+      (reached-reads t g (j .reaches) (j .step) (j .after) (j .reads) .places) (j .unit) in
       let q : p ≤ length t = in-all (RuleIn t) (all-rules-in t g s (b .unit) u) i in
       let m = reached-short (j .reaches) in
-      record { number = is-in n order table refl (of-order-in l (units-ranked g s (b .unit) .of-order) i); place = q; short = omega arith }
+      record {
+        number = is-in n order table refl (of-order-in l (units-ranked g s (b .unit) .of-order) i);
+        place = q;
+        short = omega arith;
+      }
 
   numbered : (n p : ℕ) → Refused t g n p → Numbered t n p
   numbered n p (inl (f, e, h)) = not-read f n p e h
@@ -87,7 +93,8 @@ counted [] = omega arith
 counted ([] ∷ l) = counted l
 counted ((b ∷ r) ∷ l) = go (isDefinition (b ∷ r)) (counted l)
   where
-    go : (t : Bool) → definitions l ≤ length (bytes l) → cond t (suc (definitions l)) (definitions l) ≤ suc (length (r ++ bytes l))
+    go : (t : Bool) → definitions l ≤ length (bytes l)
+        → cond t (suc (definitions l)) (definitions l) ≤ suc (length (r ++ bytes l))
     go true h = let e = length-append r (bytes l) in omega arith
     go false h = let e = length-append r (bytes l) in omega arith
 

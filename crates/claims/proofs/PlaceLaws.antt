@@ -13,7 +13,9 @@ use Rattle.rules.specs.Grammar as G
 use Rattle.rules.specs.Grammar.{Reference, WrittenType, Written}
 use Rattle.rules.specs.Units as U
 use Rattle.rules.specs.Declarations.{Attribute, Def, isFound, State}
-use Rattle.rules.specs.Judge.{Rule, resolved, referenceIn, placeOf, doubled, elementRule, typeRules, extendsRules, classRules, domainTo16, domainRules, attributeTo16, attributeRules, inheritedAs, memberRules, rulesOf}
+use Rattle.rules.specs.Judge.{Rule, resolved, referenceIn, placeOf, doubled, elementRule, typeRules, extendsRules}
+use Rattle.rules.specs.Judge.{classRules, domainTo16, domainRules, attributeTo16, attributeRules, inheritedAs}
+use Rattle.rules.specs.Judge.{memberRules, rulesOf}
 use Rattle.rules.specs.Check.{Given, unitPlace}
 use Rattle.rules.specs.All.{All, AnyIs}
 use Rattle.rules.proofs.AllLaws.{all-append}
@@ -54,7 +56,8 @@ module _ (t : List ℕ) (i : ℕ) where
   element-in (some (G.enum e)) h = doubled-in (twice e []) (twice-in e [] h)
   element-in (some (G.named r)) h = omega arith
 
-  types-in : (based : Bool) (p : ℕ) (x : Option WrittenType) → Within p → AnyIs (W.TypeIn t i) x → All (RuleIn t) (typeRules based p x)
+  types-in : (based : Bool) (p : ℕ) (x : Option WrittenType) → Within p → AnyIs (W.TypeIn t i) x
+      → All (RuleIn t) (typeRules based p x)
   types-in based p none k h = tt
   types-in based p (some (G.text m none)) k h = tt
   types-in based p (some (G.text m (some y))) k h = (h .1, tt)
@@ -71,15 +74,22 @@ module _ (t : List ℕ) (i : ℕ) where
   written-reference (some (G.enum e)) h = tt
   written-reference (some (G.named r)) h = h
 
-  kinds-in : (based : Bool) (w : Written) (k : Rule) → W.WrittenIn t i w → RuleIn t k → All (RuleIn t) (typeRules based (w .place) (w .type) ++ (k ∷ []))
-  kinds-in based w k h q = all-append (RuleIn t) (typeRules based (w .place) (w .type)) (k ∷ []) (types-in based (w .place) (w .type) (h .0) (h .1)) (q, tt)
+  kinds-in : (based : Bool) (w : Written) (k : Rule) → W.WrittenIn t i w → RuleIn t k
+      → All (RuleIn t) (typeRules based (w .place) (w .type) ++ (k ∷ []))
+  kinds-in based w k h q = all-append (RuleIn t) (typeRules based (w .place) (w .type)) (k ∷ [])
+      (types-in based (w .place) (w .type) (h .0) (h .1)) (q, tt)
 
-  module _ (s : State) (n : Name) (p : List (List ℕ)) (w : Written) (h : n .offset ≤ length t) (j : W.WrittenIn t i w) where
-    domain-to-16 : (r : Option Reference) (o : Option Def) → AnyIs (W.ReferenceIn t i) r → All (RuleIn t) (domainTo16 s n p r w o)
+  module _ (s : State) (n : Name) (p : List (List ℕ)) (w : Written)
+      (h : n .offset ≤ length t) (j : W.WrittenIn t i w) where
+    domain-to-16 : (r : Option Reference) (o : Option Def) → AnyIs (W.ReferenceIn t i) r
+        → All (RuleIn t) (domainTo16 s n p r w o)
     unfolding domainTo16 extendsRules
-    domain-to-16 r o q = let a = reference-in r q in (h, (element-in (w .type) (j .1), (a, (a, (a, (h, kinds-in (isFound o) w _ j (j .0 .1)))))))
+    domain-to-16 r o q =
+        let a = reference-in r q in
+        (h, (element-in (w .type) (j .1), (a, (a, (a, (h, kinds-in (isFound o) w _ j (j .0 .1)))))))
 
-    domain-in : (r : Option Reference) (o : Option Def) → AnyIs (W.ReferenceIn t i) r → All (RuleIn t) (domainRules s n p r w o)
+    domain-in : (r : Option Reference) (o : Option Def) → AnyIs (W.ReferenceIn t i) r
+        → All (RuleIn t) (domainRules s n p r w o)
     unfolding domainRules
     domain-in r o q = all-append (RuleIn t) (domainTo16 s n p r w o) _ (domain-to-16 r o q) (j .0 .1, tt)
 
@@ -94,7 +104,8 @@ module _ (t : List ℕ) (i : ℕ) where
     member-in none = tt
     member-in (some c) =
         let g = resolved s (referenceIn (w .type)) in
-        all-append (RuleIn t) (attributeTo16 s c n p w (inheritedAs c n) g) _ (attribute-to-16 c (inheritedAs c n) g) (j .0 .1, (j .0 .1, tt))
+        all-append (RuleIn t) (attributeTo16 s c n p w (inheritedAs c n) g) _
+        (attribute-to-16 c (inheritedAs c n) g) (j .0 .1, (j .0 .1, tt))
 
 module _ (t : List ℕ) where
   unit-in : (u : U.Unit) → W.UnitIn t u → unitPlace u ≤ length t

@@ -7,7 +7,8 @@ use lib.ListN.{length, take, drop, replicate, length-append, length-replicate}
 use lib.Seq.{take-append-seam, drop-append-seam}
 use Rattle.rules.specs.Book.{book, padded}
 use Rattle.rules.specs.Show.{recordsFrom}
-use Rattle.rules.specs.Check.{Outcome, kept, unread, ruledOut, run, Answer, accepted, refusal, accepting, refusing, answerOf, bufferOf, check}
+use Rattle.rules.specs.Check.{Outcome, kept, unread, ruledOut, run, Answer, accepted, refusal, accepting, refusing}
+use Rattle.rules.specs.Check.{answerOf, bufferOf, check}
 use Rattle.rules.specs.All.{first, later}
 use Rattle.claims.specs.Promise.{OneOutcome, Zeros, RefusedZeros, Booked, AcceptedBook}
 use Rattle.claims.proofs.BookLaws.{records-again}
@@ -54,7 +55,8 @@ padded-back : (b : List ℕ) (m : ℕ) → Zeros (drop (length b) (padded b m))
 padded-back b m = rw (drop-append-seam b (replicate (m - length b) 0)) (zeros (m - length b))
 
 -- ---- refused
-refused-zeros-of : (o : Outcome) (m n p : ℕ) (b : List ℕ) → refusing n p ≡ answerOf o → b ≡ bufferOf o m → (length b ≡ m) × Zeros b
+refused-zeros-of : (o : Outcome) (m n p : ℕ) (b : List ℕ) → refusing n p ≡ answerOf o
+    → b ≡ bufferOf o m → (length b ≡ m) × Zeros b
 refused-zeros-of (kept s) m n p b a e = clash a
 refused-zeros-of (unread s f q) m n p b a e = rw e (padded-length [] m (omega arith), zeros (m - 0))
 refused-zeros-of (ruledOut s i q) m n p b a e = rw e (padded-length [] m (omega arith), zeros (m - 0))
@@ -66,7 +68,8 @@ refused-zeros t g n p b h = refused-zeros-of (run t g) (g .buffer) n p b (h .ans
 pub accepted-book : AcceptedBook
 accepted-book t g n k b h = go (run t g) refl (run-ends t g) (h .answer) (h .buffer)
   where
-    go : (o : Outcome) → run t g ≡ o → Ending t g o → accepting n k ≡ answerOf o → b ≡ bufferOf o (g .buffer) → Booked t g n k b
+    go : (o : Outcome) → run t g ≡ o → Ending t g o → accepting n k ≡ answerOf o
+        → b ≡ bufferOf o (g .buffer) → Booked t g n k b
     go (kept s) e r a q =
         let (l, c) = same-accepted a in
         let f = reached-room t g (r .reaches) in

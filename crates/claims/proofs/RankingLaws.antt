@@ -1,4 +1,5 @@
--- The rules of every unit stand in the order of document 01, so that the first that is broken is the first in that order.
+-- The rules of every unit stand in the order of document 01, so that the first that is broken is
+-- the first in that order.
 use mathlib.Core.Path.{_≡_, refl, sym, ap, _∙_, subst}
 use mathlib.Core.Logic.{inl, inr}
 use mathlib.Core.Bool.{Bool, true, false, cond, _||_}
@@ -15,13 +16,16 @@ use Rattle.rules.specs.Grammar as G
 use Rattle.rules.specs.Grammar.{Reference, WrittenType, Written}
 use Rattle.rules.specs.Units as U
 use Rattle.rules.specs.Declarations.{Attribute, Def, State}
-use Rattle.rules.specs.Judge.{Rule, rule, ok, refused, firstBrokenOr, resolved, referenceIn, extendsRules, classRules, domainTo16, domainRules, attributeTo16, attributeRules, inheritedAs, memberRules, nextState}
+use Rattle.rules.specs.Judge.{Rule, rule, ok, refused, firstBrokenOr, resolved, referenceIn, extendsRules, classRules}
+use Rattle.rules.specs.Judge.{domainTo16, domainRules, attributeTo16, attributeRules, inheritedAs, memberRules}
+use Rattle.rules.specs.Judge.{nextState}
 use Rattle.rules.specs.Check.{Given, Outcome, kept, unread, ruledOut, run, answerOf, refusing}
 use Rattle.rules.specs.All.{All, In, first, later, Unbroken}
 use Rattle.rules.proofs.AllLaws.{apart}
 use Rattle.rules.proofs.RuleLaws.{first-broken-ok, doubled-nine}
 use Rattle.rules.proofs.Tests.{never, split, not-both, fail-r}
-use Rattle.claims.specs.Ranking.{order, isIn, rankIn, rank, rising, inOrder, ofOrder, brokenAt, allRules, Leads, FirstInOrder, UnitsRanked, Unread, long, stuck, RuleBroken, Refused, TextsRanked}
+use Rattle.claims.specs.Ranking.{order, isIn, rankIn, rank, rising, inOrder, ofOrder, brokenAt, allRules, Leads}
+use Rattle.claims.specs.Ranking.{FirstInOrder, UnitsRanked, Unread, long, stuck, RuleBroken, Refused, TextsRanked}
 use Rattle.claims.proofs.RuleLaws.{not-refused, judged-rules}
 use Rattle.claims.proofs.RunLaws.{Ending, Blamed, run-ends, judged-run, stuck-run, long-run}
 use Rattle.claims.proofs.PromiseLaws.{same-refused, clash}
@@ -39,7 +43,8 @@ module _ (s : State) (n : Name) (p : List (List ℕ)) (m : Bool) (at k : ℕ) (b
   abbrev writing : Option WrittenType → Written
   writing x = record { mandatory = m; place = at; type = x }
 
-  domain-ranked : (r : Option Reference) (o : Option Def) (x : Option WrittenType) → Ranked (domainRules s n p r (writing x) o ++ last)
+  domain-ranked : (r : Option Reference) (o : Option Def) (x : Option WrittenType)
+      → Ranked (domainRules s n p r (writing x) o ++ last)
   unfolding rank domainRules domainTo16 extendsRules
   domain-ranked r o none = (refl, refl)
   domain-ranked r o (some (G.text l none)) = (refl, refl)
@@ -93,14 +98,17 @@ rank-only : (a b : ℕ) → isIn a order ≡ true → isIn b order ≡ true → 
 unfolding rank
 rank-only a b = rank-once order a b
 
-rising-parts : (k : ℕ) (r : Rule) (l : List Rule) → rising k (r ∷ l) ≡ true → (k ≤ rank (r .number)) × (rising (rank (r .number)) l ≡ true)
+rising-parts : (k : ℕ) (r : Rule) (l : List Rule) → rising k (r ∷ l) ≡ true
+    → (k ≤ rank (r .number)) × (rising (rank (r .number)) l ≡ true)
 rising-parts k r l h =
     let z : (leb k (rank (r .number)) ≡ true) × (rising (rank (r .number)) l ≡ true) = split h in
     (leb-true k (rank (r .number)) (z .0), z .1)
 
 rising-in : (k : ℕ) (l : List Rule) → rising k l ≡ true → {r : Rule} → In r l → k ≤ rank (r .number)
 rising-in k (q ∷ l) h first = rising-parts k q l h .0
-rising-in k (q ∷ l) h {r} (later i) = let z = rising-parts k q l h in let y = rising-in (rank (q .number)) l (z .1) i in omega arith
+rising-in k (q ∷ l) h {r} (later i) =
+    let z = rising-parts k q l h in
+    let y = rising-in (rank (q .number)) l (z .1) i in omega arith
 
 -- ---- the broken rules of a number
 at-broken : (n : ℕ) (r : Rule) (l : List Rule) → r .number ≡ n → r .broken ≡ true → brokenAt n (r ∷ l) ≡ some (r .place)
@@ -124,14 +132,16 @@ at-in n p (r ∷ l) e = go (eqb (r .number) n) refl (λ q. at-in n p l q)
 
 pub of-order-in : (l : List Rule) → ofOrder l ≡ true → {r : Rule} → In r l → isIn (r .number) order ≡ true
 of-order-in (q ∷ l) h first = let z : (isIn (q .number) order ≡ true) × (ofOrder l ≡ true) = split h in z .0
-of-order-in (q ∷ l) h (later i) = let z : (isIn (q .number) order ≡ true) × (ofOrder l ≡ true) = split h in of-order-in l (z .1) i
+of-order-in (q ∷ l) h (later i) =
+    let z : (isIn (q .number) order ≡ true) × (ofOrder l ≡ true) = split h in of-order-in l (z .1) i
 
 -- ---- the first that is broken
 same-refusal : {n p m q : ℕ} → refused n p ≡ refused m q → (n ≡ m) × (p ≡ q)
 same-refusal e = (cc, cc)
 
-here : (k : ℕ) (r : Rule) (l : List Rule) (n p : ℕ) → rising k (r ∷ l) ≡ true → r .broken ≡ true → r .number ≡ n → r .place ≡ p →
-    FirstInOrder (r ∷ l) n p
+here : (k : ℕ) (r : Rule) (l : List Rule) (n p : ℕ) → rising k (r ∷ l) ≡ true → r .broken ≡ true
+    → r .number ≡ n → r .place ≡ p
+    → FirstInOrder (r ∷ l) n p
 here k r l n p h b e f = record {
   before = [];
   behind = l;
@@ -142,7 +152,9 @@ here k r l n p h b e f = record {
   where
     from : (q : Rule) → In q (r ∷ l) → rank n ≤ rank (q .number)
     from q first = let y = ap rank e in omega arith
-    from q (later i) = let y = ap rank e in let z = rising-in (rank (r .number)) l (rising-parts k r l h .1) i in omega arith
+    from q (later i) =
+        let y = ap rank e in
+        let z = rising-in (rank (r .number)) l (rising-parts k r l h .1) i in omega arith
 
 further : (r : Rule) (l : List Rule) (n p : ℕ) → r .broken ≡ false → FirstInOrder l n p → FirstInOrder (r ∷ l) n p
 further r l n p b h = record {
@@ -157,9 +169,11 @@ further r l n p b h = record {
     lower q first z = b
     lower q (later i) z = h .leads .lower q i z
 
-first-in-order : (k : ℕ) (l : List Rule) (s : State) (n p : ℕ) → rising k l ≡ true → firstBrokenOr l s ≡ refused n p → FirstInOrder l n p
+first-in-order : (k : ℕ) (l : List Rule) (s : State) (n p : ℕ) → rising k l ≡ true
+    → firstBrokenOr l s ≡ refused n p → FirstInOrder l n p
 first-in-order k [] s n p h q = not-refused q
-first-in-order k (r ∷ l) s n p h q = go (r .broken) refl q (first-in-order (rank (r .number)) l s n p (rising-parts k r l h .1))
+first-in-order k (r ∷ l) s n p h q =
+    go (r .broken) refl q (first-in-order (rank (r .number)) l s n p (rising-parts k r l h .1))
   where
     go : (b : Bool) → r .broken ≡ b → cond b (refused (r .number) (r .place)) (firstBrokenOr l s) ≡ refused n p →
         (firstBrokenOr l s ≡ refused n p → FirstInOrder l n p) → FirstInOrder (r ∷ l) n p
@@ -168,30 +182,37 @@ first-in-order k (r ∷ l) s n p h q = go (r .broken) refl q (first-in-order (ra
 
 -- ---- and no other
 -- where another number is broken, its rank is not lower, and so none of this number stands behind it
-no-other : (r : Rule) (l : List Rule) (n p : ℕ) → rising (rank (r .number)) l ≡ true → isIn (r .number) order ≡ true → ofOrder l ≡ true →
-    Leads (r ∷ l) n p → r .broken ≡ true → eqb (r .number) n ≡ false → ⊥
+no-other : (r : Rule) (l : List Rule) (n p : ℕ) → rising (rank (r .number)) l ≡ true
+    → isIn (r .number) order ≡ true → ofOrder l ≡ true
+    → Leads (r ∷ l) n p → r .broken ≡ true → eqb (r .number) n ≡ false → ⊥
 no-other r l n p h i o d b e =
     let (q, j, f) = at-in n p l (sym (at-other n r l e) ∙ d .named) in
     let k : isIn n order ≡ true = subst (λ (x : ℕ). isIn x order ≡ true) f (of-order-in l o j) in
-    let u : rank (r .number) ≤ rank n = subst (λ (x : ℕ). rank (r .number) ≤ rank x) f (rising-in (rank (r .number)) l h j) in
+    let u : rank (r .number) ≤ rank n =
+    subst (λ (x : ℕ). rank (r .number) ≤ rank x) f (rising-in (rank (r .number)) l h j) in
     go (ltb (rank (r .number)) (rank n)) refl u k
   where
     go : (t : Bool) → ltb (rank (r .number)) (rank n) ≡ t → rank (r .number) ≤ rank n → isIn n order ≡ true → ⊥
     go true z u k = not-both b (d .lower r first (ltb-true (rank (r .number)) (rank n) z))
-    go false z u k = let y = ltb-false (rank (r .number)) (rank n) z in not-both (eq-eqb (r .number) n (rank-only (r .number) n i k (omega arith))) e
+    go false z u k =
+        let y = ltb-false (rank (r .number)) (rank n) z in
+        not-both (eq-eqb (r .number) n (rank-only (r .number) n i k (omega arith))) e
 
 behind-kept : (r : Rule) (l : List Rule) (n p : ℕ) → r .broken ≡ false → Leads (r ∷ l) n p → Leads l n p
 behind-kept r l n p b d = record { lower = λ q i z. d .lower q (later i) z; named = sym (at-kept n r l b) ∙ d .named }
 
-leads-first : (k : ℕ) (l : List Rule) (s : State) (n p : ℕ) → rising k l ≡ true → ofOrder l ≡ true → Leads l n p → firstBrokenOr l s ≡ refused n p
+leads-first : (k : ℕ) (l : List Rule) (s : State) (n p : ℕ) → rising k l ≡ true → ofOrder l ≡ true → Leads l n p
+    → firstBrokenOr l s ≡ refused n p
 leads-first k [] s n p h o d = apart (sym (d .named))
 leads-first k (r ∷ l) s n p h o d =
     let x : (isIn (r .number) order ≡ true) × (ofOrder l ≡ true) = split o in
     let y = rising-parts k r l h .1 in
-    go (r .broken) refl (eqb (r .number) n) refl (no-other r l n p y (x .0) (x .1) d) (leads-first (rank (r .number)) l s n p y (x .1))
+    go (r .broken) refl (eqb (r .number) n) refl (no-other r l n p y (x .0) (x .1) d)
+    (leads-first (rank (r .number)) l s n p y (x .1))
   where
-    go : (b : Bool) → r .broken ≡ b → (t : Bool) → eqb (r .number) n ≡ t → (r .broken ≡ true → eqb (r .number) n ≡ false → ⊥) →
-        (Leads l n p → firstBrokenOr l s ≡ refused n p) → firstBrokenOr (r ∷ l) s ≡ refused n p
+    go : (b : Bool) → r .broken ≡ b → (t : Bool) → eqb (r .number) n ≡ t
+        → (r .broken ≡ true → eqb (r .number) n ≡ false → ⊥)
+        → (Leads l n p → firstBrokenOr l s ≡ refused n p) → firstBrokenOr (r ∷ l) s ≡ refused n p
     go true b true e f ih =
         let m = eqb-true (r .number) n e in
         let z : some (r .place) ≡ some p = sym (at-broken n r l m b) ∙ d .named in
@@ -216,7 +237,10 @@ units-ranked g s u =
       judges = j;
       in-order = h;
       of-order = o;
-      passed = λ x. (λ q. passed-none (allRules g s u) (nextState s u) x (sym j ∙ q), λ q. j ∙ (none-passes (allRules g s u) (nextState s u) (q .0) ∙ ap ok (q .1)));
+      passed = λ x. (
+        λ q. passed-none (allRules g s u) (nextState s u) x (sym j ∙ q),
+        λ q. j ∙ (none-passes (allRules g s u) (nextState s u) (q .0) ∙ ap ok (q .1)),
+      );
       first = λ n p q. first-in-order 0 (allRules g s u) (nextState s u) n p h (sym j ∙ q);
       only = λ n p d. j ∙ leads-first 0 (allRules g s u) (nextState s u) n p h o d;
     }
@@ -231,14 +255,16 @@ blamed t g s n p b = record {
   first-symbol = first-symbol t g s (b .unit) n p (b .judges) (b .refuses);
 }
 
-refused-so : (t : List ℕ) (g : Given) (n p : ℕ) (o : Outcome) → Ending t g o → answerOf o ≡ refusing n p → Refused t g n p
+refused-so : (t : List ℕ) (g : Given) (n p : ℕ) (o : Outcome) → Ending t g o
+    → answerOf o ≡ refusing n p → Refused t g n p
 refused-so t g n p (kept s) h e = clash (sym e)
 refused-so t g n p (unread s f q) h e = let (x, y) = same-refused e in inl (f, sym x, subst (Unread t g f) y h)
 refused-so t g n p (ruledOut s i q) h e =
     let (x, y) = same-refused e in
     inr (s, subst (λ (j : ℕ). RuleBroken t g s j p) x (subst (RuleBroken t g s i) y (blamed t g s i q h)))
 
-not-read-so : (t : List ℕ) (g : Given) (f : Fault) (p : ℕ) → Unread t g f p → answerOf (run t g) ≡ refusing (numberOf f) p
+not-read-so : (t : List ℕ) (g : Given) (f : Fault) (p : ℕ) → Unread t g f p
+    → answerOf (run t g) ≡ refusing (numberOf f) p
 not-read-so t g f p (long h e z) = ap answerOf (long-run t g h) ∙ rw (e, z)
 not-read-so t g f p (stuck r e) = ap answerOf (stuck-run t g r e)
 

@@ -44,7 +44,8 @@ operation : (v : ℤ) (d db : ℕ) (w : ℤ) → readNumber v d db ≡ N.reads w
 unfolding readNumber
 operation v d db w = go (ltb 17 d || (ltb 17 db || tooGreat v)) (tooGreat (N.reading d db v))
   where
-    go : (s t : Bool) → cond s (N.notRead 20) (cond t (N.notRead 21) (N.reads (N.reading d db v))) ≡ N.reads w → w ≡ N.reading d db v
+    go : (s t : Bool) → cond s (N.notRead 20) (cond t (N.notRead 21) (N.reads (N.reading d db v))) ≡ N.reads w
+        → w ≡ N.reading d db v
     go true t p = cc
     go false true p = cc
     go false false p = cc

@@ -31,11 +31,13 @@ room-behind g p [] x = refl
 room-behind g p (r ∷ l) x = go (r .broken) (room-behind g p l x)
   where
     go : (b : Bool) {y : Judged} → room g p (firstBrokenOr l x) ≡ y →
-        room g p (cond b (refused (r .number) (r .place)) (firstBrokenOr l x)) ≡ cond b (refused (r .number) (r .place)) y
+        room g p (cond b (refused (r .number) (r .place)) (firstBrokenOr l x))
+        ≡ cond b (refused (r .number) (r .place)) y
     go true ih = refl
     go false ih = ih
 
-pub judged-rules : (g : Given) (s : State) (u : U.Unit) → judged g s (some u) ≡ firstBrokenOr (allRules g s u) (nextState s u)
+pub judged-rules : (g : Given) (s : State) (u : U.Unit)
+    → judged g s (some u) ≡ firstBrokenOr (allRules g s u) (nextState s u)
 unfolding judge
 judged-rules g s u = room-behind g (unitPlace u) (rulesOf s u) (nextState s u)
 
@@ -48,7 +50,8 @@ pub record Went (g : Given) (s : State) (u : U.Unit) (x : State) : Type 0 where
 pub judged-went : (g : Given) (s x : State) (u : U.Unit) → judged g s (some u) ≡ ok x → Went g s u x
 judged-went g s x u q =
     let r = first-broken-ok (allRules g s u) (nextState s u) x (sym (judged-rules g s u) ∙ q) in
-    let l = ltb-false (capacity g) (length (book (nextState s u))) (all-right Unbroken (rulesOf s u) _ (r .unbroken) .0) in
+    let l =
+    ltb-false (capacity g) (length (book (nextState s u))) (all-right Unbroken (rulesOf s u) _ (r .unbroken) .0) in
     record {
       kept = all-left Unbroken (rulesOf s u) _ (r .unbroken);
       next = r .next;
@@ -79,30 +82,38 @@ pub record Came (pre post : List Rule) (s : State) (k p : ℕ) : Type 0 where
   pub kept : All Unbroken pre
   pub rest : firstBrokenOr post s ≡ refused k p
 
-pub first-broken-came : (pre post : List Rule) (s : State) (k p : ℕ) → under k pre ≡ true → firstBrokenOr (pre ++ post) s ≡ refused k p →
-    Came pre post s k p
+pub first-broken-came : (pre post : List Rule) (s : State) (k p : ℕ) → under k pre ≡ true
+    → firstBrokenOr (pre ++ post) s ≡ refused k p
+    → Came pre post s k p
 first-broken-came [] post s k p h q = record { kept = tt; rest = q }
 first-broken-came (r ∷ pre) post s k p h q =
     let z : (ltb (rank (r .number)) (rank k) ≡ true) × (under k pre ≡ true) = split h in
     go (r .broken) refl q (ltb-true (rank (r .number)) (rank k) (z .0)) (λ y. first-broken-came pre post s k p (z .1) y)
   where
-    go : (b : Bool) → r .broken ≡ b → cond b (refused (r .number) (r .place)) (firstBrokenOr (pre ++ post) s) ≡ refused k p →
-        rank (r .number) < rank k → (firstBrokenOr (pre ++ post) s ≡ refused k p → Came pre post s k p) → Came (r ∷ pre) post s k p
+    go : (b : Bool) → r .broken ≡ b
+        → cond b (refused (r .number) (r .place)) (firstBrokenOr (pre ++ post) s) ≡ refused k p
+        → rank (r .number) < rank k → (firstBrokenOr (pre ++ post) s ≡ refused k p → Came pre post s k p)
+        → Came (r ∷ pre) post s k p
     go true e z l ih = let y = ap rank (number-of r k p z) in absurd (omega arith)
     go false e z l ih = let y = ih z in record { kept = (e, y .kept); rest = y .rest }
 
 pub first-broken-never : (l : List Rule) (s : State) (k p : ℕ) → lacks k l ≡ true → firstBrokenOr l s ≡ refused k p → ⊥
 first-broken-never [] s k p h q = not-refused q
-first-broken-never (r ∷ l) s k p h q = go (r .broken) q (λ z. first-broken-never l s k p (split {x = not (eqb (r .number) k)} h .1) z)
+first-broken-never (r ∷ l) s k p h q =
+    go (r .broken) q (λ z. first-broken-never l s k p (split {x = not (eqb (r .number) k)} h .1) z)
   where
-    go : (b : Bool) → cond b (refused (r .number) (r .place)) (firstBrokenOr l s) ≡ refused k p → (firstBrokenOr l s ≡ refused k p → ⊥) → ⊥
-    go true z ih = not-both (eq-eqb (r .number) k (number-of r k p z)) (not-is (split {x = not (eqb (r .number) k)} h .0))
+    go : (b : Bool) → cond b (refused (r .number) (r .place)) (firstBrokenOr l s) ≡ refused k p
+        → (firstBrokenOr l s ≡ refused k p → ⊥) → ⊥
+    go true z ih =
+        not-both (eq-eqb (r .number) k (number-of r k p z)) (not-is (split {x = not (eqb (r .number) k)} h .0))
     go false z ih = ih z
 
-pub first-broken-hit : (r : Rule) (l : List Rule) (s : State) (k p : ℕ) → lacks k l ≡ true → firstBrokenOr (r ∷ l) s ≡ refused k p → r .broken ≡ true
+pub first-broken-hit : (r : Rule) (l : List Rule) (s : State) (k p : ℕ) → lacks k l ≡ true
+    → firstBrokenOr (r ∷ l) s ≡ refused k p → r .broken ≡ true
 first-broken-hit r l s k p h q = go (r .broken) refl q
   where
-    go : (b : Bool) → r .broken ≡ b → cond b (refused (r .number) (r .place)) (firstBrokenOr l s) ≡ refused k p → r .broken ≡ true
+    go : (b : Bool) → r .broken ≡ b
+        → cond b (refused (r .number) (r .place)) (firstBrokenOr l s) ≡ refused k p → r .broken ≡ true
     go true e z = e
     go false e z = absurd (first-broken-never l s k p h z)
 
@@ -110,8 +121,9 @@ first-broken-hit r l s k p h q = go (r .broken) refl q
 abbrev pub Refuses : ℕ → Judged → Type 0
 Refuses k j = (n p : ℕ) × (j ≡ refused n p) × (rank n ≤ rank k)
 
-pub first-broken-refuses : (pre : List Rule) (r : Rule) (post : List Rule) (s : State) → under (r .number) pre ≡ true → r .broken ≡ true →
-    Refuses (r .number) (firstBrokenOr (pre ++ (r ∷ post)) s)
+pub first-broken-refuses : (pre : List Rule) (r : Rule) (post : List Rule) (s : State)
+    → under (r .number) pre ≡ true → r .broken ≡ true
+    → Refuses (r .number) (firstBrokenOr (pre ++ (r ∷ post)) s)
 first-broken-refuses [] r post s h b = (r .number, r .place, rw b, omega arith)
 first-broken-refuses (x ∷ pre) r post s h b =
     let z : (ltb (rank (x .number)) (rank (r .number)) ≡ true) × (under (r .number) pre ≡ true) = split h in

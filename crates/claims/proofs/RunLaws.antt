@@ -17,7 +17,8 @@ use Rattle.rules.specs.Declarations.{Def, State, isFound}
 use Rattle.rules.specs.Book.{book}
 use Rattle.rules.specs.Judge as J
 use Rattle.rules.specs.Judge.{Judged, ok, rulesOf, nextState}
-use Rattle.rules.specs.Check.{Given, capacity, judged, Outcome, kept, unread, ruledOut, isOver, afterJudge, finish, afterUnit, runFrom, nothing, run}
+use Rattle.rules.specs.Check.{Given, capacity, judged, Outcome, kept, unread, ruledOut, isOver, afterJudge, finish}
+use Rattle.rules.specs.Check.{afterUnit, runFrom, nothing, run}
 use Rattle.rules.specs.All.{All, Unbroken}
 use Rattle.rules.proofs.Tests.{never}
 use Rattle.rules.proofs.SymbolLaws.{either, next-lies}
@@ -52,39 +53,55 @@ Ending t g (ruledOut s n p) = Blamed t g s n p
 -- what holds at the start, and after each unit that is not refused where the grammar has it
 pub record Invariant (P : State → Type 0) : Type 0 where
   pub begins : P nothing
-  pub goes : (s : State) (u : U.Unit) (b : Bool) → P s → Moves (isOpen s) (some u) b → All Unbroken (rulesOf s u) → P (nextState s u)
+  pub goes : (s : State) (u : U.Unit) (b : Bool) → P s → Moves (isOpen s) (some u) b
+      → All Unbroken (rulesOf s u) → P (nextState s u)
 
 module _ (t : List ℕ) (g : Given) where
   -- each unit passes a symbol, so that the run stays within the text and f is never used up
-  pub reached-place : {f : ℕ} {w : Where} {s : State} {at : ℕ} → Reaches t g f w s at → (at ≤ length t) × (length t < at + f)
+  pub reached-place : {f : ℕ} {w : Where} {s : State} {at : ℕ} → Reaches t g f w s at
+      → (at ≤ length t) × (length t < at + f)
   reached-place (begin e) = (omega arith, omega arith)
   reached-place (pass {w = w} {at = at} r o q y x e j) =
       let h = reached-place r in
-      let k : Stepped t (suc at) q y = subst (F.Ends (Stepped t (suc at))) e (unit-steps w o .reads t at (symbolAt t at) (next-lies t at (h .0))) in
+      let k : Stepped t (suc at) q y =
+      subst (F.Ends (Stepped t (suc at))) e (unit-steps w o .reads t at (symbolAt t at) (next-lies t at (h .0))) in
       (k .1, omega arith)
 
   abbrev Ends : ℕ → Type 0
   Ends f = (w : Where) (s : State) (at : ℕ) → Reaches t g f w s at → Ending t g (runFrom f t g w s at)
 
-  finish-ends : (f : ℕ) (w : Where) (s : State) (at : ℕ) → Reaches t g (suc f) w s at → isOver w ≡ true → (x : Result Step) →
-      unitAt w t (symbolAt t at) ≡ x → Ending t g (finish s x)
+  finish-ends : (f : ℕ) (w : Where) (s : State) (at : ℕ) → Reaches t g (suc f) w s at
+      → isOver w ≡ true → (x : Result Step)
+      → unitAt w t (symbolAt t at) ≡ x → Ending t g (finish s x)
   finish-ends f w s at r o (done q y) e = record { left = suc f; stands = w; place = at; reaches = r; over = o }
   finish-ends f w s at r o (R.refused n p) e = stuck r e
 
-  judge-ends : (f : ℕ) (w : Where) (s : State) (at : ℕ) → Ends f → Reaches t g (suc f) w s at → isOver w ≡ false → (q : Step) (y : Symbol) →
-      unitAt w t (symbolAt t at) ≡ done q y →
+  judge-ends : (f : ℕ) (w : Where) (s : State) (at : ℕ) → Ends f → Reaches t g (suc f) w s at
+      → isOver w ≡ false → (q : Step) (y : Symbol)
+      → unitAt w t (symbolAt t at) ≡ done q y →
       (u : Option U.Unit) → q .unit ≡ u → (j : Judged) → judged g s u ≡ j →
       Ending t g (afterJudge s j (q .next) (q .behind) (λ v x b. runFrom f t g v x b))
   judge-ends f w s at ih r o q y e u d (ok x) j = ih (q .next) x (q .behind) (pass r o q y x e (ap (judged g s) d ∙ j))
   judge-ends f w s at ih r o q y e none d (J.refused n p) j = not-refused j
   judge-ends f w s at ih r o q y e (some u) d (J.refused n p) j = record {
     unit = u;
-    judges = record { left = f; stands = w; place = at; reaches = r; more = o; step = q; after = y; reads = e; unit = d };
+    judges = record {
+      left = f;
+      stands = w;
+      place = at;
+      reaches = r;
+      more = o;
+      step = q;
+      after = y;
+      reads = e;
+      unit = d;
+    };
     refuses = j;
   }
 
-  unit-ends : (f : ℕ) (w : Where) (s : State) (at : ℕ) → Ends f → Reaches t g (suc f) w s at → isOver w ≡ false → (x : Result Step) →
-      unitAt w t (symbolAt t at) ≡ x → Ending t g (afterUnit g s x (λ v u b. runFrom f t g v u b))
+  unit-ends : (f : ℕ) (w : Where) (s : State) (at : ℕ) → Ends f → Reaches t g (suc f) w s at
+      → isOver w ≡ false → (x : Result Step)
+      → unitAt w t (symbolAt t at) ≡ x → Ending t g (afterUnit g s x (λ v u b. runFrom f t g v u b))
   unit-ends f w s at ih r o (done q y) e = judge-ends f w s at ih r o q y e (q .unit) refl (judged g s (q .unit)) refl
   unit-ends f w s at ih r o (R.refused n p) e = stuck r e
 
@@ -93,7 +110,8 @@ module _ (t : List ℕ) (g : Given) where
   from-ends (suc f) w s at r = go (isOver w) refl (from-ends f)
     where
       go : (b : Bool) → isOver w ≡ b → Ends f →
-          Ending t g (cond b (finish s (unitAt w t (symbolAt t at))) (afterUnit g s (unitAt w t (symbolAt t at)) (λ v u b. runFrom f t g v u b)))
+          Ending t g (cond b (finish s (unitAt w t (symbolAt t at)))
+          (afterUnit g s (unitAt w t (symbolAt t at)) (λ v u b. runFrom f t g v u b)))
       go true o ih = finish-ends f w s at r o (unitAt w t (symbolAt t at)) refl
       go false o ih = unit-ends f w s at ih r o (unitAt w t (symbolAt t at)) refl
 
@@ -101,7 +119,8 @@ module _ (t : List ℕ) (g : Given) where
   unfolding run
   run-ends = go (ltb 65535 (length t)) refl
     where
-      go : (b : Bool) → ltb 65535 (length t) ≡ b → Ending t g (cond b (unread nothing too-long 0) (runFrom (enough t) t g start nothing 0))
+      go : (b : Bool) → ltb 65535 (length t) ≡ b
+          → Ending t g (cond b (unread nothing too-long 0) (runFrom (enough t) t g start nothing 0))
       go true e = long e refl refl
       go false e = from-ends (enough t) start nothing 0 (begin e)
 
@@ -111,16 +130,19 @@ module _ (t : List ℕ) (g : Given) where
   reached-run (begin e) = rw e
   reached-run (pass r o q y x e j) = reached-run r ∙ rw (o, e, j)
 
-  pub judged-run : {s : State} {u : U.Unit} → Judges t g s u → (n p : ℕ) → judged g s (some u) ≡ J.refused n p → run t g ≡ ruledOut s n p
+  pub judged-run : {s : State} {u : U.Unit} → Judges t g s u → (n p : ℕ)
+      → judged g s (some u) ≡ J.refused n p → run t g ≡ ruledOut s n p
   judged-run {s} {u} h n p j =
       let k : judged g s (h .step .unit) ≡ J.refused n p = ap (judged g s) (h .unit) ∙ j in
       let o = h .more in
       let e = h .reads in
       reached-run (h .reaches) ∙ rw (o, e, k)
 
-  pub stuck-run : {k : ℕ} {w : Where} {s : State} {at p : ℕ} {f : Fault} → Reaches t g (suc k) w s at → unitAt w t (symbolAt t at) ≡ R.refused f p →
-      run t g ≡ unread s f p
-  stuck-run {w} {s} {p} {f} r e = reached-run r ∙ rw e (either (λ o. o ≡ unread s f p) (isOver w) (λ _. refl) (λ _. refl))
+  pub stuck-run : {k : ℕ} {w : Where} {s : State} {at p : ℕ} {f : Fault} → Reaches t g (suc k) w s at
+      → unitAt w t (symbolAt t at) ≡ R.refused f p
+      → run t g ≡ unread s f p
+  stuck-run {w} {s} {p} {f} r e =
+      reached-run r ∙ rw e (either (λ o. o ≡ unread s f p) (isOver w) (λ _. refl) (λ _. refl))
 
   pub long-run : ltb 65535 (length t) ≡ true → run t g ≡ unread nothing too-long 0
   unfolding run
@@ -137,28 +159,36 @@ module _ (t : List ℕ) (g : Given) where
   reached-reads {w} {at} r q y e = subst (W.Ends t 0 (Read t w)) e (unit-read t w at (reached-place r .0)) .0
 
   -- how the unit at a place moves the open class
-  moves : {f : ℕ} {w : Where} {s : State} {at : ℕ} → Reaches t g f w s at → isOpen s ≡ inClass w → (q : Step) (y : Symbol) →
-      unitAt w t (symbolAt t at) ≡ done q y → Moves (isOpen s) (q .unit) (inClass (q .next))
+  moves : {f : ℕ} {w : Where} {s : State} {at : ℕ} → Reaches t g f w s at
+      → isOpen s ≡ inClass w → (q : Step) (y : Symbol)
+      → unitAt w t (symbolAt t at) ≡ done q y → Moves (isOpen s) (q .unit) (inClass (q .next))
   moves r h q y e = subst (λ (b : Bool). Moves b (q .unit) (inClass (q .next))) (sym h) (reached-reads r q y e .moves)
 
   reached-open : {f : ℕ} {w : Where} {s : State} {at : ℕ} → Reaches t g f w s at → isOpen s ≡ inClass w
   reached-open (begin e) = refl
-  reached-open (pass {s = s} r o q y x e j) = judged-open s x (q .unit) (inClass (q .next)) (moves r (reached-open r) q y e) j
+  reached-open (pass {s = s} r o q y x e j) =
+      judged-open s x (q .unit) (inClass (q .next)) (moves r (reached-open r) q y e) j
 
-  judged-keeps : (P : State → Type 0) → Invariant P → (s x : State) (u : Option U.Unit) (b : Bool) → P s → Moves (isOpen s) u b →
-      judged g s u ≡ ok x → P x
+  judged-keeps : (P : State → Type 0) → Invariant P
+      → (s x : State) (u : Option U.Unit) (b : Bool) → P s → Moves (isOpen s) u b
+      → judged g s u ≡ ok x → P x
   judged-keeps P k s x none b h v j = let e : s ≡ x = cc in subst P e h
-  judged-keeps P k s x (some u) b h v j = let r = judged-went g s x u j in subst P (r .next) (k .goes s u b h v (r .kept))
+  judged-keeps P k s x (some u) b h v j =
+      let r = judged-went g s x u j in
+      subst P (r .next) (k .goes s u b h v (r .kept))
 
-  pub reached-keeps : (P : State → Type 0) → Invariant P → {f : ℕ} {w : Where} {s : State} {at : ℕ} → Reaches t g f w s at → P s
+  pub reached-keeps : (P : State → Type 0) → Invariant P
+      → {f : ℕ} {w : Where} {s : State} {at : ℕ} → Reaches t g f w s at → P s
   reached-keeps P k (begin e) = k .begins
   reached-keeps P k (pass {s = s} r o q y x e j) =
       judged-keeps P k s x (q .unit) (inClass (q .next)) (reached-keeps P k r) (moves r (reached-open r) q y e) j
 
   pub reached-sound : {f : ℕ} {w : Where} {s : State} {at : ℕ} → Reaches t g f w s at → Sound s
-  reached-sound r = reached-keeps Sound (record { begins = record { defs = tt; before = tt; opened = tt }; goes = judge-sound }) r
+  reached-sound r =
+      reached-keeps Sound (record { begins = record { defs = tt; before = tt; opened = tt }; goes = judge-sound }) r
 
-  judged-room : (s x : State) (u : Option U.Unit) → length (book s) ≤ capacity g → judged g s u ≡ ok x → length (book x) ≤ capacity g
+  judged-room : (s x : State) (u : Option U.Unit) → length (book s) ≤ capacity g → judged g s u ≡ ok x
+      → length (book x) ≤ capacity g
   judged-room s x none h j = let e : s ≡ x = cc in subst (λ (z : State). length (book z) ≤ capacity g) e h
   judged-room s x (some u) h j = judged-went g s x u j .room
 

@@ -9,7 +9,8 @@ use lib.ListN.{length}
 use lib.Dec.{eqb}
 use borrow.Author.Tests.{eqb-true, eq-eqb}
 use Rattle.rules.specs.Types.{Ty, fits}
-use Rattle.rules.specs.Declarations.{Link, Use, inline, ofDomain, ofStructure, tyOf, Attribute, Def, linkOf, attributesOf, attributeAt, isFound, isSort, domain, State, known, lookup}
+use Rattle.rules.specs.Declarations.{Link, Use, inline, ofDomain, ofStructure, tyOf, Attribute, Def, linkOf}
+use Rattle.rules.specs.Declarations.{attributesOf, attributeAt, isFound, isSort, domain, State, known, lookup}
 use Rattle.rules.specs.Book.{records}
 use Rattle.rules.specs.Judge.{orNoDef, baseOfAttribute, naming, descends}
 use Rattle.rules.specs.All.{All, AnyIs, In, first, later}
@@ -120,16 +121,21 @@ module _ (K E : List Def) where
     proper-type = h .proper-type;
     chained = chained-more (d .type) (d .bases) (h .chained);
     bare = h .bare;
-    inherits = h .inherits ∙ ap (λ (o : Option Def). attributesOf (orNoDef o)) (first-more (d .type) (d .bases) (h .chained));
+    inherits =
+        h .inherits ∙ ap (λ (o : Option Def). attributesOf (orNoDef o)) (first-more (d .type) (d .bases) (h .chained));
     own = h .own;
     uses = all-map (λ a k. use-more (a .use-of) k) (attributesOf d) (h .uses);
   }
 
   known-more : (d : Def) → KnownDef K d → KnownDef (K ++ E) d
-  known-more d h = record { good = def-more d (h .good); again = lookup-append (hasNumber (d .number)) K E d (h .again) }
+  known-more d h = record {
+    good = def-more d (h .good);
+    again = lookup-append (hasNumber (d .number)) K E d (h .again);
+  }
 
 -- a new number
-lookup-new : (K : List Def) (e : Def) → All (λ (d : Def). d .number < e .number) K → lookup (hasNumber (e .number)) (K ++ (e ∷ [])) ≡ some e
+lookup-new : (K : List Def) (e : Def) → All (λ (d : Def). d .number < e .number) K
+    → lookup (hasNumber (e .number)) (K ++ (e ∷ [])) ≡ some e
 lookup-new [] e h = let p : eqb (e .number) (e .number) ≡ true = eq-eqb (e .number) (e .number) refl in rw p
 lookup-new (d ∷ K) e h = go (eqb (d .number) (e .number)) refl (lookup-new K e (h .1))
   where
@@ -138,11 +144,12 @@ lookup-new (d ∷ K) e h = go (eqb (d .number) (e .number)) refl (lookup-new K e
     go true p ih = let q = eqb-true (d .number) (e .number) p in let r = h .0 in absurd (omega arith)
     go false p ih = rw p ih
 
-pub becomes-known : (K : List Def) (e : Def) → All (λ (d : Def). d .number < e .number) K → GoodDef K e → KnownDef (K ++ (e ∷ [])) e
+pub becomes-known : (K : List Def) (e : Def) → All (λ (d : Def). d .number < e .number) K
+    → GoodDef K e → KnownDef (K ++ (e ∷ [])) e
 becomes-known K e h g = record { good = def-more K (e ∷ []) e g; again = lookup-new K e h }
 
-pub grow : (K E : List Def) (n m : ℕ) (o : Option Def) → All (KnownDef K) K → All (λ (d : Def). d .number < n) K → n ≤ m →
-    All (KnownDef (K ++ E)) E → All (λ (d : Def). d .number < m) E → AnyIs (GoodOpen (K ++ E) m) o → Good (K ++ E) m o
+pub grow : (K E : List Def) (n m : ℕ) (o : Option Def) → All (KnownDef K) K → All (λ (d : Def). d .number < n) K → n ≤ m
+    → All (KnownDef (K ++ E)) E → All (λ (d : Def). d .number < m) E → AnyIs (GoodOpen (K ++ E) m) o → Good (K ++ E) m o
 grow K E n m o h k q g b z = record {
   defs = all-append (KnownDef (K ++ E)) K E (all-map (known-more K E) K h) g;
   before = all-append (λ (d : Def). d .number < m) K E (all-map (λ d r. omega arith) K k) b;

@@ -1,5 +1,5 @@
--- Of one number the first symbol is named: of two rules with one number, the first along the list stands at the unit's name, and the other, if it is
--- broken, behind it.
+-- Of one number the first symbol is named: of two rules with one number, the first along the list stands at the unit's
+-- name, and the other, if it is broken, behind it.
 use mathlib.Core.Path.{_≡_, refl, sym, _∙_}
 use mathlib.Core.Bool.{Bool, true, false, cond, not, _&&_, _||_}
 use mathlib.Core.Option.{Option, none, some}
@@ -14,7 +14,9 @@ use Rattle.rules.specs.Grammar as G
 use Rattle.rules.specs.Grammar.{Reference, WrittenType, Written}
 use Rattle.rules.specs.Units as U
 use Rattle.rules.specs.Declarations.{Attribute, Def, isFound, State}
-use Rattle.rules.specs.Judge.{Rule, rule, refused, firstBrokenOr, firstPlace, doubled, resolved, referenceIn, extendsRules, classRules, domainTo16, domainRules, attributeTo16, attributeRules, inheritedAs, memberRules, nextState}
+use Rattle.rules.specs.Judge.{Rule, rule, refused, firstBrokenOr, firstPlace, doubled, resolved, referenceIn}
+use Rattle.rules.specs.Judge.{extendsRules, classRules, domainTo16, domainRules, attributeTo16, attributeRules}
+use Rattle.rules.specs.Judge.{inheritedAs, memberRules, nextState}
 use Rattle.rules.specs.Check.{Given, judged}
 use Rattle.rules.specs.All.{first, later, AnyIs}
 use Rattle.rules.proofs.AllLaws.{any-is}
@@ -44,22 +46,30 @@ given {x = true} p h = h
 given {x = false} p h = never p
 
 ahead-in : (r : Rule) (l : List Rule) → ahead r l ≡ true → NoneBefore (r .number) (r .place) l
-ahead-in r (x ∷ l) h q first e b = leb-true (r .place) (q .place) (given (both (eq-eqb (q .number) (r .number) e) b) (split {x = notBefore r q} h .0))
+ahead-in r (x ∷ l) h q first e b =
+    leb-true (r .place) (q .place) (given (both (eq-eqb (q .number) (r .number) e) b) (split {x = notBefore r q} h .0))
 ahead-in r (x ∷ l) h q (later i) e b = ahead-in r l (split {x = notBefore r x} h .1) q i e b
 
-first-least : (l : List Rule) (s : State) (n p : ℕ) → ascending l ≡ true → firstBrokenOr l s ≡ refused n p → NoneBefore n p l
+first-least : (l : List Rule) (s : State) (n p : ℕ) → ascending l ≡ true
+    → firstBrokenOr l s ≡ refused n p → NoneBefore n p l
 first-least [] s n p h j = not-refused j
-first-least (r ∷ l) s n p h j = go (r .broken) refl j (ahead-in r l (split {x = ahead r l} h .0)) (first-least l s n p (split {x = ahead r l} h .1))
+first-least (r ∷ l) s n p h j =
+    go (r .broken) refl j (ahead-in r l (split {x = ahead r l} h .0)) (first-least l s n p (split {x = ahead r l} h .1))
   where
-    go : (c : Bool) → r .broken ≡ c → cond c (refused (r .number) (r .place)) (firstBrokenOr l s) ≡ refused n p → NoneBefore (r .number) (r .place) l →
-        (firstBrokenOr l s ≡ refused n p → NoneBefore n p l) → NoneBefore n p (r ∷ l)
+    go : (c : Bool) → r .broken ≡ c → cond c (refused (r .number) (r .place)) (firstBrokenOr l s) ≡ refused n p
+        → NoneBefore (r .number) (r .place) l
+        → (firstBrokenOr l s ≡ refused n p → NoneBefore n p l) → NoneBefore n p (r ∷ l)
     go true f j a ih q first e b = let x : r .place ≡ p = cc in omega arith
-    go true f j a ih q (later i) e b = let x : r .place ≡ p = cc in let y : r .number ≡ n = cc in let z = a q i (e ∙ sym y) b in omega arith
+    go true f j a ih q (later i) e b =
+        let x : r .place ≡ p = cc in
+        let y : r .number ≡ n = cc in
+        let z = a q i (e ∙ sym y) b in omega arith
     go false f j a ih q first e b = not-both b f
     go false f j a ih q (later i) e b = ih j q i e b
 
 -- ---- the rules of units
-doubled-behind : (t : List ℕ) (i : ℕ) (o : Option ℕ) → AnyIs (W.Within t i) o → (not (doubled o .broken) || leb i (doubled o .place)) ≡ true
+doubled-behind : (t : List ℕ) (i : ℕ) (o : Option ℕ) → AnyIs (W.Within t i) o
+    → (not (doubled o .broken) || leb i (doubled o .place)) ≡ true
 doubled-behind t i none h = refl
 doubled-behind t i (some p) h = le-leb i p (h .0)
 
@@ -74,7 +84,8 @@ module _ (t : List ℕ) (s : State) (n : Name) (p : List (List ℕ)) (m : Bool) 
   abbrev Typed : Option WrittenType → Type 0
   Typed x = AnyIs (W.TypeIn t (n .offset)) x
 
-  domain-ascending : (r : Option Reference) (o : Option Def) (x : Option WrittenType) → Typed x → ascending (domainRules s n p r (writing x) o ++ last) ≡ true
+  domain-ascending : (r : Option Reference) (o : Option Def) (x : Option WrittenType) → Typed x
+      → ascending (domainRules s n p r (writing x) o ++ last) ≡ true
   unfolding domainRules domainTo16 extendsRules
   domain-ascending r o none h = refl
   domain-ascending r o (some (G.text l none)) h = refl
@@ -82,7 +93,8 @@ module _ (t : List ℕ) (s : State) (n : Name) (p : List (List ℕ)) (m : Bool) 
   domain-ascending r o (some (G.range x y)) h = refl
   domain-ascending r o (some G.numeric) h = refl
   domain-ascending r o (some (G.enum e)) h =
-      let q = doubled-nine (twice e []) in let k = doubled-behind t (n .offset) (twice e []) (twice-in t (n .offset) e [] h) in rw q (rw k)
+      let q = doubled-nine (twice e []) in
+      let k = doubled-behind t (n .offset) (twice e []) (twice-in t (n .offset) e [] h) in rw q (rw k)
   domain-ascending r o (some (G.named x)) h = refl
 
   attribute-ascending : (c : Def) (o : Option Attribute) (g : Option Def) (x : Option WrittenType) → Typed x →
@@ -94,10 +106,14 @@ module _ (t : List ℕ) (s : State) (n : Name) (p : List (List ℕ)) (m : Bool) 
   attribute-ascending c o g (some (G.range x y)) h = refl
   attribute-ascending c o g (some G.numeric) h = refl
   attribute-ascending c o g (some (G.enum e)) h =
-      let q = doubled-nine (twice e []) in let k = doubled-behind t (n .offset) (twice e []) (twice-in t (n .offset) e [] h) in rw q (rw k)
-  attribute-ascending c o g (some (G.named x)) h = let q = le-leb (n .offset) (firstPlace x) (h .0) in let k = or-r (not (not (isFound g))) q in rw k
+      let q = doubled-nine (twice e []) in
+      let k = doubled-behind t (n .offset) (twice e []) (twice-in t (n .offset) e [] h) in rw q (rw k)
+  attribute-ascending c o g (some (G.named x)) h =
+      let q = le-leb (n .offset) (firstPlace x) (h .0) in
+      let k = or-r (not (not (isFound g))) q in rw k
 
-  member-ascending : (x : Option WrittenType) (o : Option Def) → Typed x → ascending (memberRules s n p (writing x) o ++ last) ≡ true
+  member-ascending : (x : Option WrittenType) (o : Option Def) → Typed x
+      → ascending (memberRules s n p (writing x) o ++ last) ≡ true
   member-ascending x none h = refl
   member-ascending x (some c) h = attribute-ascending c (inheritedAs c n) (resolved s (referenceIn x)) x h
 
@@ -107,12 +123,16 @@ unit-ascending t g s (U.header v) h = refl
 unit-ascending t g s (U.model n q) h = refl
 unit-ascending t g s (U.topic n) h = refl
 unit-ascending t g s (U.class c n p r) h = refl
-unit-ascending t g s (U.domain n p r w) h = domain-ascending t s n p (w .mandatory) (w .place) _ _ r (resolved s r) (w .type) (h .2 .1)
-unit-ascending t g s (U.attribute n p w) h = member-ascending t s n p (w .mandatory) (w .place) _ _ (w .type) (s .open-class) (h .1 .1)
+unit-ascending t g s (U.domain n p r w) h =
+    domain-ascending t s n p (w .mandatory) (w .place) _ _ r (resolved s r) (w .type) (h .2 .1)
+unit-ascending t g s (U.attribute n p w) h =
+    member-ascending t s n p (w .mandatory) (w .place) _ _ (w .type) (s .open-class) (h .1 .1)
 unit-ascending t g s (U.close n) h = refl
 
-pub first-symbol : (t : List ℕ) (g : Given) (s : State) (u : U.Unit) (n p : ℕ) → Judges t g s u → judged g s (some u) ≡ refused n p →
-    NoneBefore n p (allRules g s u)
+pub first-symbol : (t : List ℕ) (g : Given) (s : State) (u : U.Unit) (n p : ℕ) → Judges t g s u
+    → judged g s (some u) ≡ refused n p
+    → NoneBefore n p (allRules g s u)
 first-symbol t g s u n p d j =
-    let h = any-is (W.UnitIn t) _ u (reached-reads t g (d .reaches) (d .step) (d .after) (d .reads) .places) (d .unit) in
+    let h =
+    any-is (W.UnitIn t) _ u (reached-reads t g (d .reaches) (d .step) (d .after) (d .reads) .places) (d .unit) in
     first-least (allRules g s u) (nextState s u) n p (unit-ascending t g s u h) (sym (judged-rules g s u) ∙ j)

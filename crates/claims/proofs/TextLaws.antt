@@ -16,7 +16,8 @@ within-fits n none p k q = refl
 within-fits none (some b) p k q = never p
 within-fits (some a) (some b) p k q = le-leb k b (omega (arith, leb-true a b p, leb-true k a q))
 
-pub text-sound : (m : Bool) (n l : Option ℕ) → lengthFits n l ≡ true → (s : List ℕ) → legalText m n s ≡ true → legalText m l s ≡ true
+pub text-sound : (m : Bool) (n l : Option ℕ) → lengthFits n l ≡ true → (s : List ℕ)
+    → legalText m n s ≡ true → legalText m l s ≡ true
 text-sound m n l p s q =
     let r : (within n (length s) ≡ true) × ((m || oneLine s) ≡ true) = split q in
     both (within-fits n l p (length s) (r .0)) (r .1)
@@ -30,7 +31,8 @@ longer : (n : Option ℕ) (b : ℕ) → lengthFits n (some b) ≡ false → with
 longer none b p = refl
 longer (some a) b p = le-leb (suc b) a (omega (arith, leb-false a b p))
 
-pub text-complete : (m : Bool) (n l : Option ℕ) → lengthFits n l ≡ false → (s : List ℕ) × (legalText m n s ≡ true) × (legalText m l s ≡ false)
+pub text-complete : (m : Bool) (n l : Option ℕ) → lengthFits n l ≡ false
+    → (s : List ℕ) × (legalText m n s ≡ true) × (legalText m l s ≡ false)
 text-complete m none none p = absurd (true≢false p)
 text-complete m (some a) none p = absurd (true≢false p)
 text-complete m n (some b) p =

@@ -1,5 +1,5 @@
--- A type fits a base exactly when every legal value of it has a legal reading there; down types of which each fits the next, every legal value
--- reads to the end.
+-- A type fits a base exactly when every legal value of it has a legal reading there; down types of which each fits the
+-- next, every legal value reads to the end.
 use mathlib.Core.Path.{_≡_, refl, ap, _∙_}
 use mathlib.Core.Bool.{Bool, true, false, cond, not, _&&_, true≢false}
 use mathlib.Core.Option.{Option, none, some}
@@ -15,17 +15,20 @@ use Rattle.rules.specs.Numbers as N
 use Rattle.rules.specs.Numbers.{Range, rangeFits, inRange}
 use Rattle.rules.specs.Texts.{within, oneLine, lengthFits, legalText}
 use Rattle.rules.specs.Enumerations.{Enum, Path, enumFits}
-use Rattle.rules.specs.Types.{Ty, text, range, numeric, structure, enum, kindOf, Value, string, number, path, legal, reading, fits}
+use Rattle.rules.specs.Types.{Ty, text, range, numeric, structure, enum, kindOf, Value, string, number, path, legal}
+use Rattle.rules.specs.Types.{reading, fits}
 use Rattle.rules.proofs.NumberLaws.{reading-same}
 use Rattle.rules.proofs.Tests.{never, both, split, fail-r, not-both, is-false}
-use Rattle.claims.specs.Readings.{readable, reads, Inside, Outside, Judged, KindsTold, proper, TextsJudged, RangesJudged, NumericJudged, EnumerationsJudged, TypesJudged, StairsRead}
+use Rattle.claims.specs.Readings.{readable, reads, Inside, Outside, Judged, KindsTold, proper, TextsJudged}
+use Rattle.claims.specs.Readings.{RangesJudged, NumericJudged, EnumerationsJudged, TypesJudged, StairsRead}
 use Rattle.claims.proofs.NumberLaws as NL
 use Rattle.claims.proofs.TextLaws.{text-sound, text-complete}
 use Rattle.claims.proofs.EnumerationLaws as EL
 
 -- ---- what fits reads
-text-reads : (m k : Bool) (n l : Option ℕ) → (cond m k (not k) && lengthFits n l) ≡ true → (s : List ℕ) → legalText m n s ≡ true →
-    legalText k l s ≡ true
+text-reads : (m k : Bool) (n l : Option ℕ) → (cond m k (not k) && lengthFits n l) ≡ true
+    → (s : List ℕ) → legalText m n s ≡ true
+    → legalText k l s ≡ true
 text-reads true true n l p s q = text-sound true n l p s q
 text-reads true false n l p s q = never p
 text-reads false true n l p s q = never p
@@ -82,8 +85,11 @@ text-shown m n l p = let (s, a, b) = text-complete m n l p in (string s, a, b)
 
 range-shown : (r b : Range) → leZ (r .low) (r .high) ≡ true → rangeFits r b ≡ false → Outside (range r) (range b)
 range-shown r b o p =
-    let (v, h, q) = NL.fits-complete r b o p in
-    (number (r .decimals) v, both (eq-eqb (r .decimals) (r .decimals) refl) h, fail-r (eqb (b .decimals) (b .decimals)) q)
+    let (v, h, q) = NL.fits-complete r b o p in (
+      number (r .decimals) v,
+      both (eq-eqb (r .decimals) (r .decimals) refl) h,
+      fail-r (eqb (b .decimals) (b .decimals)) q,
+    )
 
 -- a number above a bound
 above : ℤ → ℕ
@@ -98,8 +104,11 @@ above-no (negsuc n) = refl
 numeric-shown : (b : Range) → Outside numeric (range b)
 numeric-shown b =
     let d = b .decimals in
-    let v = above (b .high) in
-    (number d (pos v), refl, fail-r (eqb d d) (rw (reading-same d (pos v)) (fail-r (leZ (b .low) (pos v)) (above-no (b .high)))))
+    let v = above (b .high) in (
+      number d (pos v),
+      refl,
+      fail-r (eqb d d) (rw (reading-same d (pos v)) (fail-r (leZ (b .low) (pos v)) (above-no (b .high)))),
+    )
 
 enum-shown : (e b : Enum) → enumFits e b ≡ false → Outside (enum e) (enum b)
 enum-shown e b p = let (v, h, q) = EL.fits-complete e b p in (path v, h, rw q)
@@ -161,7 +170,11 @@ pub ranges-judged : RangesJudged
 ranges-judged r b o = types-judged (range r) (range b) o refl
 
 pub numeric-judged : NumericJudged
-numeric-judged = (λ r. judged (range r) numeric (λ p. absurd (true≢false p)), λ b. types-judged numeric (range b) refl refl, types-judged numeric numeric refl refl)
+numeric-judged = (
+  λ r. judged (range r) numeric (λ p. absurd (true≢false p)),
+  λ b. types-judged numeric (range b) refl refl,
+  types-judged numeric numeric refl refl,
+)
 
 pub enumerations-judged : EnumerationsJudged
 enumerations-judged e b = types-judged (enum e) (enum b) refl refl
@@ -175,7 +188,8 @@ kinds-told n = (refl, inside)
     inside (path p) q = never q
 
 -- ---- stairs
-step-reads : (b : Ty) (l : List Ty) (v : Value) → readable b v ≡ true → ((w : Value) → legal b w ≡ true → reads l w ≡ true) → reads (b ∷ l) v ≡ true
+step-reads : (b : Ty) (l : List Ty) (v : Value) → readable b v ≡ true
+    → ((w : Value) → legal b w ≡ true → reads l w ≡ true) → reads (b ∷ l) v ≡ true
 step-reads b l v p k = go (reading b v) refl
   where
     go : (o : Option Value) → reading b v ≡ o → reads (b ∷ l) v ≡ true

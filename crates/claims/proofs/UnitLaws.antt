@@ -1,5 +1,5 @@
--- What is read as a unit: its places lie within the text, those behind the name of a domain or an attribute from it on, and by the grammar a class
--- is open exactly where its members are read.
+-- What is read as a unit: its places lie within the text, those behind the name of a domain or an attribute from it on,
+-- and by the grammar a class is open exactly where its members are read.
 use mathlib.Core.Path.{_≡_, refl}
 use mathlib.Core.Bool.{Bool, true, false, _&&_}
 use mathlib.Core.Option.{Option, none, some}
@@ -12,19 +12,27 @@ use lib.Dec.{ltb}
 use Rattle.rules.specs.Bytes.{ascii, same, isOneOf}
 use Rattle.rules.specs.Names as N
 use Rattle.rules.specs.Names.{Name, Sort, nameOf}
-use Rattle.rules.specs.Symbols.{Fault, Symbol, endOf, name, number, quoted, dots, stop, symbolAt, isKind, isMark, isWord, isOneWord}
+use Rattle.rules.specs.Symbols.{Fault, Symbol, endOf, name, number, quoted, dots, stop, symbolAt, isKind, isMark}
+use Rattle.rules.specs.Symbols.{isWord, isOneWord}
 use Rattle.rules.specs.Numbers.{digits}
 use Rattle.rules.specs.Enumerations.{Enum, end, elem}
-use Rattle.rules.specs.Readers.{Result, done, refused, Reader, andThen, _>>=_, _>>_, ret, refuse, expect, aName, ifNext, optional}
+use Rattle.rules.specs.Readers.{Result, done, refused, Reader, andThen, _>>=_, _>>_, ret, refuse, expect, aName, ifNext}
+use Rattle.rules.specs.Readers.{optional}
 use Rattle.rules.specs.Grammar as G
-use Rattle.rules.specs.Grammar.{enough, propertiesFrom, properties, Reference, reference, extends, closeFinal, Element, deepest, openingBracket, enumeration, elements, element, WrittenType, isLength, textLength, textType, rangeType, typeOf, typeOrReference, Written, placeOfNext, written}
+use Rattle.rules.specs.Grammar.{enough, propertiesFrom, properties, Reference, reference, extends, closeFinal, Element}
+use Rattle.rules.specs.Grammar.{deepest, openingBracket, enumeration, elements, element, WrittenType, isLength}
+use Rattle.rules.specs.Grammar.{textLength, textType, rangeType, typeOf, typeOrReference, Written, placeOfNext, written}
 use Rattle.rules.specs.Units as U
-use Rattle.rules.specs.Units.{Around, in-model, in-topic, isModel, ofDomains, isHead, domains, no-run, a-member, isGiven, classSort, Where, start, afterHeader, over, body, members, Step, step, headerUnit, modelUnit, topicUnit, classUnit, domainUnit, attributeUnit, endUnit, wordStep, bodyEnd, bodyUnit, memberUnit, lastStep, unitAt}
+use Rattle.rules.specs.Units.{Around, in-model, in-topic, isModel, ofDomains, isHead, domains, no-run, a-member}
+use Rattle.rules.specs.Units.{isGiven, classSort, Where, start, afterHeader, over, body, members, Step, step}
+use Rattle.rules.specs.Units.{headerUnit, modelUnit, topicUnit, classUnit, domainUnit, attributeUnit, endUnit, wordStep}
+use Rattle.rules.specs.Units.{bodyEnd, bodyUnit, memberUnit, lastStep, unitAt}
 use Rattle.rules.specs.Judge.{firstPlace}
 use Rattle.rules.specs.All.{AnyIs}
 use Rattle.rules.proofs.SymbolLaws.{either, Lies, lies-from, next-lies}
 
--- ---- whether a class is open: at a place, and how a unit changes it; what a class unit opens is a class or a structure
+-- ---- whether a class is open: at a place, and how a unit changes it; what a class unit opens is
+-- a class or a structure
 abbrev pub inClass : Where → Bool
 inClass start = false
 inClass afterHeader = false
@@ -90,7 +98,8 @@ module _ (t : List ℕ) where
   UnitIn (U.attribute n p w) = NameIn 0 n × WrittenIn (n .offset) w
   UnitIn (U.close n) = NameIn 0 n
 
-  -- ---- readers: from a symbol there they come to what has its places there, and to a symbol there, or refuse a place of the text
+  -- ---- readers: from a symbol there they come to what has its places there, and to a symbol there, or
+  -- refuse a place of the text
   abbrev pub Ends : {A : Type 0} → ℕ → (A → Type 0) → Result A → Type 0
   Ends i P (done a z) = P a × Lies i (length t) z
   Ends i P (refused f p) = p ≤ length t
@@ -104,19 +113,23 @@ module _ (t : List ℕ) where
   refuses : {A : Type 0} {i : ℕ} {P : A → Type 0} (f : Fault) {p : ℕ} → p ≤ length t → Reads i P (refuse f p)
   refuses f h = record { reads = λ y l. h }
 
-  and-then : {A B : Type 0} {i : ℕ} {P : A → Type 0} {Q : B → Type 0} (m : Result A) (k : A → Reader B) → Ends i P m → ((a : A) → P a → Reads i Q (k a)) →
-      Ends i Q (andThen t m k)
+  and-then : {A B : Type 0} {i : ℕ} {P : A → Type 0} {Q : B → Type 0} (m : Result A) (k : A → Reader B) → Ends i P m
+      → ((a : A) → P a → Reads i Q (k a))
+      → Ends i Q (andThen t m k)
   and-then (done a z) k h f = f a (h .0) .reads z (h .1)
   and-then (refused n p) k h f = h
 
-  bind : {A B : Type 0} {i : ℕ} {P : A → Type 0} {Q : B → Type 0} {r : Reader A} {k : A → Reader B} → Reads i P r → ((a : A) → P a → Reads i Q (k a)) →
-      Reads i Q (r >>= k)
+  bind : {A B : Type 0} {i : ℕ} {P : A → Type 0} {Q : B → Type 0} {r : Reader A} {k : A → Reader B} → Reads i P r
+      → ((a : A) → P a → Reads i Q (k a))
+      → Reads i Q (r >>= k)
   bind {r} {k} h f = record { reads = λ y l. and-then (r t y) k (h .reads y l) f }
 
-  if-next : {A : Type 0} {i : ℕ} {P : A → Type 0} {q r : Reader A} (p : Symbol → Bool) → Reads i P q → Reads i P r → Reads i P (ifNext p q r)
+  if-next : {A : Type 0} {i : ℕ} {P : A → Type 0} {q r : Reader A} (p : Symbol → Bool) → Reads i P q
+      → Reads i P r → Reads i P (ifNext p q r)
   if-next {P} p h g = record { reads = λ y l. either (Ends _ P) (p y) (λ _. h .reads y l) (λ _. g .reads y l) }
 
-  option : {A : Type 0} {i : ℕ} {P : A → Type 0} {q : Reader A} (p : Symbol → Bool) → Reads i P q → Reads i (AnyIs P) (optional p q)
+  option : {A : Type 0} {i : ℕ} {P : A → Type 0} {q : Reader A} (p : Symbol → Bool) → Reads i P q
+      → Reads i (AnyIs P) (optional p q)
   option p h = if-next p (bind h (λ a k. gives _ k)) (gives _ tt)
 
   start-in : {i : ℕ} {y : Symbol} → Lies i (length t) y → y .place ≤ length t
@@ -127,10 +140,13 @@ module _ (t : List ℕ) where
   behind {y} l = let h = l .starts in lies-from (omega arith) (next-lies t (endOf y) (l .ends))
 
   passes : {i : ℕ} (p : Symbol → Bool) → Reads i (SymbolIn i) (expect p)
-  passes p = record { reads = λ y l. either (Ends _ (SymbolIn _)) (p y) (λ _. ((l .starts, start-in l), behind l)) (λ _. start-in l) }
+  passes p = record {
+    reads = λ y l. either (Ends _ (SymbolIn _)) (p y) (λ _. ((l .starts, start-in l), behind l)) (λ _. start-in l);
+  }
 
   -- a symbol of which nothing is kept
-  skip : {A : Type 0} {i : ℕ} {P : A → Type 0} {r : Reader A} (p : Symbol → Bool) → Reads i P r → Reads i P (expect p >> r)
+  skip : {A : Type 0} {i : ℕ} {P : A → Type 0} {r : Reader A} (p : Symbol → Bool)
+      → Reads i P r → Reads i P (expect p >> r)
   skip p h = bind (passes p) (λ _ _. h)
 
   -- a reader that depends on the text
@@ -150,17 +166,20 @@ module _ (t : List ℕ) where
   properties-from zero l = refuses _ (omega arith)
   properties-from (suc f) l =
       bind (passes (isOneWord l)) (λ _ _.
-      bind (if-next {P = Any} (isMark ",") (skip (isMark ",") (properties-from f l)) (skip (isMark ")") (gives _ tt))) (λ _ _. gives _ tt))
+      bind (if-next {P = Any} (isMark ",") (skip (isMark ",") (properties-from f l)) (skip (isMark ")") (gives _ tt)))
+      (λ _ _. gives _ tt))
 
   the-properties : {i : ℕ} (l : List (List ℕ)) → Reads i Any (properties l)
   unfolding properties
-  the-properties l = if-next (isMark "(") (skip (isMark "(") (by-text (λ u. propertiesFrom (enough u) l) (properties-from (enough t) l))) (gives _ tt)
+  the-properties l = if-next (isMark "(")
+      (skip (isMark "(") (by-text (λ u. propertiesFrom (enough u) l) (properties-from (enough t) l))) (gives _ tt)
 
   the-reference : {i : ℕ} → Reads i (ReferenceIn i) reference
   unfolding reference
   the-reference =
       bind a-name (λ a h. if-next (isMark ".")
-      (skip (isMark ".") (bind a-name (λ b _. if-next (isMark ".") (skip (isMark ".") (bind a-name (λ c _. gives _ h))) (gives _ h)))) (gives _ h))
+      (skip (isMark ".") (bind a-name
+      (λ b _. if-next (isMark ".") (skip (isMark ".") (bind a-name (λ c _. gives _ h))) (gives _ h)))) (gives _ h))
 
   the-base : {i : ℕ} → Reads i (AnyIs (ReferenceIn i)) extends
   unfolding extends
@@ -181,38 +200,45 @@ module _ (t : List ℕ) where
 
     the-enumeration : {i : ℕ} (f d : ℕ) → Reads i (EnumIn i) (enumeration f d)
     the-enumeration zero d = refuses _ (omega arith)
-    the-enumeration (suc f) d = bind (the-bracket d) (λ _ _. if-next (isWord (ascii "FINAL")) close-final (the-elements f (d - 1)))
+    the-enumeration (suc f) d =
+        bind (the-bracket d) (λ _ _. if-next (isWord (ascii "FINAL")) close-final (the-elements f (d - 1)))
 
     the-elements : {i : ℕ} (f d : ℕ) → Reads i (EnumIn i) (elements f d)
     the-elements zero d = refuses _ (omega arith)
     the-elements (suc f) d =
         bind (the-element f d) (λ e h. bind (if-next {P = EnumIn _} (isMark ",") (skip (isMark ",") (the-elements f d))
-        (if-next (isMark ":") (skip (isMark ":") close-final) (skip (isMark ")") (gives _ tt)))) (λ r k. gives _ (h .0, h .1, k)))
+        (if-next (isMark ":") (skip (isMark ":") close-final) (skip (isMark ")") (gives _ tt))))
+        (λ r k. gives _ (h .0, h .1, k)))
 
     the-element : {i : ℕ} (f d : ℕ) → Reads i (ElementIn i) (element f d)
     the-element zero d = refuses _ (omega arith)
     the-element (suc f) d =
-        bind a-name (λ n h. bind (if-next {P = EnumIn _} (isMark "(") (the-enumeration f d) (gives _ tt)) (λ i k. gives _ (h, k)))
+        bind a-name
+        (λ n h. bind (if-next {P = EnumIn _} (isMark "(") (the-enumeration f d) (gives _ tt)) (λ i k. gives _ (h, k)))
 
   the-length : {i : ℕ} → Reads i (SymbolIn i) textLength
   unfolding textLength
-  the-length = bind (passes isLength) (λ y h. if-next (λ _. ltb 4294967295 (digits (y .bytes) 0)) (refuses _ (h .1)) (gives _ h))
+  the-length =
+      bind (passes isLength) (λ y h. if-next (λ _. ltb 4294967295 (digits (y .bytes) 0)) (refuses _ (h .1)) (gives _ h))
 
   the-text : {i : ℕ} → Reads i (TypeIn i) textType
   unfolding textType
   the-text =
-      bind (passes (isOneWord (ascii "TEXT" ∷ ascii "MTEXT" ∷ []))) (λ _ _. bind (option (isMark "*") (skip (isMark "*") the-length)) (λ n h. gives _ h))
+      bind (passes (isOneWord (ascii "TEXT" ∷ ascii "MTEXT" ∷ [])))
+      (λ _ _. bind (option (isMark "*") (skip (isMark "*") the-length)) (λ n h. gives _ h))
 
   the-range : {i : ℕ} → Reads i (TypeIn i) rangeType
   unfolding rangeType
-  the-range = bind (passes (isKind number)) (λ x h. skip (isKind dots) (bind (passes (isKind number)) (λ y _. gives _ h)))
+  the-range =
+      bind (passes (isKind number)) (λ x h. skip (isKind dots) (bind (passes (isKind number)) (λ y _. gives _ h)))
 
   the-type : {i : ℕ} → Reads i (TypeIn i) typeOf
   unfolding typeOf
   the-type =
       if-next (isOneWord (ascii "TEXT" ∷ ascii "MTEXT" ∷ [])) the-text
       (if-next (isWord (ascii "NUMERIC")) (skip (isWord (ascii "NUMERIC")) (gives _ tt))
-      (if-next (isMark "(") (bind (by-text (λ u. enumeration (enough u) deepest) (the-enumeration (enough t) deepest)) (λ e h. gives _ h)) the-range))
+      (if-next (isMark "(") (bind (by-text (λ u. enumeration (enough u) deepest) (the-enumeration (enough t) deepest))
+      (λ e h. gives _ h)) the-range))
 
   type-or-reference : {i : ℕ} → Reads i (TypeIn i) typeOrReference
   unfolding typeOrReference
@@ -236,11 +262,13 @@ module _ (t : List ℕ) where
   earlier P i (refused f p) h = h
 
   -- a name, and from it on what stands behind it
-  named : {A : Type 0} {P : A → Type 0} {k : Name → Reader A} → ((n : Name) → NameIn 0 n → Reads (n .offset) P (k n)) → Reads 0 P (aName >>= k)
+  named : {A : Type 0} {P : A → Type 0} {k : Name → Reader A}
+      → ((n : Name) → NameIn 0 n → Reads (n .offset) P (k n)) → Reads 0 P (aName >>= k)
   named {P} {k} f =
       record {
         reads = λ y l. either (λ m. Ends 0 P (andThen t (andThen t m (λ x. ret (nameOf x))) k)) (isKind name y)
-            (λ _. earlier P (y .place) (k (nameOf y) t (symbolAt t (endOf y))) (f (nameOf y) (l .starts, start-in l) .reads (symbolAt t (endOf y)) (behind (from-it l))))
+            (λ _. earlier P (y .place) (k (nameOf y) t (symbolAt t (endOf y)))
+            (f (nameOf y) (l .starts, start-in l) .reads (symbolAt t (endOf y)) (behind (from-it l))))
             (λ _. start-in l);
       }
     where
@@ -252,8 +280,9 @@ module _ (t : List ℕ) where
     pub moves : Moves (inClass w) (q .unit) (inClass (q .next))
 
   module _ (w : Where) where
-    last : {i : ℕ} (p : Symbol → Bool) (u : Option U.Unit) (v : Where) → AnyIs UnitIn u → Moves (inClass w) u (inClass v) →
-        Reads i (Read w) (expect p >>= λ e. step u v e)
+    last : {i : ℕ} (p : Symbol → Bool) (u : Option U.Unit) (v : Where) → AnyIs UnitIn u
+        → Moves (inClass w) u (inClass v)
+        → Reads i (Read w) (expect p >>= λ e. step u v e)
     last p u v h m = bind (passes p) (λ e _. gives _ (record { places = h; moves = m }))
 
     the-topic : inClass w ≡ false → Reads 0 (Read w) topicUnit
@@ -277,7 +306,8 @@ module _ (t : List ℕ) where
     unfolding attributeUnit
     the-attribute a m =
         named (λ n h. bind (the-properties _) (λ p _. skip (isMark ":")
-        (bind (the-written (isOneOf (ascii "EXTENDED") p) typeOrReference type-or-reference) (λ x j. last (isMark ";") _ _ (h, j) (m, refl)))))
+        (bind (the-written (isOneOf (ascii "EXTENDED") p) typeOrReference type-or-reference)
+        (λ x j. last (isMark ";") _ _ (h, j) (m, refl)))))
 
     the-end : (c : Char) (v : Where) → inClass v ≡ false → Reads 0 (Read w) (endUnit c v)
     unfolding endUnit
@@ -294,11 +324,13 @@ module _ (t : List ℕ) where
 
   the-unit : (w : Where) → Reads 0 (Read w) (unitAt w)
   unfolding unitAt headerUnit modelUnit bodyUnit memberUnit lastStep
-  the-unit start = skip (isWord (ascii "INTERLIS")) (bind (passes (isKind number)) (λ v h. last start (isMark ";") _ _ h refl))
+  the-unit start =
+      skip (isWord (ascii "INTERLIS")) (bind (passes (isKind number)) (λ v h. last start (isMark ";") _ _ h refl))
   the-unit afterHeader =
       skip (isWord (ascii "MODEL")) (bind a-name (λ n h.
       bind (option (isMark "(") (skip (isMark "(") (bind a-name (λ _ _. passes (isMark ")"))))) (λ _ _.
-      skip (isWord (ascii "AT")) (bind (passes (isKind quoted)) (λ _ _. skip (isWord (ascii "VERSION")) (bind (passes (isKind quoted)) (λ _ _.
+      skip (isWord (ascii "AT"))
+      (bind (passes (isKind quoted)) (λ _ _. skip (isWord (ascii "VERSION")) (bind (passes (isKind quoted)) (λ _ _.
       last afterHeader (isMark "=") _ _ h refl)))))))
   the-unit (body a r) =
       let w = body a r in

@@ -1,5 +1,5 @@
--- The records of a bare state are those of the state apart from offsets: so record numbers, the book's length and the definition count do not
--- depend on places.
+-- The records of a bare state are those of the state apart from offsets: so record numbers, the book's length and the
+-- definition count do not depend on places.
 use mathlib.Core.Path.{_≡_, refl, sym, ap, _∙_}
 use mathlib.Core.Bool.{Bool, true, false, cond}
 use mathlib.Core.Option.{Option, none, some, Option·map}
@@ -10,9 +10,12 @@ use Rattle.rules.specs.Enumerations.{Enum, end, elem}
 use Rattle.rules.specs.Types.{Ty, text, range, numeric, structure, enum}
 use Rattle.rules.specs.Declarations as D
 use Rattle.rules.specs.Declarations.{Link, Use, inline, ofDomain, ofStructure, Attribute, Sort, Def, Decl, State}
-use Rattle.rules.specs.Book.{Record, openRecord, innerRecords, elementRecords, typeRecords, useRecords, attributeRecords, attributesRecords, baseNumber, headRecords, endRecords, declRecords, declsRecords, openRecords, records, bytes, book, isDefinition, definitions}
+use Rattle.rules.specs.Book.{Record, openRecord, innerRecords, elementRecords, typeRecords, useRecords}
+use Rattle.rules.specs.Book.{attributeRecords, attributesRecords, baseNumber, headRecords, endRecords, declRecords}
+use Rattle.rules.specs.Book.{declsRecords, openRecords, records, bytes, book, isDefinition, definitions}
 use Rattle.rules.specs.Show.{isNamed}
-use Rattle.claims.specs.Unplaced.{unplacedEnum, unplacedTy, unplacedLink, unplacedUse, unplacedAttribute, unplacedDef, unplacedDecl, unplacedState, zeroed, unplacedRecord}
+use Rattle.claims.specs.Unplaced.{unplacedEnum, unplacedTy, unplacedLink, unplacedUse, unplacedAttribute}
+use Rattle.claims.specs.Unplaced.{unplacedDef, unplacedDecl, unplacedState, zeroed, unplacedRecord}
 use Rattle.claims.proofs.UnplacedLaws.{final-unplaced}
 
 abbrev bares : List Record → List Record
@@ -36,7 +39,13 @@ unfolding isNamed
 element-unplaced (end f) = refl
 element-unplaced (elem n i r) =
     let l = openRecord i ∷ elementRecords i in
-    rw (open-unplaced i, element-unplaced i, element-unplaced r, inner-unplaced i l, map-append unplacedRecord (innerRecords i l) (elementRecords r))
+    rw (
+      open-unplaced i,
+      element-unplaced i,
+      element-unplaced r,
+      inner-unplaced i l,
+      map-append unplacedRecord (innerRecords i l) (elementRecords r),
+    )
 
 type-unplaced : (t : Ty) → typeRecords (unplacedTy t) ≡ bares (typeRecords t)
 unfolding isNamed
@@ -59,7 +68,8 @@ attribute-unplaced a = rw (use-unplaced (a .use-of))
 
 attributes-unplaced : (l : List Attribute) → attributesRecords (map unplacedAttribute l) ≡ bares (attributesRecords l)
 attributes-unplaced [] = refl
-attributes-unplaced (a ∷ l) = both-unplaced (attributeRecords a) (attributesRecords l) (attribute-unplaced a) (attributes-unplaced l)
+attributes-unplaced (a ∷ l) =
+    both-unplaced (attributeRecords a) (attributesRecords l) (attribute-unplaced a) (attributes-unplaced l)
 
 base-unplaced : (l : List Link) → baseNumber (map unplacedLink l) ≡ baseNumber l
 base-unplaced [] = refl
@@ -82,7 +92,8 @@ end-unplaced D.domain = refl
 decl-unplaced : (d : Decl) → declRecords (unplacedDecl d) ≡ bares (declRecords d)
 unfolding isNamed
 decl-unplaced (D.model n) = refl
-decl-unplaced (D.def d) = both-unplaced (headRecords (d .sort) d) (endRecords (d .sort)) (head-unplaced (d .sort) d) (end-unplaced (d .sort))
+decl-unplaced (D.def d) =
+    both-unplaced (headRecords (d .sort) d) (endRecords (d .sort)) (head-unplaced (d .sort) d) (end-unplaced (d .sort))
 decl-unplaced (D.endTopic n) = refl
 
 decls-unplaced : (l : List Decl) → declsRecords (map unplacedDecl l) ≡ bares (declsRecords l)
@@ -94,7 +105,8 @@ opened-unplaced none = refl
 opened-unplaced (some d) = head-unplaced (d .sort) d
 
 pub records-unplaced : (s : State) → records (unplacedState s) ≡ map unplacedRecord (records s)
-records-unplaced s = both-unplaced (declsRecords (s .decls)) (openRecords (s .open-class)) (decls-unplaced (s .decls)) (opened-unplaced (s .open-class))
+records-unplaced s = both-unplaced (declsRecords (s .decls)) (openRecords (s .open-class)) (decls-unplaced (s .decls))
+    (opened-unplaced (s .open-class))
 
 -- ---- counts and lengths
 pub records-count-unplaced : (s : State) → length (records (unplacedState s)) ≡ length (records s)
@@ -115,7 +127,8 @@ record-length (k ∷ l) = ap suc (go (isNamed k))
 
 bytes-length : (l : List Record) → length (bytes (bares l)) ≡ length (bytes l)
 bytes-length [] = refl
-bytes-length (r ∷ l) = rw (length-append (unplacedRecord r) (bytes (bares l)), length-append r (bytes l), record-length r, bytes-length l)
+bytes-length (r ∷ l) =
+    rw (length-append (unplacedRecord r) (bytes (bares l)), length-append r (bytes l), record-length r, bytes-length l)
 
 pub book-length-unplaced : (s : State) → length (book (unplacedState s)) ≡ length (book s)
 book-length-unplaced s = rw (records-unplaced s) (bytes-length (records s))

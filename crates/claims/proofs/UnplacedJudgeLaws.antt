@@ -1,4 +1,5 @@
--- Judging does not depend on places: of a bare state and unit the rules are the bare rules and the next state is the bare one.
+-- Judging does not depend on places: of a bare state and unit the rules are the bare rules and the next
+-- state is the bare one.
 use mathlib.Core.Path.{_≡_, refl, sym, ap, _∙_}
 use mathlib.Core.Bool.{Bool}
 use mathlib.Core.Option.{Option, none, some, Option·map}
@@ -17,20 +18,36 @@ use Rattle.rules.specs.Units.{isGiven}
 use Rattle.rules.specs.Types as Y
 use Rattle.rules.specs.Types.{Ty}
 use Rattle.rules.specs.Declarations as D
-use Rattle.rules.specs.Declarations.{Link, Use, inline, ofDomain, ofStructure, tyOf, Attribute, Sort, isSort, Def, linkOf, attributesOf, attributeAt, isFound, Decl, State, atHand}
+use Rattle.rules.specs.Declarations.{Link, Use, inline, ofDomain, ofStructure, tyOf, Attribute, Sort, isSort, Def}
+use Rattle.rules.specs.Declarations.{linkOf, attributesOf, attributeAt, isFound, Decl, State, atHand}
 use Rattle.rules.specs.Book.{records, book}
-use Rattle.rules.specs.Judge.{Rule, Judged, ok, refused, firstBrokenOr, orNoDef, orNoAttribute, placeOf, resolved, basesOf, lengthIn, mergedInto, meant, domainType, naming, attributeUse, referenceIn, isNumeric, doubled, elementRule, typeRules, kindRule, declare, newTopic, newClass, extendsRules, classRules, newDomain, domainTo16, domain17, domainRules, isDomain, baseOfAttribute, newAttribute, withAttribute, attributeTo16, isAmong, descends, attribute17To18, attributeRules, inheritedAs, memberRules, afterMember, openName, endRules, afterClose, rulesOf, nextState, judge}
+use Rattle.rules.specs.Judge.{Rule, Judged, ok, refused, firstBrokenOr, orNoDef, orNoAttribute, placeOf, resolved}
+use Rattle.rules.specs.Judge.{basesOf, lengthIn, mergedInto, meant, domainType, naming, attributeUse, referenceIn}
+use Rattle.rules.specs.Judge.{isNumeric, doubled, elementRule, typeRules, kindRule, declare, newTopic, newClass}
+use Rattle.rules.specs.Judge.{extendsRules, classRules, newDomain, domainTo16, domain17, domainRules, isDomain}
+use Rattle.rules.specs.Judge.{baseOfAttribute, newAttribute, withAttribute, attributeTo16, isAmong, descends}
+use Rattle.rules.specs.Judge.{attribute17To18, attributeRules, inheritedAs, memberRules, afterMember, openName}
+use Rattle.rules.specs.Judge.{endRules, afterClose, rulesOf, nextState, judge}
 use Rattle.rules.specs.Check.{Given, unitPlace, capacity, room, judged}
-use Rattle.claims.specs.Unplaced.{unplacedName, unplacedSymbol, unplacedReference, unplacedEnum, unplacedType, unplacedWritten, unplacedUnit, unplacedTy, unplacedLink, unplacedUse, unplacedAttribute, unplacedDef, unplacedDecl, unplacedState, unplacedRule, unplacedJudged, unplacedPlace, SameStates, SameUnits, Alike, PlacesIdle}
-use Rattle.claims.proofs.UnplacedLaws.{cond-unplaced, found-unplaced, leaf-unplaced, legal-unplaced, reading-unplaced, merge-unplaced, twice-unplaced, kind-unplaced, fits-unplaced, ty-unplaced, attribute-unplaced, count-unplaced, attributes-unplaced, number-unplaced, around-unplaced, hand-unplaced, resolve-unplaced}
-use Rattle.claims.proofs.UnplacedBookLaws.{records-unplaced, records-count-unplaced, book-length-unplaced, definitions-unplaced}
+use Rattle.claims.specs.Unplaced.{unplacedName, unplacedSymbol, unplacedReference, unplacedEnum, unplacedType}
+use Rattle.claims.specs.Unplaced.{unplacedWritten, unplacedUnit, unplacedTy, unplacedLink, unplacedUse}
+use Rattle.claims.specs.Unplaced.{unplacedAttribute, unplacedDef, unplacedDecl, unplacedState, unplacedRule}
+use Rattle.claims.specs.Unplaced.{unplacedJudged, unplacedPlace, SameStates, SameUnits, Alike, PlacesIdle}
+use Rattle.claims.proofs.UnplacedLaws.{cond-unplaced, found-unplaced, leaf-unplaced, legal-unplaced}
+use Rattle.claims.proofs.UnplacedLaws.{reading-unplaced, merge-unplaced, twice-unplaced, kind-unplaced}
+use Rattle.claims.proofs.UnplacedLaws.{fits-unplaced, ty-unplaced, attribute-unplaced, count-unplaced}
+use Rattle.claims.proofs.UnplacedLaws.{attributes-unplaced, number-unplaced, around-unplaced, hand-unplaced}
+use Rattle.claims.proofs.UnplacedLaws.{resolve-unplaced}
+use Rattle.claims.proofs.UnplacedBookLaws.{records-unplaced, records-count-unplaced, book-length-unplaced}
+use Rattle.claims.proofs.UnplacedBookLaws.{definitions-unplaced}
 
 -- ---- what a unit refers to
 or-def-unplaced : (o : Option Def) → orNoDef (Option·map unplacedDef o) ≡ unplacedDef (orNoDef o)
 or-def-unplaced none = refl
 or-def-unplaced (some d) = refl
 
-or-attribute-unplaced : (o : Option Attribute) → orNoAttribute (Option·map unplacedAttribute o) ≡ unplacedAttribute (orNoAttribute o)
+or-attribute-unplaced : (o : Option Attribute)
+    → orNoAttribute (Option·map unplacedAttribute o) ≡ unplacedAttribute (orNoAttribute o)
 or-attribute-unplaced none = refl
 or-attribute-unplaced (some a) = refl
 
@@ -40,7 +57,8 @@ place-unplaced (some (G.bare n)) = refl
 place-unplaced (some (G.inModel m n)) = refl
 place-unplaced (some (G.inTopic m t n)) = refl
 
-resolved-unplaced : (s : State) (r : Option Reference) → resolved (unplacedState s) (Option·map unplacedReference r) ≡ Option·map unplacedDef (resolved s r)
+resolved-unplaced : (s : State) (r : Option Reference)
+    → resolved (unplacedState s) (Option·map unplacedReference r) ≡ Option·map unplacedDef (resolved s r)
 resolved-unplaced s none = refl
 resolved-unplaced s (some r) = resolve-unplaced s r
 
@@ -67,14 +85,17 @@ meant-unplaced G.numeric b = refl
 meant-unplaced (G.enum e) b = merged-unplaced b e
 meant-unplaced (G.named r) b = refl
 
-domain-type-unplaced : (x : Option WrittenType) (b : Ty) → domainType (Option·map unplacedType x) (unplacedTy b) ≡ unplacedTy (domainType x b)
+domain-type-unplaced : (x : Option WrittenType) (b : Ty)
+    → domainType (Option·map unplacedType x) (unplacedTy b) ≡ unplacedTy (domainType x b)
 domain-type-unplaced none b = refl
 domain-type-unplaced (some x) b = meant-unplaced x b
 
 naming-unplaced : (d : Def) → naming (unplacedDef d) ≡ unplacedUse (naming d)
-naming-unplaced d = cond-unplaced unplacedUse (isSort D.domain (d .sort)) (ofDomain (linkOf d) (d .bases)) (ofStructure (linkOf d) (d .bases))
+naming-unplaced d = cond-unplaced unplacedUse (isSort D.domain (d .sort)) (ofDomain (linkOf d) (d .bases))
+    (ofStructure (linkOf d) (d .bases))
 
-use-unplaced : (x : Option WrittenType) (g : Option Def) (b : Use) → attributeUse (Option·map unplacedType x) (Option·map unplacedDef g) (unplacedUse b) ≡ unplacedUse (attributeUse x g b)
+use-unplaced : (x : Option WrittenType) (g : Option Def) (b : Use) → attributeUse (Option·map unplacedType x)
+    (Option·map unplacedDef g) (unplacedUse b) ≡ unplacedUse (attributeUse x g b)
 use-unplaced none g b = refl
 use-unplaced (some (G.text m n)) g b = rw (length-unplaced n)
 use-unplaced (some (G.range x y)) g b = refl
@@ -82,7 +103,8 @@ use-unplaced (some G.numeric) g b = refl
 use-unplaced (some (G.enum e)) g b = ap inline (rw (ty-unplaced b) (merged-unplaced (tyOf b) e))
 use-unplaced (some (G.named r)) g b = rw (or-def-unplaced g) (naming-unplaced (orNoDef g))
 
-reference-unplaced : (x : Option WrittenType) → referenceIn (Option·map unplacedType x) ≡ Option·map unplacedReference (referenceIn x)
+reference-unplaced : (x : Option WrittenType)
+    → referenceIn (Option·map unplacedType x) ≡ Option·map unplacedReference (referenceIn x)
 reference-unplaced none = refl
 reference-unplaced (some (G.text m n)) = refl
 reference-unplaced (some (G.range x y)) = refl
@@ -101,7 +123,8 @@ doubled-unplaced : (o : Option ℕ) → doubled (Option·map unplacedPlace o) �
 doubled-unplaced none = refl
 doubled-unplaced (some p) = refl
 
-element-rule-unplaced : (x : Option WrittenType) → elementRule (Option·map unplacedType x) ≡ unplacedRule (elementRule x)
+element-rule-unplaced : (x : Option WrittenType)
+    → elementRule (Option·map unplacedType x) ≡ unplacedRule (elementRule x)
 element-rule-unplaced none = refl
 element-rule-unplaced (some (G.text m n)) = refl
 element-rule-unplaced (some (G.range x y)) = refl
@@ -109,7 +132,8 @@ element-rule-unplaced (some G.numeric) = refl
 element-rule-unplaced (some (G.enum e)) = ap doubled (twice-unplaced e []) ∙ doubled-unplaced (twice e [])
 element-rule-unplaced (some (G.named r)) = refl
 
-type-rules-unplaced : (b : Bool) (p : ℕ) (x : Option WrittenType) → typeRules b (unplacedPlace p) (Option·map unplacedType x) ≡ map unplacedRule (typeRules b p x)
+type-rules-unplaced : (b : Bool) (p : ℕ) (x : Option WrittenType)
+    → typeRules b (unplacedPlace p) (Option·map unplacedType x) ≡ map unplacedRule (typeRules b p x)
 type-rules-unplaced b p none = refl
 type-rules-unplaced b p (some (G.text m none)) = refl
 type-rules-unplaced b p (some (G.text m (some y))) = refl
@@ -118,7 +142,8 @@ type-rules-unplaced b p (some G.numeric) = refl
 type-rules-unplaced b p (some (G.enum e)) = rw (leaf-unplaced e)
 type-rules-unplaced b p (some (G.named r)) = refl
 
-kind-rule-unplaced : (p : ℕ) (b : Bool) (t u : Ty) → kindRule (unplacedPlace p) b (unplacedTy t) (unplacedTy u) ≡ unplacedRule (kindRule p b t u)
+kind-rule-unplaced : (p : ℕ) (b : Bool) (t u : Ty)
+    → kindRule (unplacedPlace p) b (unplacedTy t) (unplacedTy u) ≡ unplacedRule (kindRule p b t u)
 kind-rule-unplaced p b t u = rw (kind-unplaced t, kind-unplaced u)
 
 is-domain-unplaced : (u : Use) → isDomain (unplacedUse u) ≡ isDomain u
@@ -147,7 +172,8 @@ base-unplaced : (o : Option Attribute) → baseOfAttribute (Option·map unplaced
 base-unplaced none = refl
 base-unplaced (some a) = refl
 
-with-unplaced : (c : Def) (a : Attribute) → withAttribute (unplacedDef c) (unplacedAttribute a) ≡ unplacedDef (withAttribute c a)
+with-unplaced : (c : Def) (a : Attribute)
+    → withAttribute (unplacedDef c) (unplacedAttribute a) ≡ unplacedDef (withAttribute c a)
 unfolding withAttribute
 with-unplaced c a = rw (map-append unplacedAttribute (c .own) (a ∷ []))
 
@@ -155,16 +181,24 @@ with-unplaced c a = rw (map-append unplacedAttribute (c .own) (a ∷ []))
 extends-unplaced : (c : Sort) (r : Option Reference) (o : Option Def) →
     extendsRules c (Option·map unplacedReference r) (Option·map unplacedDef o) ≡ map unplacedRule (extendsRules c r o)
 unfolding extendsRules
-extends-unplaced c r o = rw (place-unplaced r, found-unplaced unplacedReference r, found-unplaced unplacedDef o, or-def-unplaced o)
+extends-unplaced c r o =
+    rw (place-unplaced r, found-unplaced unplacedReference r, found-unplaced unplacedDef o, or-def-unplaced o)
 
-domain-17-unplaced : (w : Written) (o : Option Def) → domain17 (unplacedWritten w) (Option·map unplacedDef o) ≡ unplacedRule (domain17 w o)
+domain-17-unplaced : (w : Written) (o : Option Def)
+    → domain17 (unplacedWritten w) (Option·map unplacedDef o) ≡ unplacedRule (domain17 w o)
 domain-17-unplaced w o =
     let b = orNoDef o .type in
-    rw (found-unplaced unplacedDef o, or-def-unplaced o, domain-type-unplaced (w .type) b, fits-unplaced (domainType (w .type) b) b)
+    rw (
+      found-unplaced unplacedDef o,
+      or-def-unplaced o,
+      domain-type-unplaced (w .type) b,
+      fits-unplaced (domainType (w .type) b) b,
+    )
 
 attribute-17-to-18-unplaced : (p : ℕ) (b m : Bool) (u v : Use) →
     attribute17To18 (unplacedPlace p) b m (unplacedUse u) (unplacedUse v) ≡ map unplacedRule (attribute17To18 p b m u v)
-attribute-17-to-18-unplaced p b m u v = rw (descends-unplaced u v, ty-unplaced u, ty-unplaced v, fits-unplaced (tyOf u) (tyOf v))
+attribute-17-to-18-unplaced p b m u v =
+    rw (descends-unplaced u v, ty-unplaced u, ty-unplaced v, fits-unplaced (tyOf u) (tyOf v))
 
 -- ---- topics, classes
 new-topic-unplaced : (s : State) (n : Name) → newTopic (unplacedState s) (unplacedName n) ≡ unplacedDef (newTopic s n)
@@ -176,23 +210,41 @@ taken-unplaced s n = rw (hand-unplaced s (n .bytes)) (found-unplaced unplacedDef
 
 module _ (s : State) (c : Sort) (n : Name) (p : List (List ℕ)) (o : Option Def) where
   class-rules-unplaced : (r : Option Reference) →
-      classRules (unplacedState s) c (unplacedName n) p (Option·map unplacedReference r) (Option·map unplacedDef o) ≡ map unplacedRule (classRules s c n p r o)
+      classRules (unplacedState s) c (unplacedName n) p (Option·map unplacedReference r) (Option·map unplacedDef o)
+      ≡ map unplacedRule (classRules s c n p r o)
   unfolding classRules
   class-rules-unplaced r = rw (taken-unplaced s n, extends-unplaced c r o, map-append unplacedRule (extendsRules c r o))
 
-  new-class-unplaced : newClass (unplacedState s) c (unplacedName n) p (Option·map unplacedDef o) ≡ unplacedDef (newClass s c n p o)
+  new-class-unplaced : newClass (unplacedState s) c (unplacedName n) p (Option·map unplacedDef o)
+      ≡ unplacedDef (newClass s c n p o)
   unfolding newClass
-  new-class-unplaced = rw (number-unplaced (s .topic), around-unplaced (s .topic), records-count-unplaced s, bases-unplaced o, or-def-unplaced o, attributes-unplaced (orNoDef o))
+  new-class-unplaced = rw (
+    number-unplaced (s .topic),
+    around-unplaced (s .topic),
+    records-count-unplaced s,
+    bases-unplaced o,
+    or-def-unplaced o,
+    attributes-unplaced (orNoDef o),
+  )
 
 -- ---- domains
 module _ (s : State) (n : Name) (p : List (List ℕ)) (w : Written) (o : Option Def) where
-  new-domain-unplaced : newDomain (unplacedState s) (unplacedName n) p (unplacedWritten w) (Option·map unplacedDef o) ≡ unplacedDef (newDomain s n p w o)
+  new-domain-unplaced : newDomain (unplacedState s) (unplacedName n) p (unplacedWritten w) (Option·map unplacedDef o)
+      ≡ unplacedDef (newDomain s n p w o)
   unfolding newDomain
   new-domain-unplaced =
-      rw (number-unplaced (s .topic), around-unplaced (s .topic), records-count-unplaced s, bases-unplaced o, or-def-unplaced o, domain-type-unplaced (w .type) (orNoDef o .type))
+      rw (
+        number-unplaced (s .topic),
+        around-unplaced (s .topic),
+        records-count-unplaced s,
+        bases-unplaced o,
+        or-def-unplaced o,
+        domain-type-unplaced (w .type) (orNoDef o .type),
+      )
 
   domain-to-16-unplaced : (r : Option Reference) →
-      domainTo16 (unplacedState s) (unplacedName n) p (Option·map unplacedReference r) (unplacedWritten w) (Option·map unplacedDef o) ≡ map unplacedRule (domainTo16 s n p r w o)
+      domainTo16 (unplacedState s) (unplacedName n) p (Option·map unplacedReference r) (unplacedWritten w)
+      (Option·map unplacedDef o) ≡ map unplacedRule (domainTo16 s n p r w o)
   unfolding domainTo16
   domain-to-16-unplaced r =
       let t = newDomain s n p w o .type in
@@ -211,20 +263,30 @@ module _ (s : State) (n : Name) (p : List (List ℕ)) (w : Written) (o : Option 
       )
 
   domain-rules-unplaced : (r : Option Reference) →
-      domainRules (unplacedState s) (unplacedName n) p (Option·map unplacedReference r) (unplacedWritten w) (Option·map unplacedDef o) ≡ map unplacedRule (domainRules s n p r w o)
+      domainRules (unplacedState s) (unplacedName n) p (Option·map unplacedReference r) (unplacedWritten w)
+      (Option·map unplacedDef o) ≡ map unplacedRule (domainRules s n p r w o)
   unfolding domainRules
-  domain-rules-unplaced r = rw (domain-to-16-unplaced r, domain-17-unplaced w o, map-append unplacedRule (domainTo16 s n p r w o))
+  domain-rules-unplaced r =
+      rw (domain-to-16-unplaced r, domain-17-unplaced w o, map-append unplacedRule (domainTo16 s n p r w o))
 
 -- ---- attributes
 module _ (s : State) (n : Name) (p : List (List ℕ)) (w : Written) (o : Option Attribute) (g : Option Def) where
   new-attribute-unplaced :
-      newAttribute (unplacedState s) (unplacedName n) p (unplacedWritten w) (Option·map unplacedAttribute o) (Option·map unplacedDef g)
+      newAttribute (unplacedState s) (unplacedName n) p (unplacedWritten w)
+      (Option·map unplacedAttribute o) (Option·map unplacedDef g)
       ≡ unplacedAttribute (newAttribute s n p w o g)
   unfolding newAttribute
-  new-attribute-unplaced = rw (records-count-unplaced s, or-def-unplaced g, or-attribute-unplaced o, base-unplaced o, use-unplaced (w .type) g (orNoAttribute o .use-of))
+  new-attribute-unplaced = rw (
+    records-count-unplaced s,
+    or-def-unplaced g,
+    or-attribute-unplaced o,
+    base-unplaced o,
+    use-unplaced (w .type) g (orNoAttribute o .use-of),
+  )
 
   attribute-to-16-unplaced : (c : Def) →
-      attributeTo16 (unplacedState s) (unplacedDef c) (unplacedName n) p (unplacedWritten w) (Option·map unplacedAttribute o) (Option·map unplacedDef g)
+      attributeTo16 (unplacedState s) (unplacedDef c) (unplacedName n) p (unplacedWritten w)
+      (Option·map unplacedAttribute o) (Option·map unplacedDef g)
       ≡ map unplacedRule (attributeTo16 s c n p w o g)
   unfolding attributeTo16
   attribute-to-16-unplaced c =
@@ -255,7 +317,8 @@ module _ (s : State) (n : Name) (p : List (List ℕ)) (w : Written) (o : Option 
       )
 
   attribute-rules-unplaced : (c : Def) →
-      attributeRules (unplacedState s) (unplacedDef c) (unplacedName n) p (unplacedWritten w) (Option·map unplacedAttribute o) (Option·map unplacedDef g)
+      attributeRules (unplacedState s) (unplacedDef c) (unplacedName n) p (unplacedWritten w)
+      (Option·map unplacedAttribute o) (Option·map unplacedDef g)
       ≡ map unplacedRule (attributeRules s c n p w o g)
   unfolding attributeRules
   attribute-rules-unplaced c =
@@ -266,21 +329,28 @@ module _ (s : State) (n : Name) (p : List (List ℕ)) (w : Written) (o : Option 
         reference-unplaced (w .type),
         found-unplaced unplacedReference (referenceIn (w .type)),
         or-attribute-unplaced o,
-        attribute-17-to-18-unplaced (w .place) (isFound o) (isGiven (referenceIn (w .type))) (newAttribute s n p w o g .use-of) (orNoAttribute o .use-of),
+        attribute-17-to-18-unplaced (w .place) (isFound o) (isGiven (referenceIn (w .type)))
+            (newAttribute s n p w o g .use-of) (orNoAttribute o .use-of),
         map-append unplacedRule (attributeTo16 s c n p w o g),
       )
 
 module _ (s : State) (n : Name) (p : List (List ℕ)) (w : Written) where
   member-rules-unplaced : (o : Option Def) →
-      memberRules (unplacedState s) (unplacedName n) p (unplacedWritten w) (Option·map unplacedDef o) ≡ map unplacedRule (memberRules s n p w o)
+      memberRules (unplacedState s) (unplacedName n) p (unplacedWritten w) (Option·map unplacedDef o)
+      ≡ map unplacedRule (memberRules s n p w o)
   member-rules-unplaced none = refl
   member-rules-unplaced (some c) =
       let g = resolved s (referenceIn (w .type)) in
-      rw (attribute-unplaced (n .bytes) (c .inherited), reference-unplaced (w .type), resolved-unplaced s (referenceIn (w .type)))
+      rw (
+        attribute-unplaced (n .bytes) (c .inherited),
+        reference-unplaced (w .type),
+        resolved-unplaced s (referenceIn (w .type)),
+      )
       (attribute-rules-unplaced s n p w (inheritedAs c n) g c)
 
   after-member-unplaced : (o : Option Def) →
-      afterMember (unplacedState s) (unplacedName n) p (unplacedWritten w) (Option·map unplacedDef o) ≡ unplacedState (afterMember s n p w o)
+      afterMember (unplacedState s) (unplacedName n) p (unplacedWritten w) (Option·map unplacedDef o)
+      ≡ unplacedState (afterMember s n p w o)
   after-member-unplaced none = refl
   after-member-unplaced (some c) =
       let g = resolved s (referenceIn (w .type)) in
@@ -295,12 +365,14 @@ module _ (s : State) (n : Name) (p : List (List ℕ)) (w : Written) where
 module _ (s : State) where
   -- ---- END
   end-rules-unplaced : (n : Name) (c t : Option Def) →
-      endRules (unplacedName n) (openName (unplacedState s) (Option·map unplacedDef c) (Option·map unplacedDef t)) ≡ map unplacedRule (endRules n (openName s c t))
+      endRules (unplacedName n) (openName (unplacedState s) (Option·map unplacedDef c) (Option·map unplacedDef t))
+      ≡ map unplacedRule (endRules n (openName s c t))
   end-rules-unplaced n (some c) t = refl
   end-rules-unplaced n none (some t) = refl
   end-rules-unplaced n none none = refl
 
-  after-close-unplaced : (c t : Option Def) → afterClose (unplacedState s) (Option·map unplacedDef c) (Option·map unplacedDef t) ≡ unplacedState (afterClose s c t)
+  after-close-unplaced : (c t : Option Def) → afterClose (unplacedState s) (Option·map unplacedDef c)
+      (Option·map unplacedDef t) ≡ unplacedState (afterClose s c t)
   after-close-unplaced (some c) t = declare-unplaced s (D.def c)
   after-close-unplaced none (some t) = rw (map-append unplacedDecl (s .decls) (D.endTopic (t .name) ∷ []))
   after-close-unplaced none none = refl
@@ -318,25 +390,31 @@ module _ (s : State) where
   pub next-unplaced : (u : U.Unit) → nextState (unplacedState s) (unplacedUnit u) ≡ unplacedState (nextState s u)
   next-unplaced (U.header v) = refl
   next-unplaced (U.model n q) = refl
-  next-unplaced (U.topic n) = rw (new-topic-unplaced s n, map-append unplacedDecl (s .decls) (D.def (newTopic s n) ∷ []))
+  next-unplaced (U.topic n) =
+      rw (new-topic-unplaced s n, map-append unplacedDecl (s .decls) (D.def (newTopic s n) ∷ []))
   next-unplaced (U.class c n p r) = rw (resolved-unplaced s r, new-class-unplaced s c n p (resolved s r))
-  next-unplaced (U.domain n p r w) = rw (resolved-unplaced s r, new-domain-unplaced s n p w (resolved s r)) (declare-unplaced s (D.def (newDomain s n p w (resolved s r))))
+  next-unplaced (U.domain n p r w) = rw (resolved-unplaced s r, new-domain-unplaced s n p w (resolved s r))
+      (declare-unplaced s (D.def (newDomain s n p w (resolved s r))))
   next-unplaced (U.attribute n p w) = after-member-unplaced s n p w (s .open-class)
   next-unplaced (U.close n) = after-close-unplaced (s .open-class) (s .topic)
 
 -- ---- the judgement
-first-broken-unplaced : (l : List Rule) (s : State) → firstBrokenOr (map unplacedRule l) (unplacedState s) ≡ unplacedJudged (firstBrokenOr l s)
+first-broken-unplaced : (l : List Rule) (s : State)
+    → firstBrokenOr (map unplacedRule l) (unplacedState s) ≡ unplacedJudged (firstBrokenOr l s)
 first-broken-unplaced [] s = refl
-first-broken-unplaced (r ∷ l) s = rw (first-broken-unplaced l s) (cond-unplaced unplacedJudged (r .broken) (refused (r .number) (r .place)) (firstBrokenOr l s))
+first-broken-unplaced (r ∷ l) s = rw (first-broken-unplaced l s)
+    (cond-unplaced unplacedJudged (r .broken) (refused (r .number) (r .place)) (firstBrokenOr l s))
 
 pub judge-unplaced : (s : State) (u : U.Unit) → judge (unplacedState s) (unplacedUnit u) ≡ unplacedJudged (judge s u)
 unfolding judge
 judge-unplaced s u = rw (rules-unplaced s u, next-unplaced s u) (first-broken-unplaced (rulesOf s u) (nextState s u))
 
 -- 19
-room-unplaced : (g : Given) (p : ℕ) (j : Judged) → room g (unplacedPlace p) (unplacedJudged j) ≡ unplacedJudged (room g p j)
+room-unplaced : (g : Given) (p : ℕ) (j : Judged)
+    → room g (unplacedPlace p) (unplacedJudged j) ≡ unplacedJudged (room g p j)
 room-unplaced g p (refused n q) = refl
-room-unplaced g p (ok s) = rw (book-length-unplaced s) (cond-unplaced unplacedJudged (ltb (capacity g) (length (book s))) (refused 19 p) (ok s))
+room-unplaced g p (ok s) = rw (book-length-unplaced s)
+    (cond-unplaced unplacedJudged (ltb (capacity g) (length (book s))) (refused 19 p) (ok s))
 
 unit-place-unplaced : (u : U.Unit) → unitPlace (unplacedUnit u) ≡ unplacedPlace (unitPlace u)
 unit-place-unplaced (U.header v) = refl
@@ -347,9 +425,11 @@ unit-place-unplaced (U.domain n p r w) = refl
 unit-place-unplaced (U.attribute n p w) = refl
 unit-place-unplaced (U.close n) = refl
 
-pub judged-unplaced : (g : Given) (s : State) (u : Option U.Unit) → judged g (unplacedState s) (Option·map unplacedUnit u) ≡ unplacedJudged (judged g s u)
+pub judged-unplaced : (g : Given) (s : State) (u : Option U.Unit)
+    → judged g (unplacedState s) (Option·map unplacedUnit u) ≡ unplacedJudged (judged g s u)
 judged-unplaced g s none = refl
-judged-unplaced g s (some u) = rw (unit-place-unplaced u, judge-unplaced s u) (room-unplaced g (unitPlace u) (judge s u))
+judged-unplaced g s (some u) =
+    rw (unit-place-unplaced u, judge-unplaced s u) (room-unplaced g (unitPlace u) (judge s u))
 
 -- ---- judgements that are the same apart from places
 same-alike : (j k : Judged) → unplacedJudged j ≡ unplacedJudged k → Alike j k
@@ -358,8 +438,10 @@ same-alike (ok s) (refused m q) e = let z : _≡_ {A = ℕ} 0 1 = cc in absurd (
 same-alike (refused n p) (ok x) e = let z : _≡_ {A = ℕ} 0 1 = cc in absurd (omega arith)
 same-alike (refused n p) (refused m q) e = cc
 
-judged-alike : (g : Given) (s x : State) (u v : U.Unit) → SameStates s x → SameUnits u v → Alike (judged g s (some u)) (judged g x (some v))
-judged-alike g s x u v p q = same-alike (judged g s (some u)) (judged g x (some v)) (sym (judged-unplaced g s (some u)) ∙ rw (p, q) (judged-unplaced g x (some v)))
+judged-alike : (g : Given) (s x : State) (u v : U.Unit) → SameStates s x → SameUnits u v
+    → Alike (judged g s (some u)) (judged g x (some v))
+judged-alike g s x u v p q = same-alike (judged g s (some u)) (judged g x (some v))
+    (sym (judged-unplaced g s (some u)) ∙ rw (p, q) (judged-unplaced g x (some v)))
 
 pub places-idle : PlacesIdle
 places-idle = record {

@@ -1,5 +1,5 @@
--- Document 01, "Types and bases", as claims about `check`: what is accepted reads legally all the way up; 17 refuses only where a value shows
--- it, and nothing is accepted where one does.
+-- Document 01, "Types and bases", as claims about `check`: what is accepted reads legally all the way up; 17 refuses
+-- only where a value shows it, and nothing is accepted where one does.
 use mathlib.Core.Path.{_≡_}
 use mathlib.Core.Bool.{false, _&&_}
 use mathlib.Core.Option.{none, some}
@@ -18,7 +18,8 @@ use Rattle.claims.specs.Steps.{Inherits, EveryReading, BookedBases, Reco
 use Rattle.claims.specs.Reached.{Judges}
 use Rattle.claims.specs.Ranking.{rank}
 
--- ---- accepted: the text declares a state, with every class closed; every legal value reads legally at every base; the bases are the book's
+-- ---- accepted: the text declares a state, with every class closed; every legal value reads legally at every base;
+-- the bases are the book's
 pub record ModelReads (t : List ℕ) (g : Given) : Type 0 where
   pub state : State
   pub runs : run t g ≡ kept state
@@ -35,20 +36,24 @@ abbrev pub useOver : State → Written → Attribute → Use
 useOver s w a = attributeUse (w .type) (resolved s (referenceIn (w .type))) (a .use-of)
 
 -- ---- 17: the unit u, judged in the state s, puts the type t over the base's type b, and 17 judges that one step
--- a domain over what it extends; an attribute over the nearest inherited one, unless it names the base's domain or structure or a descendant:
--- its steps are then those of the domains between, each judged where that domain was declared
+-- a domain over what it extends; an attribute over the nearest inherited one, unless it names the base's
+-- domain or structure or a descendant: its steps are then those of the domains between, each judged where
+-- that domain was declared
 abbrev pub Extends : State → U.Unit → Ty → Ty → Type 0
 Extends s (U.header v) t b = ⊥
 Extends s (U.model n q) t b = ⊥
 Extends s (U.topic n) t b = ⊥
 Extends s (U.class c n p r) t b = ⊥
-Extends s (U.domain n p r w) t b = (d : Def) × (resolved s r ≡ some d) × (t ≡ domainType (w .type) (d .type)) × (b ≡ d .type)
+Extends s (U.domain n p r w) t b =
+    (d : Def) × (resolved s r ≡ some d) × (t ≡ domainType (w .type) (d .type)) × (b ≡ d .type)
 Extends s (U.attribute n p w) t b =
-    (c : Def) × (a : Attribute) × (s .open-class ≡ some c) × Inherits s (n .bytes) a c × ((isGiven (referenceIn (w .type)) && descends (useOver s w a) (a .use-of)) ≡ false)
+    (c : Def) × (a : Attribute) × (s .open-class ≡ some c) × Inherits s (n .bytes) a c
+    × ((isGiven (referenceIn (w .type)) && descends (useOver s w a) (a .use-of)) ≡ false)
     × (t ≡ tyOf (useOver s w a)) × (b ≡ tyOf (a .use-of))
 Extends s (U.close n) t b = ⊥
 
--- a unit that is refused by 17: of its type, which is of the base's kind, there is a legal value with an illegal reading at the base
+-- a unit that is refused by 17: of its type, which is of the base's kind, there is a legal value with an
+-- illegal reading at the base
 pub record Misfit (t : List ℕ) (g : Given) (p : ℕ) : Type 0 where
   pub state : State
   pub unit : U.Unit
@@ -72,7 +77,9 @@ pub record RefusedThere (t : List ℕ) (g : Given) (s : State) (u : U.Unit) : Ty
   pub by : rank number ≤ rank 17
 
 abbrev pub ValueRefuses : Type 0
-ValueRefuses = (t : List ℕ) (g : Given) (s : State) (u : U.Unit) → Judges t g s u → (x b : Ty) → Extends s u x b → Outside x b → RefusedThere t g s u
+ValueRefuses =
+    (t : List ℕ) (g : Given) (s : State) (u : U.Unit) → Judges t g s u → (x b : Ty) → Extends s u x b
+    → Outside x b → RefusedThere t g s u
 
 pub record Demand3 : Type 0 where
   pub accepted-reads : AcceptedReads

@@ -1,5 +1,5 @@
--- Document 01, "Types and bases" and "Refusals in order", 9 and 17: no list of an enumeration that a text declares has an element twice, so
--- that 17 refuses an enumeration written over it exactly where it adds to a FINAL list or leaf.
+-- Document 01, "Types and bases" and "Refusals in order", 9 and 17: no list of an enumeration that a text declares has
+-- an element twice, so that 17 refuses an enumeration written over it exactly where it adds to a FINAL list or leaf.
 use mathlib.Core.Path.{_≡_}
 use mathlib.Core.Bool.{Bool, true}
 use mathlib.Core.Option.{none, some}
@@ -28,11 +28,13 @@ pub record Distinct (t : Ty) : Type 0 where
   pub elements : distinctIn t ≡ true
   pub added : (b e : Enum) → t ≡ enum b → twice e [] ≡ none → fits (mergedInto t e) t ≡ addsNothing e b
 
--- of all that is declared before a unit is judged, or at the end: definitions, their attributes, and those of the class that is being read
+-- of all that is declared before a unit is judged, or at the end: definitions, their attributes, and those of the
+-- class that is being read
 pub record DistinctAt (s : State) : Type 0 where
   pub definition : (d : Def) → Declared s d → Distinct (d .type)
   pub attribute : (d : Def) → Declared s d → (a : Attribute) → In a (attributesOf d) → Distinct (tyOf (a .use-of))
-  pub member : (c : Def) → s .open-class ≡ some c → (a : Attribute) → In a (attributesOf c) → Distinct (tyOf (a .use-of))
+  pub member : (c : Def) → s .open-class ≡ some c → (a : Attribute)
+      → In a (attributesOf c) → Distinct (tyOf (a .use-of))
 
 abbrev pub AllDistinct : Type 0
 AllDistinct = (t : List ℕ) (g : Given) (f : ℕ) (w : Where) (s : State) (at : ℕ) → Reaches t g f w s at → DistinctAt s

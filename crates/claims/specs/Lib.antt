@@ -1,10 +1,3 @@
-pub mod Example
-pub mod Cases
-pub mod Marked
-pub mod Order
-pub mod Pinned
-pub mod EveryKind
-pub mod AttributeCount
 pub mod Readings
 pub mod Merging
 pub mod Rounding
@@ -15,5 +8,4 @@ pub mod Promise
 pub mod Numbered
 pub mod Demand3
 pub mod Distinct
-pub mod Shut
 pub mod Unplaced

@@ -1,5 +1,5 @@
--- Document 01, "Refusals in order": a refusal has one number of the table and one place of the text; and an acceptance has a length and a count
--- that the limits bound.
+-- Document 01, "Refusals in order": a refusal has one number of the table and one place of the text; and an acceptance
+-- has a length and a count that the limits bound.
 use mathlib.Core.Path.{_≡_}
 use mathlib.Core.Bool.{true}
 use mathlib.Core.List.{List, [], _∷_}

@@ -1,5 +1,5 @@
--- Document 01, "Refusals in order" and "What a reader may rely on": what is promised of checking a text allows one outcome; after a refusal
--- the buffer is zero, and on acceptance it holds the book.
+-- Document 01, "Refusals in order" and "What a reader may rely on": what is promised of checking a text allows one
+-- outcome; after a refusal the buffer is zero, and on acceptance it holds the book.
 use mathlib.Core.Path.{_≡_}
 use mathlib.Core.List.{List}
 use Prim.Native.Nat.{ℕ, _≤_}
@@ -26,10 +26,11 @@ abbrev pub Zeros : List ℕ → Type 0
 Zeros b = (x : ℕ) → In x b → x ≡ 0
 
 abbrev pub RefusedZeros : Type 0
-RefusedZeros = (t : List ℕ) (g : Given) (n p : ℕ) (b : List ℕ) → Promise t g (refusing n p) b → (length b ≡ g .buffer) × Zeros b
+RefusedZeros =
+    (t : List ℕ) (g : Given) (n p : ℕ) (b : List ℕ) → Promise t g (refusing n p) b → (length b ≡ g .buffer) × Zeros b
 
--- ---- on acceptance it holds the book, which fits, and then zeros; read record by record, up to the first zero for a kind, it gives the records
--- again; the answer is the book's length and the count of its definitions
+-- ---- on acceptance it holds the book, which fits, and then zeros; read record by record, up to the first zero for a
+-- kind, it gives the records again; the answer is the book's length and the count of its definitions
 pub record Booked (t : List ℕ) (g : Given) (n k : ℕ) (b : List ℕ) : Type 0 where
   pub state : State
   pub runs : run t g ≡ kept state

@@ -1,5 +1,5 @@
--- Document 01, "Refusals in order": within a unit that is read, first the attribute count of 4, then 7 to 19. Of a unit's rules the refusal is
--- by the first in this order that is broken, and of one number the first symbol is named.
+-- Document 01, "Refusals in order": within a unit that is read, first the attribute count of 4, then 7 to 19. Of a
+-- unit's rules the refusal is by the first in this order that is broken, and of one number the first symbol is named.
 use mathlib.Core.Path.{_≡_}
 use mathlib.Core.Logic.{_⊎_, _↔_}
 use mathlib.Core.Bool.{Bool, true, false, cond, _&&_, _||_}
@@ -58,7 +58,8 @@ brokenAt n (r ∷ l) = cond (eqb (r .number) n && r .broken) (some (r .place)) (
 abbrev pub allRules : Given → State → U.Unit → List Rule
 allRules g s u = rulesOf s u ++ (rule 19 (unitPlace u) (ltb (capacity g) (length (book (nextState s u)))) ∷ [])
 
--- ---- a refusal, as the document says it: no rule of a lower rank is broken, and of those with this number the first that is broken is named
+-- ---- a refusal, as the document says it: no rule of a lower rank is broken, and of those with this number the first
+-- that is broken is named
 pub record Leads (l : List Rule) (n p : ℕ) : Type 0 where
   pub lower : (r : Rule) → In r l → rank (r .number) < rank n → r .broken ≡ false
   pub named : brokenAt n l ≡ some p
@@ -88,11 +89,12 @@ pub record UnitRanked (g : Given) (s : State) (u : U.Unit) : Type 0 where
 abbrev pub UnitsRanked : Type 0
 UnitsRanked = (g : Given) (s : State) (u : U.Unit) → UnitRanked g s u
 
--- ---- every text: a refusal is of its length, before all; or of the first unit that cannot be read, by 2 to 6; or by the first rule of the first
--- unit that breaks one. The units before were passed
+-- ---- every text: a refusal is of its length, before all; or of the first unit that cannot be read, by 2 to 6; or by
+-- the first rule of the first unit that breaks one. The units before were passed
 pub data Unread (t : List ℕ) (g : Given) (f : Fault) (p : ℕ) : Type 0 where
   long : ltb 65535 (length t) ≡ true → f ≡ too-long → p ≡ 0 → Unread t g f p
-  stuck : {k : ℕ} {w : Where} {s : State} {at : ℕ} → Reaches t g (suc k) w s at → unitAt w t (symbolAt t at) ≡ R.refused f p → Unread t g f p
+  stuck : {k : ℕ} {w : Where} {s : State} {at : ℕ} → Reaches t g (suc k) w s at
+      → unitAt w t (symbolAt t at) ≡ R.refused f p → Unread t g f p
 
 pub record RuleBroken (t : List ℕ) (g : Given) (s : State) (n p : ℕ) : Type 0 where
   pub unit : U.Unit
@@ -107,5 +109,6 @@ Refused t g n p = ((f : Fault) × (n ≡ numberOf f) × Unread t g f p) ⊎ ((s 
 pub record TextsRanked : Type 0 where
   pub refused : (t : List ℕ) (g : Given) (n p : ℕ) → (check t g .answer ≡ refusing n p) ↔ Refused t g n p
   -- from 7 on, and where the count of 4 refuses, a rule was broken
-  pub broken : (t : List ℕ) (g : Given) (n p : ℕ) → check t g .answer ≡ refusing n p → 7 ≤ n → (s : State) × RuleBroken t g s n p
+  pub broken : (t : List ℕ) (g : Given) (n p : ℕ) → check t g .answer ≡ refusing n p → 7 ≤ n
+      → (s : State) × RuleBroken t g s n p
   pub ruled-out : (t : List ℕ) (g : Given) (s : State) (n p : ℕ) → run t g ≡ ruledOut s n p → RuleBroken t g s n p

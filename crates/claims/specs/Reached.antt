@@ -15,12 +15,13 @@ use Rattle.rules.specs.Declarations.{State}
 use Rattle.rules.specs.Judge.{ok}
 use Rattle.rules.specs.Check.{Given, judged, isOver, nothing}
 
--- checking the text t with what is given, g, comes, after units that were not refused, to a place, what may stand there, and a state; f bounds
--- the units that follow
+-- checking the text t with what is given, g, comes, after units that were not refused, to a place, what may stand
+-- there, and a state; f bounds the units that follow
 pub data Reaches (t : List ℕ) (g : Given) : ℕ → Where → State → ℕ → Type 0 where
   begin : ltb 65535 (length t) ≡ false → Reaches t g (enough t) start nothing 0
-  pass : {f : ℕ} {w : Where} {s : State} {at : ℕ} → Reaches t g (suc f) w s at → isOver w ≡ false → (q : Step) (y : Symbol) (x : State) →
-      unitAt w t (symbolAt t at) ≡ done q y → judged g s (q .unit) ≡ ok x → Reaches t g f (q .next) x (q .behind)
+  pass : {f : ℕ} {w : Where} {s : State} {at : ℕ} → Reaches t g (suc f) w s at → isOver w ≡ false
+      → (q : Step) (y : Symbol) (x : State)
+      → unitAt w t (symbolAt t at) ≡ done q y → judged g s (q .unit) ≡ ok x → Reaches t g f (q .next) x (q .behind)
 
 -- it judges the unit u in the state s
 pub record Judges (t : List ℕ) (g : Given) (s : State) (u : U.Unit) : Type 0 where

@@ -1,4 +1,5 @@
--- Document 01, "Types and bases", as a claim: 17 refuses exactly the types of which some legal value has an illegal reading at the base.
+-- Document 01, "Types and bases", as a claim: 17 refuses exactly the types of which some legal value has an
+-- illegal reading at the base.
 use mathlib.Core.Path.{_≡_}
 use mathlib.Core.Logic.{_↔_}
 use mathlib.Core.Bool.{Bool, true, false, _&&_}
@@ -48,7 +49,8 @@ pub record Judged (t b : Ty) : Type 0 where
   pub inside : (fits t b ≡ true) ↔ Inside t b
   pub outside : (fits t b ≡ false) ↔ Outside t b
 
--- a range's first bound is not greater: by 14 no other comes to 17. One whose first bound is greater has no legal value, and its bounds would be judged all the same
+-- a range's first bound is not greater: by 14 no other comes to 17. One whose first bound is greater has no legal
+-- value, and its bounds would be judged all the same
 abbrev pub proper : Ty → Bool
 proper (text m n) = true
 proper (range r) = leZ (r .low) (r .high)
@@ -64,7 +66,8 @@ abbrev pub RangesJudged : Type 0
 RangesJudged = (r b : Range) → proper (range r) ≡ true → Judged (range r) (range b)
 
 abbrev pub NumericJudged : Type 0
-NumericJudged = ((r : Range) → Judged (range r) numeric) × ((b : Range) → Judged numeric (range b)) × Judged numeric numeric
+NumericJudged =
+    ((r : Range) → Judged (range r) numeric) × ((b : Range) → Judged numeric (range b)) × Judged numeric numeric
 
 abbrev pub EnumerationsJudged : Type 0
 EnumerationsJudged = (e b : Enum) → Judged (enum e) (enum b)
@@ -76,7 +79,8 @@ TypesJudged = (t b : Ty) → proper t ≡ true → kindOf t ≡ kindOf b → Jud
 abbrev pub KindsTold : Type 0
 KindsTold = (n : Option ℕ) → (fits (text false n) (text true n) ≡ false) × Inside (text false n) (text true n)
 
--- ---- along types of which each fits the next, a legal value of the first has a legal reading at each, one step after the other
+-- ---- along types of which each fits the next, a legal value of the first has a legal reading at each,
+-- one step after the other
 abbrev pub Stair : Ty → List Ty → Type 0
 Stair t [] = Unit
 Stair t (b ∷ l) = (fits t b ≡ true) × Stair b l

@@ -1,5 +1,5 @@
--- Document 01, "Types and bases" and "Errors that look right", as claims on reading numbers: the reading is the only one that rounds as asked,
--- and what comes near it is another.
+-- Document 01, "Types and bases" and "Errors that look right", as claims on reading numbers: the reading is the only
+-- one that rounds as asked, and what comes near it is another.
 use mathlib.Core.Path.{_≡_}
 use mathlib.Core.Logic.{_↔_}
 use mathlib.Core.Bool.{true, false}
@@ -24,8 +24,8 @@ pub record Rounding : Type 0 where
   -- the operation gives this reading or none
   pub operation : (v : ℤ) (d db : ℕ) (w : ℤ) → readNumber v d db ≡ N.reads w → w ≡ N.reading d db v
 
--- ---- other ways to come from tenths to a whole number, each with a number of tenths that it takes elsewhere: leaving the rest away, halves
--- away from zero, and dividing towards zero
+-- ---- other ways to come from tenths to a whole number, each with a number of tenths that it takes elsewhere: leaving
+-- the rest away, halves away from zero, and dividing towards zero
 abbrev pub Elsewhere : (ℤ → ℕ → ℤ) → Type 0
 Elsewhere f = (v : ℤ) × (¬ (f v 10 ≡ rounded v 10))
 

@@ -1,5 +1,6 @@
--- Document 01, "Refusals in order": no rule's test looks at a place. Set to 0 every place of what a definition is given: it gives the same, with
--- every place 0. So where a unit stands never changes how it is judged; layout and comments leave nothing else in it.
+-- Document 01, "Refusals in order": no rule's test looks at a place. Set to 0 every place of what a definition is
+-- given: it gives the same, with every place 0. So where a unit stands never changes how it is judged; layout and
+-- comments leave nothing else in it.
 use mathlib.Core.Path.{_≡_}
 use mathlib.Core.Bool.{cond}
 use mathlib.Core.Option.{Option, some, Option·map}
@@ -51,7 +52,11 @@ unplacedType (G.enum e) = G.enum (unplacedEnum e)
 unplacedType (G.named r) = G.named (unplacedReference r)
 
 abbrev pub unplacedWritten : Written → Written
-unplacedWritten w = record { mandatory = w .mandatory; place = unplacedPlace (w .place); type = Option·map unplacedType (w .type) }
+unplacedWritten w = record {
+  mandatory = w .mandatory;
+  place = unplacedPlace (w .place);
+  type = Option·map unplacedType (w .type);
+}
 
 abbrev pub unplacedUnit : U.Unit → U.Unit
 unplacedUnit (U.header v) = U.header (unplacedSymbol v)
@@ -162,7 +167,8 @@ pub record PlacesIdle : Type 0 where
   pub doubling : (e : Enum) (l : List (List ℕ)) → twice (unplacedEnum e) l ≡ Option·map unplacedPlace (twice e l)
   pub fitting : (t b : Ty) → fits (unplacedTy t) (unplacedTy b) ≡ fits t b
   -- names
-  pub references : (s : State) (r : Reference) → resolve (unplacedState s) (unplacedReference r) ≡ Option·map unplacedDef (resolve s r)
+  pub references : (s : State) (r : Reference)
+      → resolve (unplacedState s) (unplacedReference r) ≡ Option·map unplacedDef (resolve s r)
   -- the book: its records apart from offsets; so their count, its length, and the definition count
   pub recorded : (s : State) → records (unplacedState s) ≡ map unplacedRecord (records s)
   pub counted : (s : State) → length (records (unplacedState s)) ≡ length (records s)
@@ -172,7 +178,10 @@ pub record PlacesIdle : Type 0 where
   pub rules : (s : State) (u : U.Unit) → rulesOf (unplacedState s) (unplacedUnit u) ≡ map unplacedRule (rulesOf s u)
   pub next : (s : State) (u : U.Unit) → nextState (unplacedState s) (unplacedUnit u) ≡ unplacedState (nextState s u)
   pub judging : (s : State) (u : U.Unit) → judge (unplacedState s) (unplacedUnit u) ≡ unplacedJudged (judge s u)
-  pub within : (g : Given) (s : State) (u : Option U.Unit) → judged g (unplacedState s) (Option·map unplacedUnit u) ≡ unplacedJudged (judged g s u)
-  -- so the same units in the same states, apart from places, are judged alike; and the same states have the same book, apart from offsets
-  pub alike : (g : Given) (s x : State) (u v : U.Unit) → SameStates s x → SameUnits u v → Alike (judged g s (some u)) (judged g x (some v))
+  pub within : (g : Given) (s : State) (u : Option U.Unit)
+      → judged g (unplacedState s) (Option·map unplacedUnit u) ≡ unplacedJudged (judged g s u)
+  -- so the same units in the same states, apart from places, are judged alike; and the same states have the same
+  -- book, apart from offsets
+  pub alike : (g : Given) (s x : State) (u v : U.Unit) → SameStates s x → SameUnits u v
+      → Alike (judged g s (some u)) (judged g x (some v))
   pub booked : (s x : State) → SameStates s x → map unplacedRecord (records s) ≡ map unplacedRecord (records x)

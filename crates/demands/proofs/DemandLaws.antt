@@ -8,17 +8,17 @@ use Rattle.rules.specs.Check as C
 use Rattle.rules.specs.Check.{lent, kept, run, accepted, refusal, check}
 use Rattle.claims.specs.Promise.{OnlyOne}
 use Rattle.claims.specs.Steps.{EveryReading}
-use Rattle.claims.proofs.Tables.{marked-hold}
+use Rattle.computed.proofs.Marked.{marked-hold}
 use Rattle.claims.proofs.PromiseLaws.{same-accepted, same-refused, one-outcome, refused-zeros, accepted-book}
 use Rattle.claims.proofs.RankingLaws.{units-ranked, texts-ranked}
 use Rattle.claims.proofs.NumberedLaws.{refused-numbered}
 use Rattle.claims.proofs.DistinctLaws.{all-distinct}
-use Rattle.claims.proofs.ShutLaws.{shut}
+use Rattle.computed.proofs.ShutLaws.{shut}
 use Rattle.claims.proofs.Demand3Laws.{demand3}
 use Rattle.claims.proofs.RunLaws.{Ending, Ended, run-ends}
-use Rattle.running.specs.declared.Answer.{Answer}
-use Rattle.running.specs.declared.Answer.the-variants.{Accepted, Refused}
-use Rattle.trying.specs.Promise.{answerOf}
+use Rattle.answers.specs.declared.Answer.{Answer}
+use Rattle.answers.specs.declared.Answer.the-variants.{Accepted, Refused}
+use Rattle.answers.specs.Answers.{answerOf}
 use Rattle.demands.specs.Demands.{Gives, Demand1, Demand2, NumbersRead, Demand3, Demands}
 use Rattle.demands.proofs.PackLaws.{unpacks-answer, unpacks-name}
 use Rattle.demands.proofs.FairLaws.{reached-fair, reached-typed}
@@ -87,8 +87,13 @@ module _ (t : List ℕ) (m : ℕ) where
     numbers = numbers;
     witness = λ p b h. demand3 .refused-has-value t (lent m) p (sym (h .answer));
     refuses = λ s u j x y e o r b h.
-        let v = demand3 .value-refuses t (lent m) s u j x y e o in
-        (v .number, v .place, same-answer r (Refused (v .number) (v .place)) (h .answer ∙ v .answers), v .refuses, v .by);
+        let v = demand3 .value-refuses t (lent m) s u j x y e o in (
+          v .number,
+          v .place,
+          same-answer r (Refused (v .number) (v .place)) (h .answer ∙ v .answers),
+          v .refuses,
+          v .by,
+        );
   }
 
 pub demands : Demands

@@ -10,7 +10,8 @@ use Rattle.rules.specs.Units as U
 use Rattle.rules.specs.Units.{Where}
 use Rattle.rules.specs.Types.{structure}
 use Rattle.rules.specs.Declarations.{Def, domain, def, State, known}
-use Rattle.rules.specs.Judge.{ok, judge, resolved, newTopic, newClass, newDomain, withAttribute, afterMember, afterClose, nextState}
+use Rattle.rules.specs.Judge.{ok, judge, resolved, newTopic, newClass, newDomain, withAttribute, afterMember}
+use Rattle.rules.specs.Judge.{afterClose, nextState}
 use Rattle.rules.specs.Check.{lent, unitPlace, judged}
 use Rattle.rules.specs.All.{All, AnyIs}
 use Rattle.rules.proofs.AllLaws.{all-append}
@@ -27,19 +28,23 @@ use Rattle.claims.proofs.NumberedLaws.{reached-short}
 use Rattle.running.proofs.RunLaws.{room-ok, placed-then}
 
 -- ---- fair
-judged-fair : (t : List ℕ) (m : ℕ) (s x : State) (u : Option U.Unit) → FairState t s → AnyIs (FairUnit t) u → AnyIs (MayStand s) u → judged (lent m) s u ≡ ok x →
-    FairState t x
+judged-fair : (t : List ℕ) (m : ℕ) (s x : State) (u : Option U.Unit) → FairState t s → AnyIs (FairUnit t) u
+    → AnyIs (MayStand s) u → judged (lent m) s u ≡ ok x
+    → FairState t x
 judged-fair t m s x none h f p j = let e : s ≡ x = cc in subst (FairState t) e h
 judged-fair t m s x (some u) h f p j = judge-fair t s x u f p h (room-ok m (unitPlace u) (judge s u) x j)
 
-pub reached-fair : (t : List ℕ) (m : ℕ) {f : ℕ} {w : Where} {s : State} {at : ℕ} → Reaches t (lent m) f w s at → FairState t s × Placed w s
+pub reached-fair : (t : List ℕ) (m : ℕ) {f : ℕ} {w : Where} {s : State} {at : ℕ}
+    → Reaches t (lent m) f w s at → FairState t s × Placed w s
 reached-fair t m (begin e) = (fair-nothing t, record { decls = refl; topic = refl; open-class = refl })
 reached-fair t m (pass {w = w} {s = s} {at = at} r o q y x e j) =
     let (h, p) = reached-fair t m r in
     let z = symbolAt t at in
     let short = reached-short t (lent m) r in
-    let fair = unit-fair t w z q y (omega arith) (at-stands t at (reached-place t (lent m) r .0)) e in
-    (judged-fair t m s x (q .unit) h fair (may-stand t w s z q y p e) j, placed-then t m w s z q y p o e (q .unit) refl x j)
+    let fair = unit-fair t w z q y (omega arith) (at-stands t at (reached-place t (lent m) r .0)) e in (
+      judged-fair t m s x (q .unit) h fair (may-stand t w s z q y p e) j,
+      placed-then t m w s z q y p o e (q .unit) refl x j,
+    )
 
 -- ---- types
 abbrev pub Typed : Def → Type 0
@@ -51,7 +56,8 @@ AllTyped s = All Typed (known (s .decls)) × AnyIs Typed (s .open-class)
 declare-typed : (s : State) (d : Def) → AllTyped s → Typed d → All Typed (known (s .decls ++ (def d ∷ [])))
 declare-typed s d h k = rw known-append (all-append Typed (known (s .decls)) (d ∷ []) (h .0) (k, tt))
 
-member-typed : (s : State) → AllTyped s → (n : _) (p : _) (w : _) (o : Option Def) → AnyIs Typed o → AllTyped (afterMember s n p w o)
+member-typed : (s : State) → AllTyped s → (n : _) (p : _) (w : _) (o : Option Def) → AnyIs Typed o
+    → AllTyped (afterMember s n p w o)
 unfolding withAttribute
 member-typed s h n p w none k = h
 member-typed s h n p w (some c) k = (h .0, k)
@@ -71,5 +77,7 @@ next-typed s (U.domain n p r w) h = (declare-typed s (newDomain s n p w (resolve
 next-typed s (U.attribute n p w) h = member-typed s h n p w (s .open-class) (h .1)
 next-typed s (U.close n) h = close-typed s h (s .open-class) (s .topic) (h .1)
 
-pub reached-typed : (t : List ℕ) (m : ℕ) {f : ℕ} {w : Where} {s : State} {at : ℕ} → Reaches t (lent m) f w s at → All Typed (known (s .decls))
-reached-typed t m r = reached-keeps t (lent m) AllTyped (record { begins = (tt, tt); goes = λ s u b h v k. next-typed s u h }) r .0
+pub reached-typed : (t : List ℕ) (m : ℕ) {f : ℕ} {w : Where} {s : State} {at : ℕ} → Reaches t (lent m) f w s at
+    → All Typed (known (s .decls))
+reached-typed t m r =
+    reached-keeps t (lent m) AllTyped (record { begins = (tt, tt); goes = λ s u b h v k. next-typed s u h }) r .0

@@ -15,10 +15,10 @@ use Rattle.rules.proofs.Tests.{never}
 use Rattle.claims.specs.Ranking.{isIn}
 use Rattle.claims.specs.Numbered.{table, Small}
 use Rattle.claims.proofs.NumberedLaws.{refused-numbered, accepted-small}
-use Rattle.running.specs.declared.Answer.{Answer}
-use Rattle.running.specs.declared.Answer.the-variants.{Accepted, Refused}
-use Rattle.trying.specs.Promise.{answerOf}
-use Rattle.auzuplens.specs.Packing.{packed, packedPart, unpacked, unpackedPart}
+use Rattle.answers.specs.declared.Answer.{Answer}
+use Rattle.answers.specs.declared.Answer.the-variants.{Accepted, Refused}
+use Rattle.answers.specs.Answers.{answerOf}
+use Rattle.answers.specs.Packing.{packed, packedPart, unpacked, unpackedPart}
 
 -- ---- answers
 -- the halves of a number, and what is above them
@@ -50,9 +50,12 @@ unpacks-refused n p h k =
     let f : (n * 281474976710656 + p % 4294967296) % 4294967296 ≡ p = omega arith in
     rw (e, f, ne-eqb n 0 (omega arith))
 
-pub unpacks-answer : (t : List ℕ) (m : ℕ) (r : Answer) → answerOf r ≡ check t (lent m) .answer → unpacked (packed (answerOf r)) ≡ answerOf r
+pub unpacks-answer : (t : List ℕ) (m : ℕ) (r : Answer) → answerOf r ≡ check t (lent m) .answer
+    → unpacked (packed (answerOf r)) ≡ answerOf r
 unpacks-answer t m (Accepted n k) e = unpacks-accepted n k (accepted-small t (lent m) n k (sym e))
-unpacks-answer t m (Refused n p) e = let h = refused-numbered t (lent m) n p (sym e) in unpacks-refused n p (table-from-1 n (h .number)) (h .short)
+unpacks-answer t m (Refused n p) e =
+    let h = refused-numbered t (lent m) n p (sym e) in
+    unpacks-refused n p (table-from-1 n (h .number)) (h .short)
 
 -- ---- parts
 unpacks-part : (p : Part) → p .start < 4294967296 → p .length < 256 → unpackedPart (packedPart p) ≡ p
@@ -82,9 +85,11 @@ records-bytes : (n : ℕ) (l : List ℕ) → Bytes l → All Bytes (recordsFrom 
 unfolding recordsFrom
 records-bytes n [] h = tt
 records-bytes (suc n) (b ∷ l) h = records-bytes n l (h .1)
-records-bytes zero (b ∷ l) h = go (eqb (sizeOf b) 0) (leb (sizeOf b) (length (b ∷ l))) (records-bytes (sizeOf b - 1) l (h .1))
+records-bytes zero (b ∷ l) h =
+    go (eqb (sizeOf b) 0) (leb (sizeOf b) (length (b ∷ l))) (records-bytes (sizeOf b - 1) l (h .1))
   where
-    go : (x y : Bool) → All Bytes (recordsFrom (sizeOf b - 1) l) → All Bytes (cond x [] (cond y (take (sizeOf b) (b ∷ l) ∷ recordsFrom (sizeOf b - 1) l) []))
+    go : (x y : Bool) → All Bytes (recordsFrom (sizeOf b - 1) l)
+        → All Bytes (cond x [] (cond y (take (sizeOf b) (b ∷ l) ∷ recordsFrom (sizeOf b - 1) l) []))
     go true y r = tt
     go false true r = (bytes-front (sizeOf b) (b ∷ l) h, r)
     go false false r = tt
@@ -102,7 +107,8 @@ name-unpacks t r h = go (isNamed (getD r 0 0)) (leb (read4 r 1 + getD r 5 0) (le
     whole = record { start = read4 r 1; length = getD r 5 0 }
 
     go : (x y : Bool) → Unpacks (cond x (cond y whole noPart) noPart)
-    go true true = unpacks-part whole (omega (arith, byte-at r 1 h, byte-at r 2 h, byte-at r 3 h, byte-at r 4 h)) (byte-at r 5 h)
+    go true true =
+        unpacks-part whole (omega (arith, byte-at r 1 h, byte-at r 2 h, byte-at r 3 h, byte-at r 4 h)) (byte-at r 5 h)
     go true false = no-part
     go false y = no-part
 

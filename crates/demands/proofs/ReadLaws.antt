@@ -1,4 +1,5 @@
--- `read_number` reads every legal number of what an accepted text declares: its ranges are small, and so are the readings at their bases.
+-- `read_number` reads every legal number of what an accepted text declares: its ranges are small, and so are the
+-- readings at their bases.
 use mathlib.Core.Path.{_≡_, refl, sym, _∙_, subst}
 use mathlib.Core.Logic.{inl, inr}
 use mathlib.Core.Bool.{true, false}
@@ -14,7 +15,8 @@ use borrow.Author.Tests.{le-ltb, lt-leb, leb-true}
 use Rattle.rules.specs.Numbers as N
 use Rattle.rules.specs.Numbers.{Range, inRange, reads, readNumber}
 use Rattle.rules.specs.Types.{Ty, range, structure, Value, number, legal, reading}
-use Rattle.rules.specs.Declarations.{Link, Use, inline, ofDomain, ofStructure, tyOf, Attribute, Def, State, known, attributeAt}
+use Rattle.rules.specs.Declarations.{Link, Use, inline, ofDomain, ofStructure, tyOf, Attribute, Def, State, known}
+use Rattle.rules.specs.Declarations.{attributeAt}
 use Rattle.rules.specs.Book.{records}
 use Rattle.rules.specs.Judge.{isDomain}
 use Rattle.rules.specs.All.{All, In}
@@ -26,7 +28,8 @@ use Rattle.numbers.specs.Answer.{Promised}
 use Rattle.numbers.proofs.ReadLaws.{one-answer}
 use Rattle.wellformed.specs.Fairness.{Fair, FairUse, FairAttribute, FairDef, FairState}
 use Rattle.claims.specs.Steps as S
-use Rattle.claims.specs.Steps.{Declared, baseOf, firstOf, numbered, domainIn, Inherits, near, far, Nearest, Passes, through, straight, EveryReading}
+use Rattle.claims.specs.Steps.{Declared, baseOf, firstOf, numbered, domainIn, Inherits, near, far, Nearest, Passes}
+use Rattle.claims.specs.Steps.{through, straight, EveryReading}
 use Rattle.claims.proofs.StateLaws.{in-all}
 use Rattle.demands.specs.Demands.{ReadBy, NumbersRead}
 use Rattle.demands.proofs.FairLaws.{Typed}
@@ -39,24 +42,28 @@ between-small l (pos v) (negsuc h) k a b p q = never q
 between-small (pos l) (negsuc v) h k a b p q = never p
 between-small (negsuc l) (negsuc v) h k a b p q = omega (arith, leb-true v l p)
 
-range-small : (t : List ℕ) (r : Range) (v : ℤ) → Fair t (range r) → legal (range r) (number (r .decimals) v) ≡ true → natAbs v < 10 ^ 18
+range-small : (t : List ℕ) (r : Range) (v : ℤ) → Fair t (range r)
+    → legal (range r) (number (r .decimals) v) ≡ true → natAbs v < 10 ^ 18
 range-small t r v f e =
     let i : inRange r v ≡ true = split {x = eqb (r .decimals) (r .decimals)} e .1 in
     let (a, b) = split {x = leZ (r .low) v} i in
     between-small (r .low) v (r .high) (10 ^ 18) (f .1) (f .2) a b
 
 -- neither 20 nor 21
-read-small : (v : ℤ) (d db : ℕ) → d ≤ 17 → db ≤ 17 → natAbs v < 10 ^ 18 → natAbs (N.reading d db v) < 10 ^ 18 → readNumber v d db ≡ reads (N.reading d db v)
+read-small : (v : ℤ) (d db : ℕ) → d ≤ 17 → db ≤ 17 → natAbs v < 10 ^ 18 → natAbs (N.reading d db v) < 10 ^ 18
+    → readNumber v d db ≡ reads (N.reading d db v)
 unfolding readNumber
-read-small v d db a b c e = rw (le-ltb 17 d a, le-ltb 17 db b, lt-leb (10 ^ 18) (natAbs v) c, lt-leb (10 ^ 18) (natAbs (N.reading d db v)) e)
+read-small v d db a b c e =
+    rw (le-ltb 17 d a, le-ltb 17 db b, lt-leb (10 ^ 18) (natAbs v) c, lt-leb (10 ^ 18) (natAbs (N.reading d db v)) e)
 
 -- ---- types: what is small, and each of whose legal values has a legal reading at another
 abbrev Reads : Ty → Ty → Type 0
 Reads x y = (v : Value) → legal x v ≡ true → (w : Value) × (reading y v ≡ some w) × (legal y w ≡ true)
 
 range-reads : (t : List ℕ) (r q : Range) → Fair t (range r) → Fair t (range q) → Reads (range r) (range q) →
-    (v : ℤ) → legal (range r) (number (r .decimals) v) ≡ true → (a : Reading) → Promised v (r .decimals) (q .decimals) a →
-    (w : ℤ) × (a ≡ R.Value w) × (reading (range q) (number (r .decimals) v) ≡ some (number (q .decimals) w)) × (legal (range q) (number (q .decimals) w) ≡ true)
+    (v : ℤ) → legal (range r) (number (r .decimals) v) ≡ true → (a : Reading) → Promised v (r .decimals) (q .decimals) a
+    → (w : ℤ) × (a ≡ R.Value w) × (reading (range q) (number (r .decimals) v) ≡ some (number (q .decimals) w))
+    × (legal (range q) (number (q .decimals) w) ≡ true)
 range-reads t r q f g h v e a p =
     let w = N.reading (r .decimals) (q .decimals) v in
     let (x, i, j) = h (number (r .decimals) v) e in
@@ -92,17 +99,20 @@ use-ranged t (ofStructure l bs) f r e = not-range r e
 -- a base is declared, and a nearest inherited attribute is a declared class's own
 first-declared : (s : State) (l : List Link) (b : Def) → firstOf s l ≡ some b → Declared s b
 first-declared s [] b e = apart (sym e)
-first-declared s (l ∷ bs) b e = any-is (Declared s) (numbered s (l .number)) b (any-lookup (Declared s) _ (known (s .decls)) (all-in (known (s .decls)))) e
+first-declared s (l ∷ bs) b e = any-is (Declared s) (numbered s (l .number)) b
+    (any-lookup (Declared s) _ (known (s .decls)) (all-in (known (s .decls)))) e
 
 own-in : (n : List ℕ) (l : List Attribute) (a : Attribute) → attributeAt n l ≡ some a → In a l
 own-in n l a e = all-attribute (λ (b : Attribute). In b l) n l a (all-in l) e
 
-inherits-own : (s : State) (n : List ℕ) (a : Attribute) (c : Def) → Inherits s n a c → (d : Def) × Declared s d × In a (d .own)
+inherits-own : (s : State) (n : List ℕ) (a : Attribute) (c : Def) → Inherits s n a c
+    → (d : Def) × Declared s d × In a (d .own)
 inherits-own s n a c (near b e f) = (b, first-declared s (c .bases) b e, own-in n (b .own) a f)
 inherits-own s n a c (far b e f i) = inherits-own s n a b i
 
 -- where no domain is named, an attribute's step is the reading at the base's type
-passes-reads : (s : State) (a b : Attribute) (v w : Value) → isDomain (a .use-of) ≡ false → Passes s a b v w → reading (tyOf (b .use-of)) v ≡ some w
+passes-reads : (s : State) (a b : Attribute) (v w : Value) → isDomain (a .use-of) ≡ false → Passes s a b v w
+    → reading (tyOf (b .use-of)) v ≡ some w
 passes-reads s a b v w h (straight i e) = e
 passes-reads s a b v w h (through d e i j c) = go (a .use-of) h i
   where
@@ -120,16 +130,20 @@ module _ (t : List ℕ) (s : State) (h : FairState t s) (k : All Typed (known (s
   declared-ranged d i = def-ranged t (length (records s)) d (fair-def d i) (in-all Typed k i)
 
   own-ranged : (d : Def) → Declared s d → (a : Attribute) → In a (d .own) → Ranged t (tyOf (a .use-of))
-  own-ranged d i a j = use-ranged t (a .use-of) (in-all (FairAttribute t (length (records s))) (fair-def d i .attributes) (in-append (d .own) (d .inherited) j) .used)
+  own-ranged d i a j = use-ranged t (a .use-of) (in-all (FairAttribute t (length (records s)))
+      (fair-def d i .attributes) (in-append (d .own) (d .inherited) j) .used)
 
   read-domains : (d b : Def) → Declared s d → baseOf s d ≡ some b → ReadBy (d .type) (b .type)
   read-domains d b i f =
-      read-by t (d .type) (b .type) (declared-ranged d i) (declared-ranged b (first-declared s (d .bases) b f)) (λ v l. e .domains d i v l d v S.Climbs.start .onward b f)
+      read-by t (d .type) (b .type) (declared-ranged d i) (declared-ranged b (first-declared s (d .bases) b f))
+      (λ v l. e .domains d i v l d v S.Climbs.start .onward b f)
 
-  read-attributes : (a b : Attribute) → Nearest s a b → isDomain (a .use-of) ≡ false → ReadBy (tyOf (a .use-of)) (tyOf (b .use-of))
+  read-attributes : (a b : Attribute) → Nearest s a b → isDomain (a .use-of) ≡ false
+      → ReadBy (tyOf (a .use-of)) (tyOf (b .use-of))
   read-attributes a b n o =
       let (d, i, j) = inherits-own s (a .name .bytes) b (n .class) (n .inherits) in
-      read-by t (tyOf (a .use-of)) (tyOf (b .use-of)) (own-ranged (n .class) (n .declared) a (n .own)) (own-ranged d i b j) straightly
+      read-by t (tyOf (a .use-of)) (tyOf (b .use-of)) (own-ranged (n .class) (n .declared) a (n .own))
+      (own-ranged d i b j) straightly
     where
       straightly : Reads (tyOf (a .use-of)) (tyOf (b .use-of))
       straightly v l =

@@ -1,7 +1,7 @@
--- The user's three demands, of what the program answers. `check_text` promises Gives: of a text t and a lent buffer of m
--- bytes, r is its answer, in the program's own type, and b is the buffer when it returns. It has no precondition: every
--- text and every buffer gets an answer (`answer` in this crate's code has the promise in these words). `run` is document
--- 01 as a definition (crate rules): it keeps a state where no unit is refused.
+-- The user's three demands, of what the program answers. `check_text` promises Gives: of a text t and a lent buffer of
+-- m bytes, r is its answer, in the program's own type, and b is the buffer when it returns. It has no precondition:
+-- every text and every buffer gets an answer (`answer` in this crate's code has the promise in these words). `run` is
+-- document 01 as a definition (crate rules): it keeps a state where no unit is refused.
 use mathlib.Core.Path.{_≡_}
 use mathlib.Core.Logic.{_↔_}
 use mathlib.Core.Bool.{true, false}
@@ -19,8 +19,8 @@ use Rattle.rules.specs.Check.{lent, kept, run}
 use Rattle.rules.specs.Show.{showName}
 use Rattle.rules.specs.Promise.{Promise}
 use Rattle.rules.specs.All.{All}
-use Rattle.claims.specs.Cases.{Holds}
-use Rattle.claims.specs.Marked.{marked}
+use Rattle.computed.specs.Cases.{Holds}
+use Rattle.computed.specs.Marked.{marked}
 use Rattle.claims.specs.Promise.{Zeros, Booked}
 use Rattle.claims.specs.Ranking as R
 use Rattle.claims.specs.Ranking.{rank, UnitsRanked}
@@ -30,20 +30,20 @@ use Rattle.claims.specs.Steps.{Declared, baseOf, Nearest}
 use Rattle.claims.specs.Reached.{Judges}
 use Rattle.claims.specs.Demand3.{ModelReads, Extends, Misfit}
 use Rattle.claims.specs.Distinct.{AllDistinct}
-use Rattle.claims.specs.Shut.{Shut}
+use Rattle.computed.specs.Shut.{Shut}
 use Rattle.numbers.specs.declared.Reading.{Reading}
 use Rattle.numbers.specs.declared.Reading.the-variants.{Value}
 use Rattle.numbers.specs.Answer.{Promised}
-use Rattle.running.specs.declared.Answer.{Answer}
-use Rattle.running.specs.declared.Answer.the-variants.{Accepted, Refused}
-use Rattle.trying.specs.Promise.{answerOf}
-use Rattle.auzuplens.specs.Packing.{packed, packedPart, unpacked, unpackedPart}
+use Rattle.answers.specs.declared.Answer.{Answer}
+use Rattle.answers.specs.declared.Answer.the-variants.{Accepted, Refused}
+use Rattle.answers.specs.Answers.{answerOf}
+use Rattle.answers.specs.Packing.{packed, packedPart, unpacked, unpackedPart}
 
 abbrev pub Gives : List ℕ → ℕ → Answer → List ℕ → Type 0
 Gives t m r b = Promise t (lent m) (answerOf r) b
 
--- ---- 1: every text, with a buffer of every length, gets one answer: accepted, or one numbered refusal with its place; after a
--- refusal the whole buffer is zero
+-- ---- 1: every text, with a buffer of every length, gets one answer: accepted, or one numbered refusal with its place;
+-- after a refusal the whole buffer is zero
 pub record Demand1 (t : List ℕ) (m : ℕ) : Type 0 where
   pub answered : (r : Answer) × (b : List ℕ) × Gives t m r b
   pub one : (r s : Answer) (b c : List ℕ) → Gives t m r b → Gives t m s c → (r ≡ s) × (b ≡ c)
@@ -52,36 +52,44 @@ pub record Demand1 (t : List ℕ) (m : ℕ) : Type 0 where
   -- what an export packs into one number is the answer, and can be taken out again
   pub unpacks : (r : Answer) (b : List ℕ) → Gives t m r b → unpacked (packed (answerOf r)) ≡ answerOf r
 
--- ---- 2: accepted exactly when the text follows document 01, else refused by the first in the stated order; the book is the one the text means
--- R.Refused: too long a text; else, behind units that all passed, one that cannot be read, at the symbol where its reader stops (rules `Readers`),
--- or the first rule that a unit breaks, in the ranking of the numbers; of one number the first symbol is named
+-- ---- 2: accepted exactly when the text follows document 01, else refused by the first in the stated order; the book
+-- is the one the text means
+-- R.Refused: too long a text; else, behind units that all passed, one that cannot be read, at the symbol where its
+-- reader stops (rules `Readers`), or the first rule that a unit breaks, in the ranking of the numbers; of one number
+-- the first symbol is named
 pub record Demand2 (t : List ℕ) (m : ℕ) : Type 0 where
   pub follows : ((n k : ℕ) × (b : List ℕ) × Gives t m (Accepted n k) b) ↔ ((s : State) × (run t (lent m) ≡ kept s))
   pub first : (n p : ℕ) → ((b : List ℕ) × Gives t m (Refused n p) b) ↔ R.Refused t (lent m) n p
   pub book : (n k : ℕ) (b : List ℕ) → Gives t m (Accepted n k) b → Booked t (lent m) n k b
 
--- ---- numbers: of two ranges, `read_number`, which promises Promised, answers a legal number of x with its reading at y, and never 20 or 21
+-- ---- numbers: of two ranges, `read_number`, which promises Promised, answers a legal number of x with its reading
+-- at y, and never 20 or 21
 abbrev pub ReadBy : Ty → Ty → Type 0
 ReadBy x y =
-    (r q : Range) → x ≡ range r → y ≡ range q → (v : ℤ) → legal x (number (r .decimals) v) ≡ true → (a : Reading) → Promised v (r .decimals) (q .decimals) a →
-    (w : ℤ) × (a ≡ Value w) × (reading y (number (r .decimals) v) ≡ some (number (q .decimals) w)) × (legal y (number (q .decimals) w) ≡ true)
+    (r q : Range) → x ≡ range r → y ≡ range q → (v : ℤ) → legal x (number (r .decimals) v) ≡ true → (a : Reading)
+    → Promised v (r .decimals) (q .decimals) a
+    → (w : ℤ) × (a ≡ Value w) × (reading y (number (r .decimals) v) ≡ some (number (q .decimals) w))
+    × (legal y (number (q .decimals) w) ≡ true)
 
 -- the numbers of a state's domains, and of its attributes with a type in place, each read at its base
 pub record NumbersRead (s : State) : Type 0 where
   pub domains : (d b : Def) → Declared s d → baseOf s d ≡ some b → ReadBy (d .type) (b .type)
-  pub attributes : (a b : Attribute) → Nearest s a b → isDomain (a .use-of) ≡ false → ReadBy (tyOf (a .use-of)) (tyOf (b .use-of))
+  pub attributes : (a b : Attribute) → Nearest s a b → isDomain (a .use-of) ≡ false
+      → ReadBy (tyOf (a .use-of)) (tyOf (b .use-of))
 
--- ---- 3: what is accepted reads legally at every base, step by step; 17 is answered only if a legal value has an illegal reading, and where one
--- has, the unit is refused, by 17 or by what comes before it
+-- ---- 3: what is accepted reads legally at every base, step by step; 17 is answered only if a legal value has an
+-- illegal reading, and where one has, the unit is refused, by 17 or by what comes before it
 pub record Demand3 (t : List ℕ) (m : ℕ) : Type 0 where
   pub reads : (n k : ℕ) (b : List ℕ) → Gives t m (Accepted n k) b → ModelReads t (lent m)
   pub numbers : (s : State) → run t (lent m) ≡ kept s → NumbersRead s
   pub witness : (p : ℕ) (b : List ℕ) → Gives t m (Refused 17 p) b → Misfit t (lent m) p
   pub refuses : (s : State) (u : U.Unit) → Judges t (lent m) s u → (x y : Ty) → Extends s u x y → Outside x y →
-      (r : Answer) (b : List ℕ) → Gives t m r b → (n p : ℕ) × (r ≡ Refused n p) × (judge s u ≡ refused n p) × (rank n ≤ rank 17)
+      (r : Answer) (b : List ℕ) → Gives t m r b
+      → (n p : ℕ) × (r ≡ Refused n p) × (judge s u ≡ refused n p) × (rank n ≤ rank 17)
 
--- ---- all of it; and what the definitions are held to: every unit's rules stand in order, the marked examples, elements stand once, and what is
--- shut out; and the name that an export packs into one number can be taken out again, whatever bytes the book has
+-- ---- all of it; and what the definitions are held to: every unit's rules stand in order, the marked examples,
+-- elements stand once, and what is shut out; and the name that an export packs into one number can be taken out again,
+-- whatever bytes the book has
 pub record Demands : Type 0 where
   pub demand1 : (t : List ℕ) (m : ℕ) → Demand1 t m
   pub demand2 : (t : List ℕ) (m : ℕ) → Demand2 t m
@@ -90,4 +98,5 @@ pub record Demands : Type 0 where
   pub marked-hold : All Holds marked
   pub distinct : AllDistinct
   pub shut : Shut
-  pub parts : (t b : List ℕ) (k : ℕ) → All (λ (x : ℕ). x < 256) b → unpackedPart (packedPart (showName t b k)) ≡ showName t b k
+  pub parts : (t b : List ℕ) (k : ℕ) → All (λ (x : ℕ). x < 256) b
+      → unpackedPart (packedPart (showName t b k)) ≡ showName t b k

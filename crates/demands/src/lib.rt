@@ -1,5 +1,5 @@
 // The promise of checking a text, in the words of the demands.
-use running::Answer;
+use answers::Answer;
 ghost use lib.ListN.{length};
 ghost use Rattle.demands.specs.Demands.{Gives};
 

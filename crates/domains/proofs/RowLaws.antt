@@ -63,7 +63,8 @@ module _ (s : State) (n : Name) (p : List (List ℕ)) (w : Written) (o : Option 
   type = domainType (w .type) (orNoDef o .type)
 
   head : List ℕ
-  head = headForm 7 (n .offset) (length (n .bytes)) (flags (isAbstract p) (isFinal p) false (w .mandatory || orNoDef o .mandatory)) (baseNumber (basesOf o))
+  head = headForm 7 (n .offset) (length (n .bytes))
+      (flags (isAbstract p) (isFinal p) false (w .mandatory || orNoDef o .mandatory)) (baseNumber (basesOf o))
 
   new-records : declRecords (def new) ≡ head ∷ typeRecords type
   unfolding newDomain head
@@ -74,7 +75,9 @@ module _ (s : State) (n : Name) (p : List (List ℕ)) (w : Written) (o : Option 
   head-length = refl
 
   new-length : length (bytes (declRecords (def new))) ≡ headSize + length (bytes (typeRecords type))
-  new-length = ap (λ (l : List Record). length (bytes l)) new-records ∙ length-append head (bytes (typeRecords type)) ∙ ap (λ (i : ℕ). i + length (bytes (typeRecords type))) head-length
+  new-length =
+      ap (λ (l : List Record). length (bytes l)) new-records ∙ length-append head (bytes (typeRecords type))
+      ∙ ap (λ (i : ℕ). i + length (bytes (typeRecords type))) head-length
 
   new-heading : heading (new .sort) new ≡ head ∷ typeRecords type
   unfolding newDomain head
@@ -83,13 +86,17 @@ module _ (s : State) (n : Name) (p : List (List ℕ)) (w : Written) (o : Option 
   new-book : s .open-class ≡ none → book (declare s (def new)) ≡ book s ++ (bytes (heading (new .sort) new) ++ [])
   new-book c =
       book-declared s (declare s (def new)) (def new) c refl refl
-      ∙ ap (λ (l : List ℕ). book s ++ l) (ap bytes (new-records ∙ sym new-heading) ∙ sym (append-nil (bytes (heading (new .sort) new))))
+      ∙ ap (λ (l : List ℕ). book s ++ l)
+      (ap bytes (new-records ∙ sym new-heading) ∙ sym (append-nil (bytes (heading (new .sort) new))))
 
-  length-book : s .open-class ≡ none → length (book (declare s (def new))) ≡ length (book s) + (headSize + length (bytes (typeRecords type)))
+  length-book : s .open-class ≡ none
+      → length (book (declare s (def new))) ≡ length (book s) + (headSize + length (bytes (typeRecords type)))
   length-book c =
-      ap length (book-declared s (declare s (def new)) (def new) c refl refl) ∙ length-append (book s) (bytes (declRecords (def new))) ∙ ap (λ (i : ℕ). length (book s) + i) new-length
+      ap length (book-declared s (declare s (def new)) (def new) c refl refl)
+      ∙ length-append (book s) (bytes (declRecords (def new))) ∙ ap (λ (i : ℕ). length (book s) + i) new-length
 
-  stands-next : (u : ℕ) → u ≡ length (book s) → s .open-class ≡ none → Stands (book (declare s (def new))) u (heading (new .sort) new)
+  stands-next : (u : ℕ) → u ≡ length (book s) → s .open-class ≡ none
+      → Stands (book (declare s (def new))) u (heading (new .sort) new)
   stands-next u e c = rw (e, new-book c) (stands-new (book s) (heading (new .sort) new) [])
 
 -- ---- what is small enough
@@ -106,7 +113,8 @@ pub record Numbers (t : List ℕ) (st : code.State) (d : DomainUnit) (size : Siz
   pub recorded : st .extent .records + (1 + size .records) ≤ 65535
   pub defined : st .extent .definitions + 1 ≤ 65535
 
-module _ {t : List ℕ} {s : State} {st : code.State} {n : Name} {p : List (List ℕ)} {b : Option Reference} {w : Written} {o x z y hs rs : List ℕ} {d : DomainUnit} {base : ℕ} (h : Extending t s st n p b w o x z y hs rs d base)
+module _ {t : List ℕ} {s : State} {st : code.State} {n : Name} {p : List (List ℕ)} {b : Option Reference} {w :
+    Written} {o x z y hs rs : List ℕ} {d : DomainUnit} {base : ℕ} (h : Extending t s st n p b w o x z y hs rs d base)
     (o₁ : List ℕ) (len : length o ≡ length o₁) (short : length o₁ ≤ 65535)
     (size : Size) (counted : size ≡ sizeOf (typeRecords (domainType (w .type) (orNoDef (resolved s b) .type)))) where
   abbrev l : List ℕ
@@ -116,7 +124,10 @@ module _ {t : List ℕ} {s : State} {st : code.State} {n : Name} {p : List (List
   size-bytes = ap (λ (i : Size). i .bytes) counted
 
   long : length (book (declare s (def (newDomain s n p w (resolved s b))))) ≡ st .extent .used + headSize + size .bytes
-  long = let e = length-book s n p w (resolved s b) (no-class h) in let u = h .keeps .used in let v = size-bytes in omega arith
+  long =
+      let e = length-book s n p w (resolved s b) (no-class h) in
+      let u = h .keeps .used in
+      let v = size-bytes in omega arith
 
   pub numbers : leb (st .extent .used + headSize + size .bytes) (length o₁) ≡ true → Numbers t st d size
   numbers e =
@@ -140,22 +151,30 @@ module _ {t : List ℕ} {s : State} {st : code.State} {n : Name} {p : List (List
         defined = omega arith;
       }
 
-  pub refused-room : leb (st .extent .used + headSize + size .bytes) (length o₁) ≡ false → (r : code-judged.Judged) → r ≡ Refused 19 (d .name .offset) → (o₂ x₂ z₂ : List ℕ)
-      → JudgedAs t (Check.room (Check.lent (length o)) (n .offset) (ok (declare s (def (newDomain s n p w (resolved s b)))))) st r o₂ x₂ z₂ y hs
+  pub refused-room : leb (st .extent .used + headSize + size .bytes) (length o₁) ≡ false → (r : code-judged.Judged)
+      → r ≡ Refused 19 (d .name .offset) → (o₂ x₂ z₂ : List ℕ)
+      → JudgedAs t (Check.room (Check.lent (length o)) (n .offset)
+      (ok (declare s (def (newDomain s n p w (resolved s b)))))) st r o₂ x₂ z₂ y hs
   refused-room e r g o₂ x₂ z₂ =
       let f = leb-false (st .extent .used + headSize + size .bytes) (length o₁) e in
       let v = long in
-      rw (room-over (length o) (n .offset) (declare s (def (newDomain s n p w (resolved s b)))) (omega arith) (omega arith))
+      rw (room-over (length o) (n .offset)
+      (declare s (def (newDomain s n p w (resolved s b)))) (omega arith) (omega arith))
       (g ∙ ap (λ (i : ℕ). Refused 19 i) (ap (λ (u : DomainUnit). u .name .offset) (is-unit h)))
 
   -- the head is written behind the book, the row behind the last
-  module _ (room : leb (st .extent .used + headSize + size .bytes) (length o₁) ≡ true) (there : st .extent .used + headSize + length l ≤ length o → o₁ ≡ splice o (st .extent .used + headSize) l)
-      (mandatory : Bool) (em : mandatory ≡ (d .written .mandatory || orNoDef (entry (known (s .decls)) base) .mandatory))
+  module _ (room : leb (st .extent .used + headSize + size .bytes) (length o₁) ≡ true)
+      (there : st .extent .used + headSize + length l ≤ length o → o₁ ≡ splice o (st .extent .used + headSize) l)
+      (mandatory : Bool)
+      (em : mandatory ≡ (d .written .mandatory || orNoDef (entry (known (s .decls)) base) .mandatory))
       (f : ℕ) (ef : f ≡ flags (d .properties .«is_abstract») (d .properties .«is_final») false mandatory)
       (c : ℕ) (ec : c ≡ baseNumber (basesOf (entry (known (s .decls)) base)))
-      (hd o₂ x₂ z₂ : List ℕ) (eh : hd ≡ headForm 7 (d .name .offset) (d .name .len) f c) (eo : o₂ ≡ splice o₁ (st .extent .used) hd) (len₂ : length o₂ ≡ length o₁)
-      (ex : x₂ ≡ splice x ((st .listing .count + 1) * definitionWidth) (definitionRow (domainDefinition st (d .name) f base)))
-      (ez : (ks : List Def) (e : Def) → Chains ks z → st .listing .count ≡ length ks → bytesOf t (d .name) ≡ e .name .bytes → Chains (ks ++ (e ∷ [])) z₂)
+      (hd o₂ x₂ z₂ : List ℕ) (eh : hd ≡ headForm 7 (d .name .offset) (d .name .len) f c)
+      (eo : o₂ ≡ splice o₁ (st .extent .used) hd) (len₂ : length o₂ ≡ length o₁)
+      (ex : x₂ ≡ splice x ((st .listing .count + 1) * definitionWidth)
+      (definitionRow (domainDefinition st (d .name) f base)))
+      (ez : (ks : List Def) (e : Def) → Chains ks z → st .listing .count ≡ length ks
+      → bytesOf t (d .name) ≡ e .name .bytes → Chains (ks ++ (e ∷ [])) z₂)
       (wide : Rows x (st .listing .count + 2)) (low : base ≤ st .listing .count) where
     abbrev unit : d ≡ domainOf n p b w
     unit = is-unit h
@@ -182,10 +201,13 @@ module _ {t : List ℕ} {s : State} {st : code.State} {n : Name} {p : List (List
         let v = size-bytes in
         let u = h .keeps .used in
         let g : st .extent .used + headSize + length l ≤ length o = omega arith in
-        let k = laid-book o o₁ o₂ (book s) (head s n p w (resolved s b)) l (st .extent .used) (h .keeps .written) u g (head-length s n p w (resolved s b)) (there g) (rw head-is at eo) in
-        let r : bytes (declRecords (def new·)) ≡ head s n p w (resolved s b) ++ l = ap bytes (new-records s n p w (resolved s b)) in
+        let k = laid-book o o₁ o₂ (book s) (head s n p w (resolved s b)) l (st .extent .used) (h .keeps .written) u g
+        (head-length s n p w (resolved s b)) (there g) (rw head-is at eo) in
+        let r : bytes (declRecords (def new·))
+        ≡ head s n p w (resolved s b) ++ l = ap bytes (new-records s n p w (resolved s b)) in
         let i = new-length s n p w (resolved s b) in
-        let j : length (book s) + length (bytes (declRecords (def new·))) ≡ st .extent .used + headSize + length l = omega arith in
+        let j : length (book s) + length (bytes (declRecords (def new·)))
+        ≡ st .extent .used + headSize + length l = omega arith in
         record { within = omega arith; whole = rw (j, r) k }
 
     tells : Tells t (known (s .decls)) (attributesIn s) (st .listing .count + 1) new· entered
@@ -205,17 +227,24 @@ module _ {t : List ℕ} {s : State} {st : code.State} {n : Name} {p : List (List
       few = omega arith;
     }
 
-    row-is : DefRow t (book (declare s (def new·))) (known (s .decls)) (attributesIn s) (st .listing .count + 1) new· (row definitionWidth x₂ (st .listing .count + 1))
+    row-is : DefRow t (book (declare s (def new·))) (known (s .decls)) (attributesIn s) (st .listing .count + 1) new·
+        (row definitionWidth x₂ (st .listing .count + 1))
     row-is =
-        let e : row definitionWidth x₂ (st .listing .count + 1) ≡ definitionRow entered = ap (λ (i : List ℕ). row definitionWidth i (st .listing .count + 1)) ex ∙ row-written definitionWidth x (definitionRow entered) (st .listing .count + 1) refl (omega arith) in
-        rw e (def-row t (book (declare s (def new·))) (known (s .decls)) (attributesIn s) (st .listing .count + 1) new· entered tells (stands-next s n p w (resolved s b) (st .extent .used) (h .keeps .used) none-open))
+        let e : row definitionWidth x₂ (st .listing .count + 1)
+        ≡ definitionRow entered = ap (λ (i : List ℕ). row definitionWidth i (st .listing .count + 1)) ex
+        ∙ row-written definitionWidth x (definitionRow entered) (st .listing .count + 1) refl (omega arith) in
+        rw e (def-row t (book (declare s (def new·))) (known (s .decls)) (attributesIn s) (st .listing .count + 1) new·
+        entered tells (stands-next s n p w (resolved s b) (st .extent .used) (h .keeps .used) none-open))
 
     chains-are : Chains (known (s .decls) ++ (new· ∷ [])) z₂
     unfolding newDomain
-    chains-are = ez (known (s .decls)) new· (h .keeps .chained) (h .keeps .held .all-defs) (rw unit (h .comes .fair .0 .there))
+    chains-are =
+        ez (known (s .decls)) new· (h .keeps .chained) (h .keeps .held .all-defs) (rw unit (h .comes .fair .0 .there))
 
-    pub kept-domain : FairState t (declare s (def new·)) → (st' : code.State) → st' ≡ declaredBy st (headSize + size .bytes) (1 + size .records) 1 → (r : code-judged.Judged) → r ≡ Fine st'
-        → (y₂ : List ℕ) → y₂ ≡ y → JudgedAs t (Check.room (Check.lent (length o)) (n .offset) (ok (declare s (def new·)))) st r o₂ x₂ z₂ y₂ hs
+    pub kept-domain : FairState t (declare s (def new·)) → (st' : code.State)
+        → st' ≡ declaredBy st (headSize + size .bytes) (1 + size .records) 1 → (r : code-judged.Judged) → r ≡ Fine st'
+        → (y₂ : List ℕ) → y₂ ≡ y
+        → JudgedAs t (Check.room (Check.lent (length o)) (n .offset) (ok (declare s (def new·)))) st r o₂ x₂ z₂ y₂ hs
     kept-domain fair st' es r er y₂ ey =
         let e = leb-true (st .extent .used + headSize + size .bytes) (length o₁) room in
         let v = size-bytes in
@@ -223,11 +252,18 @@ module _ {t : List ℕ} {s : State} {st : code.State} {n : Name} {p : List (List
         let g = long in
         let i = new-length s n p w (resolved s b) in
         let j = ap length (new-records s n p w (resolved s b)) in
-        let k = keeps-declared t s st o x z y hs (h .keeps) new· o₂ x₂ z₂ (headSize + size .bytes) (1 + size .records) 1 none-open (new-own s n p w (resolved s b)) (omega arith) (omega arith)
-        (sym (domain-defined new· (new-sort s n p w (resolved s b)))) book-is (rw ex (agree-def x _ (st .listing .count) (omega arith))) row-is chains-are fair in
-        subst (λ (i : List ℕ). JudgedAs t (Check.room (Check.lent (length o)) (n .offset) (ok (declare s (def new·)))) st r o₂ x₂ z₂ i hs) (sym ey)
-        (rw (room-within (length o) (n .offset) (declare s (def new·)) (omega arith) (omega arith)) (st', er, rw es k, rw es (record { by-one = omega arith; layout-stays = refl })))
+        let k = keeps-declared t s st o x z y hs (h .keeps) new· o₂ x₂ z₂ (headSize + size .bytes)
+        (1 + size .records) 1 none-open (new-own s n p w (resolved s b)) (omega arith) (omega arith)
+        (sym (domain-defined new· (new-sort s n p w (resolved s b)))) book-is
+        (rw ex (agree-def x _ (st .listing .count) (omega arith))) row-is chains-are fair in
+        subst (λ (i : List ℕ). JudgedAs t
+        (Check.room (Check.lent (length o)) (n .offset) (ok (declare s (def new·)))) st r o₂ x₂ z₂ i hs) (sym ey)
+        (rw (room-within (length o) (n .offset) (declare s (def new·)) (omega arith) (omega arith))
+        (st', er, rw es k, rw es (record { by-one = omega arith; layout-stays = refl })))
 
 -- the head is as long
-pub head-fits : (hd : List ℕ) (k i n f c u b m : ℕ) → hd ≡ headForm k i n f c → leb (u + headSize + b) m ≡ true → u + length hd ≤ m
-head-fits hd k i n f c u b m e h = let l : length hd ≡ headSize = ap length e in let g = leb-true (u + headSize + b) m h in omega arith
+pub head-fits : (hd : List ℕ) (k i n f c u b m : ℕ) → hd ≡ headForm k i n f c
+    → leb (u + headSize + b) m ≡ true → u + length hd ≤ m
+head-fits hd k i n f c u b m e h =
+    let l : length hd ≡ headSize = ap length e in
+    let g = leb-true (u + headSize + b) m h in omega arith

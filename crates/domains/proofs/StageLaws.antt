@@ -3,7 +3,7 @@ use mathlib.Core.Path.{_≡_, refl, sym, ap, _∙_, subst}
 use mathlib.Core.Bool.{Bool, true, false, not, _&&_, _||_}
 use mathlib.Core.Option.{Option, none, some}
 use mathlib.Core.List.{List, [], _∷_, _++_, append-assoc, append-nil}
-use Prim.Native.Nat.{ℕ, zero, suc, _+_, _*_, _≤_, _<_}
+use Prim.Native.Nat.{ℕ, zero, suc, _+_, _≤_, _<_}
 use native.Mathlib.Omega.{arith}
 use lib.ListN.{length, getD, take}
 use lib.Dec.{ltb}
@@ -11,14 +11,18 @@ use borrow.Author.Tests.{lt-ltb}
 use Rattle.rules.proofs.RuleLaws.{element-nine}
 use Rattle.wellformed.proofs.TypeLaws.{sort-domain}
 use Rattle.state.proofs.SharedLaws.{extends-positive}
+use Rattle.state.proofs.KeepLaws.{none-open}
 use Rattle.rules.specs.Names.{Name}
 use Rattle.rules.specs.Grammar.{Reference, WrittenType, Written}
 use Rattle.rules.specs.Units as U
-use Rattle.rules.specs.Types.{Ty, text, range, numeric, structure, enum}
-use Rattle.rules.specs.Declarations.{Sort, domain, Def, Attribute, State, attributesOf, isFound, isSort, atHand, known, def}
+use Rattle.rules.specs.Types.{Ty, structure}
+use Rattle.rules.specs.Declarations.{Sort, domain, Def, Attribute, State, attributesOf, isFound, isSort, atHand, known}
+use Rattle.rules.specs.Declarations.{def}
 use Rattle.rules.specs.Book.{Record, bytes, records, flags, typeRecords, defRecord}
 use Rattle.rules.specs.Judge as J
-use Rattle.rules.specs.Judge.{Rule, rule, ok, firstBrokenOr, orNoDef, resolved, hasTwice, isAbstract, isFinal, isNumeric, referenceIn, domainType, elementRule, extendsRules, newDomain, domainTo16, domainRules, judge, declare}
+use Rattle.rules.specs.Judge.{Rule, rule, ok, firstBrokenOr, orNoDef, resolved, hasTwice, isAbstract, isFinal}
+use Rattle.rules.specs.Judge.{isNumeric, referenceIn, domainType, elementRule, extendsRules, newDomain, domainTo16}
+use Rattle.rules.specs.Judge.{domainRules, judge, declare}
 use Rattle.rules.specs.Check.{Given, lent, room}
 use Rattle.rules.proofs.Tests.{never, not-fails}
 use Rattle.ground.specs.Parts.{splice}
@@ -40,13 +44,15 @@ use Rattle.wellformed.specs.Fairness.{Begins, Fair, FairDef, FairState}
 use Rattle.rules.proofs.AllLaws.{any-resolved}
 use Rattle.wellformed.proofs.TypeLaws.{domain-fair}
 use Rattle.wellformed.proofs.KeepLaws.{judge-fair}
-use Rattle.types.specs.declared.Ruling.{Ruling}
-use Rattle.types.specs.declared.Typing.{Typing}
-use Rattle.types.specs.declared.Typing.the-variants.{Structure}
-use Rattle.types.specs.Rulings.{rulingOf, judgedBy}
-use Rattle.types.specs.Values.{Valued, Typed, Sized, FairOrNone, Scratched, Once}
-use Rattle.types.proofs.RulingLaws.{Positive, first-broken-by}
-use Rattle.types.proofs.TypeLaws.{typed-valued, sized-base, sized-meant, scratched, once-of}
+use Rattle.ground.specs.declared.Ruling.{Ruling}
+use Rattle.fitting.specs.declared.Typing.{Typing}
+use Rattle.fitting.specs.declared.Typing.the-variants.{Structure}
+use Rattle.ground.specs.Rulings.{rulingOf, judgedBy}
+use Rattle.fitting.specs.Values.{Valued, Typed, Sized, FairOrNone}
+use Rattle.types.specs.Writing.{Scratched, Once}
+use Rattle.ground.proofs.RulingLaws.{Positive, first-broken-by}
+use Rattle.fitting.proofs.ValueLaws.{typed-valued, sized-base, fair-or-none}
+use Rattle.types.proofs.TypeLaws.{sized-meant, scratched, once-of}
 use Rattle.state.specs.declared.State as code
 use Rattle.state.specs.declared.Judged as code-judged
 use Rattle.state.specs.declared.Judged.the-variants.{Refused}
@@ -68,7 +74,8 @@ module _ (ks : List Def) (base : ℕ) (w : Bool) where
   mandatory-none e z = rw (e, z)
 
   pub mandatory-base : (t x : List ℕ) (count : ℕ) → base ≤ count → Known t ks x count → w ≡ false → 0 < base
-      → (f : ℕ) → ((t : List ℕ) (d : Def) → Says t d (row definitionWidth x base) → f ≡ flags (d .abstract) (d .final) false (d .mandatory))
+      → (f : ℕ) → ((t : List ℕ) (d : Def) → Says t d (row definitionWidth x base)
+      → f ≡ flags (d .abstract) (d .final) false (d .mandatory))
       → (r : Bool) → ((a f' e m : Bool) → f ≡ flags a f' e m → r ≡ m) → r ≡ (w || orNoDef (entry ks base) .mandatory)
   mandatory-base t x count l k e z f hf r hr =
       let n = k .all in
@@ -76,8 +83,10 @@ module _ (ks : List Def) (base : ℕ) (w : Bool) where
       rw (e, q) (hr (d .abstract) (d .final) false (d .mandatory) (hf t d (k .says base d q)))
 
 -- ---- 13
-module _ (p : Properties) (l : List (List ℕ)) (x : Ty) (e : p ≡ flagsOf l) (m : Bool) (h : m ≡ (hasTwice l || (isAbstract l && isFinal l))) where
-  pub head-mixed : m ≡ true → true ≡ (hasTwice l || ((isAbstract l && isFinal l) || (isNumeric x && not (isAbstract l))))
+module _ (p : Properties) (l : List (List ℕ)) (x : Ty) (e : p ≡ flagsOf l) (m : Bool)
+    (h : m ≡ (hasTwice l || (isAbstract l && isFinal l))) where
+  pub head-mixed : m ≡ true → true
+      ≡ (hasTwice l || ((isAbstract l && isFinal l) || (isNumeric x && not (isAbstract l))))
   head-mixed i = go (hasTwice l) (isAbstract l && isFinal l) (isNumeric x && not (isAbstract l)) (sym h ∙ i)
     where
       go : (a b c : Bool) → (a || b) ≡ true → true ≡ (a || (b || c))
@@ -85,7 +94,8 @@ module _ (p : Properties) (l : List (List ℕ)) (x : Ty) (e : p ≡ flagsOf l) (
       go false true c q = refl
       go false false c q = never q
 
-  pub head-abstract : m ≡ false → p .«is_abstract» ≡ true → false ≡ (hasTwice l || ((isAbstract l && isFinal l) || (isNumeric x && not (isAbstract l))))
+  pub head-abstract : m ≡ false → p .«is_abstract» ≡ true
+      → false ≡ (hasTwice l || ((isAbstract l && isFinal l) || (isNumeric x && not (isAbstract l))))
   head-abstract i a =
       let b : isAbstract l ≡ true = ap (λ (q : Properties). q .«is_abstract») (sym e) ∙ a in
       go (hasTwice l) (isAbstract l && isFinal l) (isNumeric x) (isAbstract l) (sym h ∙ i) b
@@ -96,7 +106,8 @@ module _ (p : Properties) (l : List (List ℕ)) (x : Ty) (e : p ≡ flagsOf l) (
       go false false true c q r = rw r
       go false false false c q r = refl
 
-  pub head-plain : m ≡ false → p .«is_abstract» ≡ false → (r : Bool) → r ≡ isNumeric x → r ≡ (hasTwice l || ((isAbstract l && isFinal l) || (isNumeric x && not (isAbstract l))))
+  pub head-plain : m ≡ false → p .«is_abstract» ≡ false → (r : Bool) → r ≡ isNumeric x
+      → r ≡ (hasTwice l || ((isAbstract l && isFinal l) || (isNumeric x && not (isAbstract l))))
   head-plain i a r s =
       let b : isAbstract l ≡ false = ap (λ (q : Properties). q .«is_abstract») (sym e) ∙ a in
       s ∙ go (hasTwice l) (isAbstract l && isFinal l) (isNumeric x) (isAbstract l) (sym h ∙ i) b
@@ -108,7 +119,8 @@ module _ (p : Properties) (l : List (List ℕ)) (x : Ty) (e : p ≡ flagsOf l) (
       go false false false c q r = refl
 
 -- ---- 9
-module _ (t : List ℕ) (s : State) (n : Name) (w : Option WrittenType) (a : ground.Name) (e : a ≡ nameCut n) (h : InText t n) (k : Bool) (i : k ≡ isFound (atHand s (bytesOf t a))) where
+module _ (t : List ℕ) (s : State) (n : Name) (w : Option WrittenType) (a : ground.Name) (e : a ≡ nameCut n)
+    (h : InText t n) (k : Bool) (i : k ≡ isFound (atHand s (bytesOf t a))) where
   at-name : k ≡ isFound (atHand s (n .bytes))
   at-name = i ∙ ap (λ (b : List ℕ). isFound (atHand s b)) (ap (bytesOf t) e ∙ h .there)
 
@@ -125,7 +137,8 @@ name-positive s n w = let e = element-nine w in (omega arith, (omega arith, tt))
 once-named : (s : State) (n : Name) (w : Option WrittenType) → rulingOf (nameRules s n w) .number ≡ 0 → Once w
 once-named s n w h = once-of w (go (isFound (atHand s (n .bytes))) h)
   where
-    go : (b : Bool) → rulingOf (rule 9 (n .offset) b ∷ elementRule w ∷ []) .number ≡ 0 → rulingOf (elementRule w ∷ []) .number ≡ 0
+    go : (b : Bool) → rulingOf (rule 9 (n .offset) b ∷ elementRule w ∷ []) .number ≡ 0
+        → rulingOf (elementRule w ∷ []) .number ≡ 0
     go true e = absurd (omega arith)
     go false e = e
 
@@ -135,38 +148,46 @@ middle q true y z e = absurd (omega arith)
 middle q false true z e = absurd (omega arith)
 middle q false false z e = refl
 
-extends-sort : (b : Option Reference) (o : Option Def) → rulingOf (extendsRules domain b o) .number ≡ 0 → (isFound o && not (isSort domain (orNoDef o .sort))) ≡ false
+extends-sort : (b : Option Reference) (o : Option Def) → rulingOf (extendsRules domain b o) .number ≡ 0
+    → (isFound o && not (isSort domain (orNoDef o .sort))) ≡ false
 unfolding extendsRules
-extends-sort b o h = middle (J.placeOf b) (isFound b && not (isFound o)) (isFound o && not (isSort domain (orNoDef o .sort))) (orNoDef o .final) h
+extends-sort b o h = middle (J.placeOf b) (isFound b && not (isFound o))
+    (isFound o && not (isSort domain (orNoDef o .sort))) (orNoDef o .final) h
 
 -- ---- the base
-fair-or-none : (t : List ℕ) (x : Ty) → Fair t x → FairOrNone t x
-fair-or-none t (text m n) h = h
-fair-or-none t (range r) h = h
-fair-or-none t numeric h = h
-fair-or-none t (enum e) h = h
-fair-or-none t structure h = absurd h
-
 -- of a fair definition, or none, that a domain may extend
 pub record BaseIs (t : List ℕ) (o : Option Def) : Type 0 where
   pub typed : (d : Def) → o ≡ some d → (d .sort ≡ domain) × Fair t (d .type)
   pub fair : FairOrNone t (orNoDef o .type)
   pub bare : attributesOf (orNoDef o) ≡ []
 
-base-is : (t : List ℕ) (n : ℕ) (o : Option Def) → AnyIs (FairDef t n) o → (isFound o && not (isSort domain (orNoDef o .sort))) ≡ false → BaseIs t o
-base-is t n none k e = record { typed = λ d q. let z : _≡_ {A = ℕ} 0 1 = cc in absurd (omega arith); fair = tt; bare = refl }
+base-is : (t : List ℕ) (n : ℕ) (o : Option Def) → AnyIs (FairDef t n) o
+    → (isFound o && not (isSort domain (orNoDef o .sort))) ≡ false → BaseIs t o
+base-is t n none k e = record {
+  typed = λ d q. let z : _≡_ {A = ℕ} 0 1 = cc in absurd (omega arith);
+  fair = tt;
+  bare = refl;
+}
 base-is t n (some d) k e =
     let s : isSort domain (d .sort) ≡ true = not-fails e in
     let g = sort-domain (d .sort) s in
     let f = domain-fair t n d k s in
-    record { typed = λ c q. let i : d ≡ c = cc in subst (λ (x : Def). (x .sort ≡ domain) × Fair t (x .type)) i (g, f); fair = fair-or-none t (d .type) f; bare = k .bare g }
+    record {
+      typed = λ c q. let i : d ≡ c = cc in subst (λ (x : Def). (x .sort ≡ domain) × Fair t (x .type)) i (g, f);
+      fair = fair-or-none t (d .type) f;
+      bare = k .bare g;
+    }
 
-pub base-none : (t b : List ℕ) (ks : List Def) (base : ℕ) → base ≡ 0 → Typed t b (orNoDef (entry ks base) .type) Structure
+pub base-none : (t b : List ℕ) (ks : List Def) (base : ℕ) → base ≡ 0
+    → Typed t b (orNoDef (entry ks base) .type) Structure
 base-none t b ks base e = rw e
 
-pub base-there : (t b : List ℕ) (ks : List Def) (ms : List Attribute) (x : List ℕ) (count : ℕ) (y : List ℕ) (total base : ℕ) → 0 < base → base ≤ count → Held t b ks ms x count y total
-    → ((d : Def) → entry ks base ≡ some d → (d .sort ≡ domain) × Fair t (d .type)) → (at : ℕ) → at ≡ getD (row definitionWidth x base) 6 0
-    → (r : Typing) → ((t : List ℕ) (h : Record) (x : Ty) → length h ≡ headSize → Fair t x → Stands b at (h ∷ typeRecords x) → Typed t b x r) → Typed t b (orNoDef (entry ks base) .type) r
+pub base-there : (t b : List ℕ) (ks : List Def) (ms : List Attribute) (x : List ℕ) (count : ℕ) (y : List ℕ)
+    (total base : ℕ) → 0 < base → base ≤ count → Held t b ks ms x count y total
+    → ((d : Def) → entry ks base ≡ some d → (d .sort ≡ domain) × Fair t (d .type)) → (at : ℕ)
+    → at ≡ getD (row definitionWidth x base) 6 0
+    → (r : Typing) → ((t : List ℕ) (h : Record) (x : Ty) → length h ≡ headSize → Fair t x
+    → Stands b at (h ∷ typeRecords x) → Typed t b x r) → Typed t b (orNoDef (entry ks base) .type) r
 base-there t b ks ms x count y total base z l h f at e r g =
     let n = h .all-defs in
     let (d, q) = entry-there ks base z (omega arith) in
@@ -182,17 +203,21 @@ found-at ks (suc i) h = let (d, q) = entry-there ks (suc i) (omega arith) h in r
 abbrev pub domainOf : Name → List (List ℕ) → Option Reference → Written → DomainUnit
 domainOf n p b w = record { name = nameCut n; properties = flagsOf p; base = extendsOf b; written = writtenOf w }
 
-pub domain-is : {t : List ℕ} {s : State} {n : Name} {p : List (List ℕ)} {b : Option Reference} {w : Written} {d : DomainUnit} {rs : List ℕ} → Comes t s (U.domain n p b w) (Domain d) rs
+pub domain-is : {t : List ℕ} {s : State} {n : Name} {p : List (List ℕ)} {b : Option Reference} {w : Written} {d :
+    DomainUnit} {rs : List ℕ} → Comes t s (U.domain n p b w) (Domain d) rs
     → d ≡ domainOf n p b w
 domain-is h = let e = h .is .0 in cc
 
-pub unit-inside : {t : List ℕ} {s : State} {n : Name} {p : List (List ℕ)} {b : Option Reference} {w : Written} {d : DomainUnit} {rs : List ℕ} → Comes t s (U.domain n p b w) (Domain d) rs → Inside t (d .name)
+pub unit-inside : {t : List ℕ} {s : State} {n : Name} {p : List (List ℕ)} {b : Option Reference} {w : Written} {d :
+    DomainUnit} {rs : List ℕ} → Comes t s (U.domain n p b w) (Domain d) rs → Inside t (d .name)
 unit-inside {t = t} h = subst (λ (u : DomainUnit). Inside t (u .name)) (sym (domain-is h)) (h .fair .0 .fits)
 
-pub unit-scratch : {t : List ℕ} {s : State} {n : Name} {p : List (List ℕ)} {b : Option Reference} {w : Written} {d : DomainUnit} {rs : List ℕ} → Comes t s (U.domain n p b w) (Domain d) rs → Scratched t rs (w .type)
+pub unit-scratch : {t : List ℕ} {s : State} {n : Name} {p : List (List ℕ)} {b : Option Reference} {w : Written} {d :
+    DomainUnit} {rs : List ℕ} → Comes t s (U.domain n p b w) (Domain d) rs → Scratched t rs (w .type)
 unit-scratch {t = t} {w = w} {rs = rs} h = scratched t (h .scratch) rs (w .type) (h .fair .2 .type) (h .is .1)
 
-in-stages : (s : State) (n : Name) (p : List (List ℕ)) (b : Option Reference) (w : Written) (o : Option Def) → domainRules s n p b w o ≡ nameRules s n (w .type) ++ (extendsRules domain b o ++ rulesFrom13 n p w o)
+in-stages : (s : State) (n : Name) (p : List (List ℕ)) (b : Option Reference) (w : Written) (o : Option Def)
+    → domainRules s n p b w o ≡ nameRules s n (w .type) ++ (extendsRules domain b o ++ rulesFrom13 n p w o)
 unfolding domainRules domainTo16 newDomain
 in-stages s n p b w o = simp append-assoc
 
@@ -203,58 +228,79 @@ module _ (s : State) (n : Name) (p : List (List ℕ)) (b : Option Reference) (w 
   abbrev next : State
   next = declare s (def (newDomain s n p w (resolved s b)))
 
-  judge-is : judge s (U.domain n p b w) ≡ judgedBy (rulingOf (nameRules s n (w .type))) (judgedBy (rulingOf (extendsRules domain b (resolved s b))) (firstBrokenOr (rulesFrom13 n p w (resolved s b)) next))
+  judge-is : judge s (U.domain n p b w) ≡ judgedBy (rulingOf (nameRules s n (w .type))) (judgedBy
+      (rulingOf (extendsRules domain b (resolved s b))) (firstBrokenOr (rulesFrom13 n p w (resolved s b)) next))
   unfolding judge
   judge-is =
       ap (λ (l : List Rule). firstBrokenOr l next) (in-stages s n p b w (resolved s b))
-      ∙ (first-broken-by (nameRules s n (w .type)) (extendsRules domain b (resolved s b) ++ rulesFrom13 n p w (resolved s b)) next (name-positive s n (w .type))
-      ∙ ap (judgedBy (rulingOf (nameRules s n (w .type)))) (first-broken-by (extendsRules domain b (resolved s b)) (rulesFrom13 n p w (resolved s b)) next (extends-positive domain b (resolved s b))))
+      ∙ (first-broken-by (nameRules s n (w .type))
+      (extendsRules domain b (resolved s b) ++ rulesFrom13 n p w (resolved s b)) next (name-positive s n (w .type))
+      ∙ ap (judgedBy (rulingOf (nameRules s n (w .type)))) (first-broken-by (extendsRules domain b (resolved s b))
+      (rulesFrom13 n p w (resolved s b)) next (extends-positive domain b (resolved s b))))
 
-  passed-both : rulingOf (nameRules s n (w .type)) .number ≡ 0 → rulingOf (extendsRules domain b (resolved s b)) .number ≡ 0 → judge s (U.domain n p b w) ≡ firstBrokenOr (rulesFrom13 n p w (resolved s b)) next
+  passed-both : rulingOf (nameRules s n (w .type)) .number ≡ 0 → rulingOf (extendsRules domain b (resolved s b)) .number
+      ≡ 0 → judge s (U.domain n p b w) ≡ firstBrokenOr (rulesFrom13 n p w (resolved s b)) next
   passed-both e f = judge-is ∙ rw (e, f)
 
   module _ (t : List ℕ) (st : code.State) (r : code-judged.Judged) (o o₁ x₁ z₁ y hs : List ℕ) (q : Ruling) where
-    pub refused-name : q ≡ rulingOf (nameRules s n (w .type)) → 0 < q .number → r ≡ Refused (q .number) (q .place) → JudgedAs t (verdict s (U.domain n p b w) o) st r o₁ x₁ z₁ y hs
+    pub refused-name : q ≡ rulingOf (nameRules s n (w .type)) → 0 < q .number → r ≡ Refused (q .number) (q .place)
+        → JudgedAs t (verdict s (U.domain n p b w) o) st r o₁ x₁ z₁ y hs
     refused-name e h g = rw (judge-is, ← e, lt-ltb 0 (q .number) h) g
 
-    pub refused-extends : rulingOf (nameRules s n (w .type)) .number ≡ 0 → q ≡ rulingOf (extendsRules domain b (resolved s b)) → 0 < q .number → r ≡ Refused (q .number) (q .place)
+    pub refused-extends : rulingOf (nameRules s n (w .type)) .number ≡ 0
+        → q ≡ rulingOf (extendsRules domain b (resolved s b)) → 0 < q .number → r ≡ Refused (q .number) (q .place)
         → JudgedAs t (verdict s (U.domain n p b w) o) st r o₁ x₁ z₁ y hs
     refused-extends f e h g = rw (judge-is, f, ← e, lt-ltb 0 (q .number) h) g
 
-  pub judged-late : (t : List ℕ) (st : code.State) (r : code-judged.Judged) (o o₁ x₁ z₁ y hs : List ℕ) → rulingOf (nameRules s n (w .type)) .number ≡ 0 → rulingOf (extendsRules domain b (resolved s b)) .number ≡ 0
-      → JudgedAs t (room (lent (length o)) (n .offset) (firstBrokenOr (rulesFrom13 n p w (resolved s b)) next)) st r o₁ x₁ z₁ y hs → JudgedAs t (verdict s (U.domain n p b w) o) st r o₁ x₁ z₁ y hs
+  pub judged-late : (t : List ℕ) (st : code.State) (r : code-judged.Judged) (o o₁ x₁ z₁ y hs : List ℕ)
+      → rulingOf (nameRules s n (w .type)) .number ≡ 0 → rulingOf (extendsRules domain b (resolved s b)) .number ≡ 0
+      → JudgedAs t (room (lent (length o)) (n .offset) (firstBrokenOr (rulesFrom13 n p w (resolved s b)) next)) st r o₁
+      x₁ z₁ y hs → JudgedAs t (verdict s (U.domain n p b w) o) st r o₁ x₁ z₁ y hs
   judged-late t st r o o₁ x₁ z₁ y hs e f g = rw (passed-both e f) g
 
 -- ---- 13 to 17
-pub whole-laid : (u : Bool) (v : Ruling) (l : List Record) (at : ℕ) (o o₂ : List ℕ) (a : code-laying.Laying) (z : Size) → LaidWhen u v l at o o₂ a → a ≡ Whole z
+pub whole-laid : (u : Bool) (v : Ruling) (l : List Record) (at : ℕ) (o o₂ : List ℕ) (a : code-laying.Laying) (z : Size)
+    → LaidWhen u v l at o o₂ a → a ≡ Whole z
     → (z ≡ sizeOf l) × (u ≡ false) × (at + length (bytes l) ≤ length o → o₂ ≡ splice o at (bytes l))
 whole-laid true v l at o o₂ a z h e = let y : _≡_ {A = ℕ} 0 1 = cc in absurd (omega arith)
 whole-laid false v l at o o₂ a z h e = let i = h .0 in (cc, refl, h .1)
 
-module _ (t : List ℕ) (n : Name) (p : List (List ℕ)) (w : Written) (c : Option Def) (s' : State) (m : Given) (st : code.State) (r : code-judged.Judged) (o₁ x₁ z₁ y hs : List ℕ)
-    (k : Bool) (i : k ≡ (hasTwice p || ((isAbstract p && isFinal p) || (isNumeric (domainType (w .type) (orNoDef c .type)) && not (isAbstract p))))) where
-  pub refused-head : k ≡ true → r ≡ Refused 13 (n .offset) → JudgedAs t (room m (n .offset) (firstBrokenOr (rulesFrom13 n p w c) s')) st r o₁ x₁ z₁ y hs
+module _ (t : List ℕ) (n : Name) (p : List (List ℕ)) (w : Written) (c : Option Def) (s' : State) (m : Given)
+    (st : code.State) (r : code-judged.Judged) (o₁ x₁ z₁ y hs : List ℕ)
+    (k : Bool) (i : k ≡ (hasTwice p || ((isAbstract p && isFinal p)
+    || (isNumeric (domainType (w .type) (orNoDef c .type)) && not (isAbstract p))))) where
+  pub refused-head : k ≡ true → r ≡ Refused 13 (n .offset)
+      → JudgedAs t (room m (n .offset) (firstBrokenOr (rulesFrom13 n p w c) s')) st r o₁ x₁ z₁ y hs
   refused-head j g = rw (← i, j) g
 
   module _ (j : k ≡ false) (l : List Record) (at : ℕ) (o o₂ : List ℕ) (a : code-laying.Laying)
-      (h : LaidWhen (ltb 0 (rulingOf (writtenRules (isFound c) (w .place) (w .type) (orNoDef c .type)) .number)) (rulingOf (writtenRules (isFound c) (w .place) (w .type) (orNoDef c .type))) l at o o₂ a) where
-    behind-head : firstBrokenOr (rulesFrom13 n p w c) s' ≡ judgedBy (rulingOf (writtenRules (isFound c) (w .place) (w .type) (orNoDef c .type))) (ok s')
-    behind-head = rw (← i, j) (first-broken-all (writtenRules (isFound c) (w .place) (w .type) (orNoDef c .type)) s' (written-positive (isFound c) (w .place) (w .type) (orNoDef c .type)))
+      (h : LaidWhen (ltb 0 (rulingOf (writtenRules (isFound c) (w .place) (w .type) (orNoDef c .type)) .number))
+      (rulingOf (writtenRules (isFound c) (w .place) (w .type) (orNoDef c .type))) l at o o₂ a) where
+    behind-head : firstBrokenOr (rulesFrom13 n p w c) s'
+        ≡ judgedBy (rulingOf (writtenRules (isFound c) (w .place) (w .type) (orNoDef c .type))) (ok s')
+    behind-head = rw (← i, j) (first-broken-all (writtenRules (isFound c) (w .place) (w .type) (orNoDef c .type)) s'
+        (written-positive (isFound c) (w .place) (w .type) (orNoDef c .type)))
 
-    pub refused-type : (q : Ruling) → a ≡ Broken q → r ≡ Refused (q .number) (q .place) → JudgedAs t (room m (n .offset) (firstBrokenOr (rulesFrom13 n p w c) s')) st r o₁ x₁ z₁ y hs
-    refused-type q e g = rw behind-head (go (rulingOf (writtenRules (isFound c) (w .place) (w .type) (orNoDef c .type))) (ltb 0 (rulingOf (writtenRules (isFound c) (w .place) (w .type) (orNoDef c .type)) .number)) refl h)
+    pub refused-type : (q : Ruling) → a ≡ Broken q → r ≡ Refused (q .number) (q .place)
+        → JudgedAs t (room m (n .offset) (firstBrokenOr (rulesFrom13 n p w c) s')) st r o₁ x₁ z₁ y hs
+    refused-type q e g = rw behind-head (go (rulingOf (writtenRules (isFound c) (w .place) (w .type) (orNoDef c .type)))
+        (ltb 0 (rulingOf (writtenRules (isFound c) (w .place) (w .type) (orNoDef c .type)) .number)) refl h)
       where
-        go : (v : Ruling) (u : Bool) → ltb 0 (v .number) ≡ u → LaidWhen u v l at o o₂ a → JudgedAs t (room m (n .offset) (judgedBy v (ok s'))) st r o₁ x₁ z₁ y hs
+        go : (v : Ruling) (u : Bool) → ltb 0 (v .number) ≡ u → LaidWhen u v l at o o₂ a
+            → JudgedAs t (room m (n .offset) (judgedBy v (ok s'))) st r o₁ x₁ z₁ y hs
         go v true f h = let i : q ≡ v = cc in rw f (g ∙ ap (λ (x : Ruling). Refused (x .number) (x .place)) i)
         go v false f h = let d = h .0 in let z : _≡_ {A = ℕ} 0 1 = cc in absurd (omega arith)
 
     pub fine-type : (z : Size) → a ≡ Whole z → firstBrokenOr (rulesFrom13 n p w c) s' ≡ ok s'
     fine-type z e =
-        let u : ltb 0 (rulingOf (writtenRules (isFound c) (w .place) (w .type) (orNoDef c .type)) .number) ≡ false = whole-laid _ _ l at o o₂ a z h e .1 in
+        let u : ltb 0 (rulingOf (writtenRules (isFound c) (w .place) (w .type) (orNoDef c .type)) .number)
+        ≡ false = whole-laid _ _ l at o o₂ a z h e .1 in
         behind-head ∙ rw u
 
 -- ---- between the stages
-module _ {t : List ℕ} {s : State} {st : code.State} {n : Name} {p : List (List ℕ)} {b : Option Reference} {w : Written} {o x z y hs rs : List ℕ} {d : DomainUnit} {base : ℕ} (h : Extending t s st n p b w o x z y hs rs d base) where
+module _ {t : List ℕ} {s : State} {st : code.State} {n : Name} {p : List
+    (List ℕ)} {b : Option Reference} {w : Written} {o x z y hs rs : List ℕ} {d : DomainUnit} {base : ℕ}
+    (h : Extending t s st n p b w o x z y hs rs d base) where
   pub is-unit : d ≡ domainOf n p b w
   is-unit = domain-is (h .comes)
 
@@ -262,13 +308,16 @@ module _ {t : List ℕ} {s : State} {st : code.State} {n : Name} {p : List (List
   once = once-named s n (w .type) (h .named)
 
   pub a-base : BaseIs t (resolved s b)
-  a-base = base-is t (length (records s)) (resolved s b) (any-resolved (FairDef t (length (records s))) s (h .keeps .fair .defs) b) (extends-sort b (resolved s b) (h .extends))
+  a-base = base-is t (length (records s)) (resolved s b)
+      (any-resolved (FairDef t (length (records s))) s (h .keeps .fair .defs) b)
+      (extends-sort b (resolved s b) (h .extends))
 
   pub at-base : (e : Def) → entry (known (s .decls)) base ≡ some e → (e .sort ≡ domain) × Fair t (e .type)
   at-base e q = a-base .typed e (sym (h .names) ∙ q)
 
   pub is-based : base ≤ st .listing .count → isFound (resolved s b) ≡ ltb 0 base
-  is-based l = ap isFound (sym (h .names)) ∙ found-at (known (s .decls)) base (let a = h .keeps .held .all-defs in omega arith)
+  is-based l =
+      ap isFound (sym (h .names)) ∙ found-at (known (s .decls)) base (let a = h .keeps .held .all-defs in omega arith)
 
   pub unbased : base ≤ st .listing .count → ltb 0 base ≡ false → orNoDef (resolved s b) .type ≡ structure
   unbased l e = go (resolved s b) (is-based l ∙ e)
@@ -278,19 +327,20 @@ module _ {t : List ℕ} {s : State} {st : code.State} {n : Name} {p : List (List
       go (some c) f = never (sym f)
 
   pub no-class : s .open-class ≡ none
-  no-class = go (s .open-class) (h .comes .stands)
-    where
-      go : (c : Option Def) → isFound c ≡ false → c ≡ none
-      go none f = refl
-      go (some c) f = never (sym f)
+  no-class = none-open s (h .comes .stands)
 
-  pub next-fair : firstBrokenOr (rulesFrom13 n p w (resolved s b)) (declare s (def (newDomain s n p w (resolved s b)))) ≡ ok (declare s (def (newDomain s n p w (resolved s b))))
+  pub next-fair : firstBrokenOr (rulesFrom13 n p w (resolved s b)) (declare s (def (newDomain s n p w (resolved s b))))
+      ≡ ok (declare s (def (newDomain s n p w (resolved s b))))
       → FairState t (declare s (def (newDomain s n p w (resolved s b))))
   next-fair e =
-      judge-fair t s (declare s (def (newDomain s n p w (resolved s b)))) (U.domain n p b w) (h .comes .fair) (h .comes .stands) (h .keeps .fair) (passed-both s n p b w (h .named) (h .extends) ∙ e)
+      judge-fair t s (declare s (def (newDomain s n p w (resolved s b)))) (U.domain n p b w) (h .comes .fair)
+      (h .comes .stands) (h .keeps .fair) (passed-both s n p b w (h .named) (h .extends) ∙ e)
 
-pub based-of : {t : List ℕ} {s : State} {st : code.State} {n : Name} {p : List (List ℕ)} {b : Option Reference} {w : Written} {o x z y hs rs : List ℕ} {d : DomainUnit} {base : ℕ} → Keeps t s st o x z y hs → Comes t s (U.domain n p b w) (Domain d) rs
-    → (q v : Ruling) → q ≡ rulingOf (nameRules s n (w .type)) → q .number ≡ 0 → v ≡ rulingOf (extendsRules domain b (resolved s b)) → v .number ≡ 0 → entry (known (s .decls)) base ≡ resolved s b
+pub based-of : {t : List ℕ} {s : State} {st : code.State} {n : Name} {p : List
+    (List ℕ)} {b : Option Reference} {w : Written} {o x z y hs rs : List ℕ} {d : DomainUnit} {base : ℕ}
+    → Keeps t s st o x z y hs → Comes t s (U.domain n p b w) (Domain d) rs
+    → (q v : Ruling) → q ≡ rulingOf (nameRules s n (w .type)) → q .number ≡ 0
+    → v ≡ rulingOf (extendsRules domain b (resolved s b)) → v .number ≡ 0 → entry (known (s .decls)) base ≡ resolved s b
     → Extending t s st n p b w o x z y hs rs d base
 based-of k h q v e f g i j = record {
   keeps = k;
@@ -301,49 +351,73 @@ based-of k h q v e f g i j = record {
 }
 
 -- ---- the base's type and the own
-module _ {t : List ℕ} {s : State} {st : code.State} {n : Name} {p : List (List ℕ)} {b : Option Reference} {w : Written} {o x z y hs rs : List ℕ} {d : DomainUnit} {base : ℕ} (h : Extending t s st n p b w o x z y hs rs d base) (low : base ≤ st .listing .count) where
+module _ {t : List ℕ} {s : State} {st : code.State} {n : Name} {p : List
+    (List ℕ)} {b : Option Reference} {w : Written} {o x z y hs rs : List ℕ} {d : DomainUnit} {base : ℕ}
+    (h : Extending t s st n p b w o x z y hs rs d base) (low : base ≤ st .listing .count) where
   abbrev unit : d ≡ domainOf n p b w
   unit = is-unit h
 
   abbrev kind : Ty
   kind = orNoDef (resolved s b) .type
 
-  pub base-typed : (r : Typing) → ((t : List ℕ) (ks : List Def) (ms : List Attribute) (count : ℕ) (y : List ℕ) (total : ℕ) → base ≤ count → Held t (take (st .extent .used) o) ks ms x count y total
-      → ((d : Def) → entry ks base ≡ some d → (d .sort ≡ domain) × Fair t (d .type)) → Typed t (take (st .extent .used) o) (orNoDef (entry ks base) .type) r) → Typed t (take (st .extent .used) o) kind r
+  pub base-typed : (r : Typing) → ((t : List ℕ) (ks : List Def) (ms : List Attribute) (count : ℕ) (y : List ℕ)
+      (total : ℕ) → base ≤ count → Held t (take (st .extent .used) o) ks ms x count y total
+      → ((d : Def) → entry ks base ≡ some d → (d .sort ≡ domain) × Fair t (d .type)) → Typed t
+      (take (st .extent .used) o) (orNoDef (entry ks base) .type) r) → Typed t (take (st .extent .used) o) kind r
   base-typed r f =
-      let held = subst (λ (e : List ℕ). Held t e (known (s .decls)) (attributesIn s) x (st .listing .count) y (st .listing .total)) (sym (h .keeps .written)) (h .keeps .held) in
+      let held =
+      subst (λ (e : List ℕ). Held t e (known (s .decls)) (attributesIn s) x (st .listing .count) y (st .listing .total))
+      (sym (h .keeps .written)) (h .keeps .held) in
       subst (λ (c : Option Def). Typed t (take (st .extent .used) o) (orNoDef c .type) r) (h .names)
       (f t (known (s .decls)) (attributesIn s) (st .listing .count) y (st .listing .total) low held (at-base h))
 
-  module _ (of own : Typing) (ty : Typed t (take (st .extent .used) o) kind of) (f : (v : Option WrittenType) (k : Ty) → d .written .meant ≡ anyOf v → Valued k of → Valued (domainType v k) own) where
+  module _ (of own : Typing) (ty : Typed t (take (st .extent .used) o) kind of) (f : (v : Option WrittenType) (k : Ty)
+      → d .written .meant ≡ anyOf v → Valued k of → Valued (domainType v k) own) where
     pub own-valued : Valued (domainType (w .type) kind) own
-    own-valued = f (w .type) kind (ap (λ (u : DomainUnit). u .written .meant) unit) (typed-valued t (take (st .extent .used) o) kind of ty)
+    own-valued = f (w .type) kind (ap (λ (u : DomainUnit). u .written .meant) unit)
+        (typed-valued t (take (st .extent .used) o) kind of ty)
 
     pub own-sized : Sized own × Sized of
     own-sized =
-        let e = a-base h .fair in
-        (sized-meant t (w .type) kind own (h .comes .fair .2 .type) e own-valued, sized-base t kind of e (typed-valued t (take (st .extent .used) o) kind of ty))
+        let e = a-base h .fair in (
+          sized-meant t (w .type) kind own (h .comes .fair .2 .type) e own-valued,
+          sized-base t kind of e (typed-valued t (take (st .extent .used) o) kind of ty),
+        )
 
     -- what lay_written ensures of this domain
-    pub laid : (o₂ : List ℕ) (a : code-laying.Laying) → ((v : Option WrittenType) (k : Ty) → d .written .meant ≡ anyOf v → referenceIn v ≡ none → AnyIs (Begins (d .written .place)) v → Scratched t rs v → Once v
-        → FairOrNone t k → (ltb 0 base ≡ false → k ≡ structure) → Valued (domainType v k) own → Typed t (take (st .extent .used) o) k of
-        → LaidWhen (ltb 0 (rulingOf (writtenRules (ltb 0 base) (d .written .place) v k) .number)) (rulingOf (writtenRules (ltb 0 base) (d .written .place) v k)) (typeRecords (domainType v k)) (st .extent .used + headSize) o o₂ a)
-        → LaidWhen (ltb 0 (rulingOf (writtenRules (isFound (resolved s b)) (w .place) (w .type) kind) .number)) (rulingOf (writtenRules (isFound (resolved s b)) (w .place) (w .type) kind)) (typeRecords (domainType (w .type) kind)) (st .extent .used + headSize) o o₂ a
+    pub laid : (o₂ : List ℕ) (a : code-laying.Laying) → ((v : Option WrittenType) (k : Ty) → d .written .meant ≡ anyOf v
+        → referenceIn v ≡ none → AnyIs (Begins (d .written .place)) v → Scratched t rs v → Once v
+        → FairOrNone t k → (ltb 0 base ≡ false → k ≡ structure) → Valued (domainType v k) own
+        → Typed t (take (st .extent .used) o) k of
+        → LaidWhen (ltb 0 (rulingOf (writtenRules (ltb 0 base) (d .written .place) v k) .number))
+        (rulingOf (writtenRules (ltb 0 base) (d .written .place) v k)) (typeRecords (domainType v k))
+        (st .extent .used + headSize) o o₂ a)
+        → LaidWhen (ltb 0 (rulingOf (writtenRules (isFound (resolved s b)) (w .place) (w .type) kind) .number))
+        (rulingOf (writtenRules (isFound (resolved s b)) (w .place) (w .type) kind))
+        (typeRecords (domainType (w .type) kind)) (st .extent .used + headSize) o o₂ a
     laid o₂ a g =
         let i : d .written .place ≡ w .place = ap (λ (u : DomainUnit). u .written .place) unit in
-        let r = g (w .type) kind (ap (λ (u : DomainUnit). u .written .meant) unit) (h .comes .fair .3) (rw i (h .comes .fair .2 .begins)) (unit-scratch (h .comes))
+        let r = g (w .type) kind (ap (λ (u : DomainUnit). u .written .meant) unit) (h .comes .fair .3)
+        (rw i (h .comes .fair .2 .begins)) (unit-scratch (h .comes))
         (once h) (a-base h .fair) (unbased h low) own-valued ty in
-        subst (λ (u : Bool). LaidWhen (ltb 0 (rulingOf (writtenRules u (w .place) (w .type) kind) .number)) (rulingOf (writtenRules u (w .place) (w .type) kind)) (typeRecords (domainType (w .type) kind)) (st .extent .used + headSize) o o₂ a)
+        subst (λ (u : Bool). LaidWhen (ltb 0 (rulingOf (writtenRules u (w .place) (w .type) kind) .number))
+        (rulingOf (writtenRules u (w .place) (w .type) kind)) (typeRecords (domainType (w .type) kind))
+        (st .extent .used + headSize) o o₂ a)
         (sym (is-based h low)) (rw i at r)
 
     -- where no rule is broken
-    pub whole : (o₂ : List ℕ) (a : code-laying.Laying) → LaidWhen (ltb 0 (rulingOf (writtenRules (isFound (resolved s b)) (w .place) (w .type) kind) .number)) (rulingOf (writtenRules (isFound (resolved s b)) (w .place) (w .type) kind)) (typeRecords (domainType (w .type) kind)) (st .extent .used + headSize) o o₂ a
-        → (z : Size) → a ≡ Whole z → (z ≡ sizeOf (typeRecords (domainType (w .type) kind))) × (st .extent .used + headSize + length (bytes (typeRecords (domainType (w .type) kind))) ≤ length o → o₂ ≡ splice o (st .extent .used + headSize) (bytes (typeRecords (domainType (w .type) kind))))
-    whole o₂ a l z e = let v = whole-laid (ltb 0 (rulingOf (writtenRules (isFound (resolved s b)) (w .place) (w .type) kind) .number)) (rulingOf (writtenRules (isFound (resolved s b)) (w .place) (w .type) kind)) (typeRecords (domainType (w .type) kind)) (st .extent .used + headSize) o o₂ a z l e in (v .0, v .2)
+    pub whole : (o₂ : List ℕ) (a : code-laying.Laying)
+        → LaidWhen (ltb 0 (rulingOf (writtenRules (isFound (resolved s b)) (w .place) (w .type) kind) .number))
+        (rulingOf (writtenRules (isFound (resolved s b)) (w .place) (w .type) kind))
+        (typeRecords (domainType (w .type) kind)) (st .extent .used + headSize) o o₂ a
+        → (z : Size) → a ≡ Whole z → (z ≡ sizeOf (typeRecords (domainType (w .type) kind)))
+        × (st .extent .used + headSize + length (bytes (typeRecords (domainType (w .type) kind))) ≤ length o
+        → o₂ ≡ splice o (st .extent .used + headSize) (bytes (typeRecords (domainType (w .type) kind))))
+    whole o₂ a l z e =
+        let v = whole-laid (ltb 0 (rulingOf (writtenRules (isFound (resolved s b)) (w .place) (w .type) kind) .number))
+        (rulingOf (writtenRules (isFound (resolved s b)) (w .place) (w .type) kind))
+        (typeRecords (domainType (w .type) kind)) (st .extent .used + headSize) o o₂ a z l e in (v .0, v .2)
 
 -- ---- a lent table or buffer keeps its length
-pub still : {n a b : ℕ} → a ≡ b → n ≤ 2 * b → n ≤ 2 * a
-still e h = omega arith
-
 pub still-below : {n a b : ℕ} → a ≡ b → b ≤ n → a ≤ n
 still-below e h = omega arith

@@ -10,7 +10,8 @@ use Rattle.rules.specs.Grammar.{Reference, WrittenType, Written}
 use Rattle.rules.specs.Units as U
 use Rattle.rules.specs.Types.{Ty}
 use Rattle.rules.specs.Declarations.{Def, State, domain, def, isFound, atHand, known}
-use Rattle.rules.specs.Judge.{Judged, Rule, rule, firstBrokenOr, declare, newDomain, hasTwice, isAbstract, isFinal, isNumeric, orNoDef, resolved, domainType, elementRule, extendsRules}
+use Rattle.rules.specs.Judge.{Judged, Rule, rule, firstBrokenOr, declare, newDomain, hasTwice, isAbstract, isFinal}
+use Rattle.rules.specs.Judge.{isNumeric, orNoDef, resolved, domainType, elementRule, extendsRules}
 use Rattle.rules.specs.Book.{Record, bytes, typeRecords}
 use Rattle.ground.specs.Parts.{splice}
 use Rattle.ground.specs.declared.Name as code-name
@@ -21,7 +22,7 @@ use Rattle.names.specs.Index.{entry}
 use Rattle.names.specs.declared.NewDefinition.{NewDefinition}
 use Rattle.units.specs.declared.DomainUnit.{DomainUnit}
 use Rattle.units.specs.declared.Unit.the-variants.{Domain}
-use Rattle.types.specs.Rulings.{rulingOf}
+use Rattle.ground.specs.Rulings.{rulingOf}
 use Rattle.state.specs.declared.State as code
 use Rattle.state.specs.Parts.{indexIn, chainsIn, rowsIn}
 use Rattle.state.specs.Keeping.{Keeps, Comes}
@@ -33,18 +34,23 @@ nameRules s n w = rule 9 (n .offset) (isFound (atHand s (n .bytes))) ∷ element
 
 -- 13
 abbrev pub headRule : Name → List (List ℕ) → Ty → Rule
-headRule n p x = rule 13 (n .offset) (hasTwice p || ((isAbstract p && isFinal p) || (isNumeric x && not (isAbstract p))))
+headRule n p x =
+    rule 13 (n .offset) (hasTwice p || ((isAbstract p && isFinal p) || (isNumeric x && not (isAbstract p))))
 
 -- 13 to 17, over the base o
 abbrev pub rulesFrom13 : Name → List (List ℕ) → Written → Option Def → List Rule
-rulesFrom13 n p w o = headRule n p (domainType (w .type) (orNoDef o .type)) ∷ writtenRules (isFound o) (w .place) (w .type) (orNoDef o .type)
+rulesFrom13 n p w o =
+    headRule n p (domainType (w .type) (orNoDef o .type))
+    ∷ writtenRules (isFound o) (w .place) (w .type) (orNoDef o .type)
 
 -- the first that is broken, or the domain declared
 abbrev pub fromRule13 : State → Name → List (List ℕ) → Option Reference → Written → Judged
-fromRule13 s n p b w = firstBrokenOr (rulesFrom13 n p w (resolved s b)) (declare s (def (newDomain s n p w (resolved s b))))
+fromRule13 s n p b w =
+    firstBrokenOr (rulesFrom13 n p w (resolved s b)) (declare s (def (newDomain s n p w (resolved s b))))
 
 -- a domain breaks none of 9 to 12, and its base is the definition at a position
-pub record Extending (t : List ℕ) (s : State) (st : code.State) (n : Name) (p : List (List ℕ)) (b : Option Reference) (w : Written) (o x z y hs rs : List ℕ) (d : DomainUnit) (base : ℕ) : Type 0 where
+pub record Extending (t : List ℕ) (s : State) (st : code.State) (n : Name) (p : List (List ℕ)) (b : Option Reference)
+    (w : Written) (o x z y hs rs : List ℕ) (d : DomainUnit) (base : ℕ) : Type 0 where
   pub keeps : Keeps t s st o x z y hs
   pub comes : Comes t s (U.domain n p b w) (Domain d) rs
   pub named : rulingOf (nameRules s n (w .type)) .number ≡ 0
@@ -60,7 +66,8 @@ abbrev pub declaredIn : State → Name → List (List ℕ) → Option Reference 
 declaredIn s n p b w = declare s (def (newDomain s n p w (resolved s b)))
 
 -- Extending, with all rows and chains in the one slice v
-abbrev pub ExtendingIn : List ℕ → State → code.State → Name → List (List ℕ) → Option Reference → Written → List ℕ → List ℕ → List ℕ → List ℕ → DomainUnit → ℕ → Type 0
+abbrev pub ExtendingIn : List ℕ → State → code.State → Name → List (List ℕ) → Option Reference → Written → List ℕ
+    → List ℕ → List ℕ → List ℕ → DomainUnit → ℕ → Type 0
 ExtendingIn t s st n p b w o v hs rs d base =
     let l = st .listing .layout in
     Extending t s st n p b w o (indexIn l v) (chainsIn l v) (rowsIn l v) hs rs d base
@@ -81,14 +88,17 @@ domainDefinition st n f base = record {
 -- the records rs stand behind room for a head, if they fit
 pub record LaidBehind (rs : List Record) (st : code.State) (o o′ : List ℕ) (size : Size) : Type 0 where
   pub sized : size ≡ sizeOf rs
-  pub laid : st .extent .used + headSize + length (bytes rs) ≤ length o → o′ ≡ splice o (st .extent .used + headSize) (bytes rs)
+  pub laid : st .extent .used + headSize + length (bytes rs) ≤ length o
+      → o′ ≡ splice o (st .extent .used + headSize) (bytes rs)
 
 -- some domain is Extending; and the records of its type are of that size
 abbrev pub SomeExtending : List ℕ → code.State → List ℕ → List ℕ → List ℕ → DomainUnit → ℕ → Type 0
 SomeExtending t st o v rs d base =
-    (s : State) × (n : Name) × (p : List (List ℕ)) × (b : Option Reference) × (w : Written) × (hs : List ℕ) × ExtendingIn t s st n p b w o v hs rs d base
+    (s : State) × (n : Name) × (p : List (List ℕ)) × (b : Option Reference) × (w : Written) × (hs : List ℕ)
+    × ExtendingIn t s st n p b w o v hs rs d base
 
 abbrev pub SomeSized : List ℕ → code.State → ℕ → List ℕ → DomainUnit → ℕ → Size → Type 0
 SomeSized t st m v d base size =
-    (s : State) × (n : Name) × (p : List (List ℕ)) × (b : Option Reference) × (w : Written) × (o : List ℕ) × (hs : List ℕ) × (rs : List ℕ)
+    (s : State) × (n : Name) × (p : List (List ℕ)) × (b : Option Reference) × (w : Written) × (o : List ℕ)
+    × (hs : List ℕ) × (rs : List ℕ)
     × ExtendingIn t s st n p b w o v hs rs d base × (length o ≡ m) × (size ≡ sizeOf (recordsOf s b w))

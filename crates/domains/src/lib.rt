@@ -1,6 +1,8 @@
 // Judging a domain: 9 to 17 and 19, and its records.
 use enumerations::Size;
+use fitting::Typing;
 use ground::Name;
+use ground::Ruling;
 use names::NewDefinition;
 use parts::Properties;
 use parts::types::Meant;
@@ -8,8 +10,6 @@ use state::Judged;
 use state::State;
 use state::work;
 use types::Over;
-use types::Ruling;
-use types::Typing;
 use units::DomainUnit;
 use written::Laying;
 ghost use mathlib.Core.Path.{_≡_};
@@ -38,8 +38,9 @@ ghost use Rattle.parts.specs.Forms.{anyOf, flagsOf};
 ghost use Rattle.units.specs.declared.Unit.the-variants.{Domain as V·Domain};
 ghost use Rattle.wellformed.specs.Fairness.{Fair, FairState};
 ghost use Rattle.enumerations.specs.Standing.{InText};
-ghost use Rattle.types.specs.Rulings.{rulingOf};
-ghost use Rattle.types.specs.Values.{Valued, Typed, Scratched};
+ghost use Rattle.ground.specs.Rulings.{rulingOf};
+ghost use Rattle.fitting.specs.Values.{Valued, Typed};
+ghost use Rattle.types.specs.Writing.{Scratched};
 ghost use Rattle.state.specs.Keeping.{Comes, verdict, Kept, Answered};
 ghost use Rattle.domains.specs.Stages.{nameRules, ExtendingIn, domainDefinition};
 ghost use Rattle.domains.specs.Stages.{SomeSized, SomeExtending, recordsOf, declaredIn};
@@ -68,7 +69,8 @@ fn name_ruling(
         → Kept (now (text .entry)) s st o (now (work .entry)) hs → name ≡ nameCut n → InText (now (text .entry)) n
         → m ≡ anyOf w → Scratched (now (text .entry)) (now (scratch .entry)) w → r ≡ rulingOf (nameRules s n w)) ⌝ }
 {
-    if state::is_taken(text, work, st, name) {
+    let listing = st.listing;
+    if state::is_taken(text, work, listing, st.context.home, name) {
         return Ruling {
             number: 9,
             place: name.offset,
@@ -88,7 +90,7 @@ fn base_type(book: &[u8], used: usize, index: &[u16], base: usize) -> Typing
     if base == 0 {
         return Typing::Structure;
     }
-    types::type_behind(&book[..used], names::place_of(index, base))
+    fitting::type_behind(&book[..used], names::place_of(index, base))
 }
 
 // 13; NUMERIC is for ABSTRACT domains.
@@ -102,7 +104,7 @@ fn is_bad_head(p: Properties, own: Typing) -> bool
     if p.is_abstract {
         return false;
     }
-    types::is_numeric(own)
+    fitting::is_numeric(own)
 }
 
 // MANDATORY holds if written, or if the base has it.

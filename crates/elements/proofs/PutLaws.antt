@@ -13,7 +13,8 @@ use Rattle.ground.specs.Parts.{splice}
 use Rattle.ground.proofs.BufferLaws.{length-splice, splice-splice, set-splice}
 use Rattle.elements.specs.Noted.{restBytes, Put, Closed}
 
-pub put-put : (o p q : List ℕ) (i u v : ℕ) (a b : List ℕ) → length p ≡ length o → Put o p i a u → Put p q u b v → Put o q i (a ++ b) v
+pub put-put : (o p q : List ℕ) (i u v : ℕ) (a b : List ℕ) → length p ≡ length o → Put o p i a u
+    → Put p q u b v → Put o q i (a ++ b) v
 put-put o p q i u v a b l x y h =
     let n : length (a ++ b) ≡ length a + length b = length-append a b in
     let (e, w) = x (omega arith) in
@@ -28,8 +29,11 @@ put-two o i a b h =
     ap (λ (x : List ℕ). set x (i + 1) b) e ∙ set-splice (splice o i (a ∷ [])) (i + 1) b (omega arith)
     ∙ splice-splice o i (i + 1) (a ∷ []) (b ∷ []) refl (omega arith)
 
-flag-set : (b : List ℕ) (start f : ℕ) (vs : List ℕ) → start ≤ length b → set (splice b start (13 ∷ 0 ∷ vs)) (start + 1) f ≡ splice b start (13 ∷ f ∷ vs)
-flag-set b start f vs h = ap (λ (l : List ℕ). set l (start + 1) f) (parts 0) ∙ set-at (head ++ (13 ∷ [])) 0 (vs ++ after) f (start + 1) len ∙ sym (parts f)
+flag-set : (b : List ℕ) (start f : ℕ) (vs : List ℕ) → start ≤ length b
+    → set (splice b start (13 ∷ 0 ∷ vs)) (start + 1) f ≡ splice b start (13 ∷ f ∷ vs)
+flag-set b start f vs h =
+    ap (λ (l : List ℕ). set l (start + 1) f) (parts 0)
+    ∙ set-at (head ++ (13 ∷ [])) 0 (vs ++ after) f (start + 1) len ∙ sym (parts f)
   where
     head : List ℕ
     head = take start b
@@ -51,17 +55,20 @@ module _ (o : List ℕ) (start i : ℕ) (last : Bool) where
       let h2 : length (splice b start (13 ∷ x ∷ vs)) ≡ length b = length-splice b start (13 ∷ x ∷ vs) h1 in
       let q : set o (start + 1) f ≡ splice b start (13 ∷ x ∷ vs) = rw (g, e) (flag-set b start x vs (omega arith)) in (
         refl,
-        ap (λ (l : List ℕ). set l i 15) q ∙ set-splice (splice b start (13 ∷ x ∷ vs)) i 15 (omega arith) ∙ splice-splice b start i (13 ∷ x ∷ vs) (15 ∷ []) (sym u) (omega arith),
+        ap (λ (l : List ℕ). set l i 15) q ∙ set-splice (splice b start (13 ∷ x ∷ vs)) i 15 (omega arith)
+            ∙ splice-splice b start i (13 ∷ x ∷ vs) (15 ∷ []) (sym u) (omega arith),
       )
 
   -- where the list fits, the close does
   pub close-not : (length o < i + 1) ⊎ (i ≤ start + 1) → (p : List ℕ) (r : ℕ) → Closed o p start i r (end last)
   close-not n p r b vs e u h =
-      absurd (let l : length o ≡ length b = rw e (length-splice b start (13 ∷ 0 ∷ vs) (omega arith)) in ⊎-elim (λ k. omega arith) (λ k. omega arith) n)
+      absurd (let l : length o ≡ length b = rw e (length-splice b start (13 ∷ 0 ∷ vs) (omega arith)) in
+      ⊎-elim (λ k. omega arith) (λ k. omega arith) n)
 
 -- a list that was written up to i, and then closed
-pub put-closed : (o p q : List ℕ) (start i r : ℕ) (vs : List ℕ) (x : Enum) → length p ≡ length o → Put o p start (13 ∷ 0 ∷ vs) i → Closed p q start i r x →
-    Put o q start (13 ∷ bit (final x) 1 ∷ (vs ++ restBytes x)) r
+pub put-closed : (o p q : List ℕ) (start i r : ℕ) (vs : List ℕ) (x : Enum) → length p ≡ length o
+    → Put o p start (13 ∷ 0 ∷ vs) i → Closed p q start i r x
+    → Put o q start (13 ∷ bit (final x) 1 ∷ (vs ++ restBytes x)) r
 put-closed o p q start i r vs x l w c h =
     let n : length (vs ++ restBytes x) ≡ length vs + length (restBytes x) = length-append vs (restBytes x) in
     let (e, s) = w (omega arith) in

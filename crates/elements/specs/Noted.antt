@@ -16,7 +16,8 @@ abbrev pub restBytes : Enum → List ℕ
 restBytes e = bytes (elementRecords e)
 
 abbrev pub elementBytes : Element → List ℕ
-elementBytes e = bytes (nameRecord 14 (e .name) ∷ innerRecords (e .inner) (openRecord (e .inner) ∷ elementRecords (e .inner)))
+elementBytes e =
+    bytes (nameRecord 14 (e .name) ∷ innerRecords (e .inner) (openRecord (e .inner) ∷ elementRecords (e .inner)))
 
 -- o becomes p: where vs fits from i on it stands there, and r is behind it
 abbrev pub Put : List ℕ → List ℕ → ℕ → List ℕ → ℕ → Type 0
@@ -25,8 +26,9 @@ Put o p i vs r = i + length vs ≤ length o → (r ≡ i + length vs) × (p ≡ 
 -- the list that opened at start, with the records vs behind its opening, ends as x does: its flag is set
 abbrev pub Closed : List ℕ → List ℕ → ℕ → ℕ → ℕ → Enum → Type 0
 Closed o p start i r x =
-    (b vs : List ℕ) → o ≡ splice b start (13 ∷ 0 ∷ vs) → i ≡ start + length (13 ∷ 0 ∷ vs) → i + length (restBytes x) ≤ length b →
-    (r ≡ i + length (restBytes x)) × (p ≡ splice b start (13 ∷ bit (final x) 1 ∷ (vs ++ restBytes x)))
+    (b vs : List ℕ) → o ≡ splice b start (13 ∷ 0 ∷ vs) → i ≡ start + length (13 ∷ 0 ∷ vs)
+    → i + length (restBytes x) ≤ length b
+    → (r ≡ i + length (restBytes x)) × (p ≡ splice b start (13 ∷ bit (final x) 1 ∷ (vs ++ restBytes x)))
 
 -- the records of e stand at the scratch's start, and r is behind them
 abbrev pub Whole : List ℕ → List ℕ → ℕ → Enum → Type 0

@@ -17,13 +17,16 @@ module _ (o : List ℕ) (from n at i : ℕ) (h : i ≤ n) (hf : from + n ≤ at)
   pub copy-length : length (paste o at (part o from n) i) ≡ length o
   copy-length = let e = size in length-paste o at (part o from n) i (omega arith) (omega arith)
 
-  pub copy-more : i < n → set (paste o at (part o from n) i) (at + i) (getD (paste o at (part o from n) i) (from + i) 0) ≡ paste o at (part o from n) (i + 1)
+  pub copy-more : i < n → set (paste o at (part o from n) i) (at + i) (getD (paste o at (part o from n) i) (from + i) 0)
+      ≡ paste o at (part o from n) (i + 1)
   copy-more l =
       let e = size in
       let k : length (take at o) ≡ at = length-take-le at o (omega arith) in
       let u : from + i < length (take at o) = omega arith in
-      let v : from + i < length (take at o ++ take i (part o from n)) = rw (length-append (take at o) (take i (part o from n))) (omega arith) in
+      let v : from + i < length (take at o ++ take i (part o from n)) =
+      rw (length-append (take at o) (take i (part o from n))) (omega arith) in
       let g : getD (paste o at (part o from n) i) (from + i) 0 ≡ getD (part o from n) i 0 =
-      List·getD-append (take at o ++ take i (part o from n)) (drop (at + i) o) 0 (from + i) v ∙ List·getD-append (take at o) (take i (part o from n)) 0 (from + i) u
+      List·getD-append (take at o ++ take i (part o from n)) (drop (at + i) o) 0 (from + i) v
+      ∙ List·getD-append (take at o) (take i (part o from n)) 0 (from + i) u
       ∙ getD-take at o (from + i) 0 (omega arith) ∙ sym (getD-part o from n i l) in
       rw (g, add-one) (paste-suc o at (part o from n) i 0 (omega arith) (omega arith))

@@ -34,7 +34,8 @@ deep-inner k n (elem m i r) h = go (same n (m .bytes)) (deep-inner k n r (h .1))
     go false q = q
 
 -- where there is something inside one of two, there is room
-pub deep-room : (k : ℕ) (i j : Enum) → (plain i && plain j) ≡ false → DeepIn (plain i) k (Deep (k - 1) i) → DeepIn (plain j) k (Deep (k - 1) j) → 0 < k
+pub deep-room : (k : ℕ) (i j : Enum) → (plain i && plain j) ≡ false → DeepIn (plain i) k (Deep (k - 1) i)
+    → DeepIn (plain j) k (Deep (k - 1) j) → 0 < k
 deep-room k i j e a b = go (plain i) (plain j) e a b
   where
     go : (p q : Bool) → (p && q) ≡ false → DeepIn p k (Deep (k - 1) i) → DeepIn q k (Deep (k - 1) j) → 0 < k
@@ -54,10 +55,13 @@ pub deep-merge : (k : ℕ) (r w x : Enum) → Deep k r → Deep k x → Deep k (
 deep-merge k (end f) w x h g = deep-news k f w x g
 deep-merge k (elem n i r) w x h g =
     let j : Enum = inner (n .bytes) x in
-    let d = deep-inner k (n .bytes) x g in
-    (go (plain i && plain j) refl (deep-merge (k - 1) i i j (deep-of k i (h .0)) (deep-of k j d)), deep-merge k r w x (h .1) g)
+    let d = deep-inner k (n .bytes) x g in (
+      go (plain i && plain j) refl (deep-merge (k - 1) i i j (deep-of k i (h .0)) (deep-of k j d)),
+      deep-merge k r w x (h .1) g,
+    )
   where
     go : (c : Bool) → (plain i && plain (inner (n .bytes) x)) ≡ c → Deep (k - 1) (merge i (inner (n .bytes) x)) →
         DeepIn (plain (merge i (inner (n .bytes) x))) k (Deep (k - 1) (merge i (inner (n .bytes) x)))
     go true e q = rw (merge-plain i (inner (n .bytes) x) ∙ e) tt
-    go false e q = rw (merge-plain i (inner (n .bytes) x) ∙ e) (deep-room k i (inner (n .bytes) x) e (h .0) (deep-inner k (n .bytes) x g), q)
+    go false e q = rw (merge-plain i (inner (n .bytes) x) ∙ e)
+        (deep-room k i (inner (n .bytes) x) e (h .0) (deep-inner k (n .bytes) x g), q)

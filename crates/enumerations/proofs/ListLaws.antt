@@ -11,7 +11,8 @@ use Rattle.rules.specs.Bytes.{same}
 use Rattle.rules.specs.Book.{bit}
 use Rattle.rules.proofs.Tests.{split, fail-r}
 use Rattle.ground.specs.Parts.{part}
-use Rattle.enumerations.specs.Lists.{nowhere, isElement, isOpening, endFrom, pastInner, written, sameNames, findFrom}
+use Rattle.enumerations.specs.Lists.{nowhere, isElement, isOpening, endFrom, pastInner, written, sameNames}
+use Rattle.enumerations.specs.Lists.{findFrom}
 use Rattle.book.specs.Names.{Written}
 use Rattle.book.specs.declared.Part.{Part}
 use Rattle.book.specs.Sizes.{elementSize, listSize}
@@ -75,14 +76,16 @@ module _ (f : ℕ) (s : List ℕ) (p k c : ℕ) (h : p < length s) where
     end-close e = rw (lt-leb (length s) p h, ne-eqb _ _ a, ne-eqb _ _ b, ne-eqb _ _ e)
 
 -- a step takes one of the fuel: what the rest gives at any fuel that is enough, the whole gives
-pub more : {A : Type 0} (s : List ℕ) {r : A} (p q : ℕ) (F G : ℕ → A) → p < length s → p < q → ((f : ℕ) → F (suc f) ≡ G f) →
-    ((g : ℕ) → length s - q < g → r ≡ G g) → (f : ℕ) → length s - p < f → r ≡ F f
+pub more : {A : Type 0} (s : List ℕ) {r : A} (p q : ℕ) (F G : ℕ → A) → p < length s
+    → p < q → ((f : ℕ) → F (suc f) ≡ G f)
+    → ((g : ℕ) → length s - q < g → r ≡ G g) → (f : ℕ) → length s - p < f → r ≡ F f
 more s p q F G h l e m zero w = absurd (omega arith)
 more s p q F G h l e m (suc f) w = m f (omega arith) ∙ sym (e f)
 
 -- ---- names
-pub names-in : (t : List ℕ) (a b : Part) → leb (a .start + a .len) (length t) ≡ true → leb (b .start + b .len) (length t) ≡ true →
-    sameNames t a b ≡ same (part t (a .start) (a .len)) (part t (b .start) (b .len))
+pub names-in : (t : List ℕ) (a b : Part) → leb (a .start + a .len) (length t) ≡ true
+    → leb (b .start + b .len) (length t) ≡ true
+    → sameNames t a b ≡ same (part t (a .start) (a .len)) (part t (b .start) (b .len))
 unfolding sameNames
 names-in t a b p q = rw (p, q)
 
@@ -95,7 +98,8 @@ unfolding sameNames
 names-out-b t a b p = fail-r (leb (a .start + a .len) (length t)) (rw p)
 
 -- ---- a step of the search
-pub find-here : (f : ℕ) (t s : List ℕ) (p : ℕ) (n : Part) → isElement s p ≡ true → sameNames t n (written s p) ≡ true → findFrom (suc f) t s p n ≡ p + elementSize
+pub find-here : (f : ℕ) (t s : List ℕ) (p : ℕ) (n : Part) → isElement s p ≡ true → sameNames t n (written s p) ≡ true
+    → findFrom (suc f) t s p n ≡ p + elementSize
 unfolding findFrom
 find-here f t s p n e h = rw (e, h)
 
@@ -110,7 +114,8 @@ find-none zero t s p n e = refl
 find-none (suc f) t s p n e = rw e
 
 -- ---- parts of the text
-pub part-is : {a b c d : ℕ} → a ≡ c → b ≡ d → _≡_ {A = Part} (record { start = a; len = b }) (record { start = c; len = d })
+pub part-is : {a b c d : ℕ} → a ≡ c → b ≡ d
+    → _≡_ {A = Part} (record { start = a; len = b }) (record { start = c; len = d })
 part-is p q = rw (p, q)
 
 -- the name in a record

@@ -46,10 +46,12 @@ written s p = record { start = read4 s (p + 1); len = getD s (p + 5) 0 }
 
 unfoldable pub sameNames : List ℕ → Part → Part → Bool
 sameNames t a b =
-    leb (a .start + a .len) (length t) && (leb (b .start + b .len) (length t) && same (part t (a .start) (a .len)) (part t (b .start) (b .len)))
+    leb (a .start + a .len) (length t)
+    && (leb (b .start + b .len) (length t) && same (part t (a .start) (a .len)) (part t (b .start) (b .len)))
 
 -- past the name of the first element with the name n in the list at p; nowhere if there is none
 unfoldable pub findFrom : ℕ → List ℕ → List ℕ → ℕ → Part → ℕ
 findFrom zero t s p n = nowhere
 findFrom (suc f) t s p n =
-    cond (isElement s p) (cond (sameNames t n (written s p)) (p + elementSize) (findFrom f t s (pastInner s (p + elementSize)) n)) nowhere
+    cond (isElement s p)
+    (cond (sameNames t n (written s p)) (p + elementSize) (findFrom f t s (pastInner s (p + elementSize)) n)) nowhere

@@ -76,7 +76,8 @@ InsideBy false s f m l = (isOpening s m ≡ true) × (getD s (m + 1) 0 ≡ bit f
 abbrev pub ListAt : List ℕ → List ℕ → Enum → ℕ → Type 0
 ListAt t s (end f) p = (p < length s) × (getD s p 0 ≡ 15)
 ListAt t s (elem n i r) p =
-    ElementAt t s n p × InsideBy (plain i) s (final i) (p + elementSize) (ListAt t s i (p + elementSize + listSize)) × ListAt t s r (cond (plain i) (p + elementSize) (endOf i (p + elementSize + listSize)))
+    ElementAt t s n p × InsideBy (plain i) s (final i) (p + elementSize) (ListAt t s i (p + elementSize + listSize))
+    × ListAt t s r (cond (plain i) (p + elementSize) (endOf i (p + elementSize + listSize)))
 
 -- what is inside an element stands at m
 abbrev pub InsideAt : List ℕ → List ℕ → Enum → ℕ → Type 0
@@ -86,4 +87,5 @@ InsideAt t s i m = InsideBy (plain i) s (final i) m (ListAt t s i (m + 2))
 abbrev pub ElementsAt : List ℕ → List ℕ → Enum → ℕ → Type 0
 ElementsAt t s (end f) p = isElement s p ≡ false
 ElementsAt t s (elem n i r) p =
-    ElementAt t s n p × InsideAt t s i (p + elementSize) × ElementsAt t s r (cond (plain i) (p + elementSize) (endOf i (p + elementSize + listSize)))
+    ElementAt t s n p × InsideAt t s i (p + elementSize)
+    × ElementsAt t s r (cond (plain i) (p + elementSize) (endOf i (p + elementSize + listSize)))

@@ -8,7 +8,8 @@ use native.Mathlib.Numerals.{add-one}
 use native.Mathlib.Omega.{arith}
 use lib.ListN.{length, take, drop, set, replicate, length-append, take-append-drop}
 use lib.Dec.{leb}
-use lib.Seq.{length-take-le, take-append-le, take-take, take-at, drop-append-add, drop-drop, append-snoc, paste, take-length, set-split, sets-eq, length-sets}
+use lib.Seq.{length-take-le, take-append-le, take-take, take-at, drop-append-add, drop-drop, append-snoc, paste}
+use lib.Seq.{take-length, set-split, sets-eq, length-sets}
 use borrow.Author.Tests.{leb-true, le-leb, lt-leb}
 use Rattle.rules.specs.Book.{padded}
 use Rattle.ground.specs.Parts.{splice, putAt}
@@ -18,13 +19,15 @@ pub length-splice : (l : List ℕ) (i : ℕ) (a : List ℕ) → i + length a ≤
 length-splice l i a h = ap length (sym (sets-eq a l i h)) ∙ length-sets l i a
 
 -- one part right after another
-pub splice-splice : (l : List ℕ) (i n : ℕ) (a b : List ℕ) → i + length a ≡ n → n ≤ length l → splice (splice l i a) n b ≡ splice l i (a ++ b)
+pub splice-splice : (l : List ℕ) (i n : ℕ) (a b : List ℕ) → i + length a ≡ n → n ≤ length l
+    → splice (splice l i a) n b ≡ splice l i (a ++ b)
 splice-splice l i n a b e h =
     let q : List ℕ = drop (i + length a) l in
     let p : List ℕ = take i l ++ a in
     let lp : length p ≡ n = length-append (take i l) a ∙ rw (length-take-le i l (omega arith)) e in
     ap (λ (x : List ℕ). x ++ b ++ drop (n + length b) (p ++ q)) (take-at p q n lp)
-    ∙ ap (λ (x : List ℕ). p ++ b ++ x) (ap (λ (k : ℕ). drop (k + length b) (p ++ q)) (sym lp) ∙ drop-append-add p q (length b) ∙ drop-drop (length b) (i + length a) l)
+    ∙ ap (λ (x : List ℕ). p ++ b ++ x) (ap (λ (k : ℕ). drop (k + length b) (p ++ q)) (sym lp)
+    ∙ drop-append-add p q (length b) ∙ drop-drop (length b) (i + length a) l)
     ∙ rw (append-assoc (take i l) a b, length-append a b, add-assoc)
 
 pub splice-none : (l : List ℕ) (i : ℕ) → splice l i [] ≡ l
@@ -66,7 +69,8 @@ take-put l n i vs h = go (leb (i + length vs) (length l)) refl
         let k : length (take i l) ≡ i = length-take-le i l (omega arith) in
         let u : n ≤ length (take i l) = omega arith in
         let v : n ≤ length (take i l ++ vs) = rw (length-append (take i l) vs) (omega arith) in
-        take-append-le n (take i l ++ vs) (drop (i + length vs) l) v ∙ take-append-le n (take i l) vs u ∙ take-take n i l h
+        take-append-le n (take i l ++ vs) (drop (i + length vs) l) v
+        ∙ take-append-le n (take i l) vs u ∙ take-take n i l h
     go false e = refl
 
 -- ---- padded

@@ -4,3 +4,4 @@ pub mod SignLaws
 pub mod TableLaws
 pub mod ScanLaws
 pub mod LentLaws
+pub mod RulingLaws

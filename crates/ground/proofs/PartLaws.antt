@@ -21,13 +21,20 @@ unlike (a ∷ x) [] h = refl
 unlike (a ∷ x) (b ∷ y) h = fail-r (eqb a b) (unlike x y (λ e. h (ap suc e)))
 
 -- parts of unlike length differ
-pub same-unlike : (t : List ℕ) (a m b n : ℕ) → a + m ≤ length t → b + n ≤ length t → ¬ (m ≡ n) → same (part t a m) (part t b n) ≡ false
-same-unlike t a m b n ha hb h = unlike (part t a m) (part t b n) (λ e. h (sym (length-part t a m ha) ∙ e ∙ length-part t b n hb))
+pub same-unlike : (t : List ℕ) (a m b n : ℕ) → a + m ≤ length t → b + n ≤ length t → ¬ (m ≡ n)
+    → same (part t a m) (part t b n) ≡ false
+same-unlike t a m b n ha hb h =
+    unlike (part t a m) (part t b n) (λ e. h (sym (length-part t a m ha) ∙ e ∙ length-part t b n hb))
 
 -- a number of four bytes, read in a part
 pub read4-part : (b : List ℕ) (i n j : ℕ) → j + 4 ≤ n → read4 (part b i n) j ≡ read4 b (i + j)
 read4-part b i n j h =
-    rw (getD-take n (drop i b) j 0 (omega arith), getD-take n (drop i b) (j + 1) 0 (omega arith), getD-take n (drop i b) (j + 2) 0 (omega arith), getD-take n (drop i b) (j + 3) 0 (omega arith))
+    rw (
+      getD-take n (drop i b) j 0 (omega arith),
+      getD-take n (drop i b) (j + 1) 0 (omega arith),
+      getD-take n (drop i b) (j + 2) 0 (omega arith),
+      getD-take n (drop i b) (j + 3) 0 (omega arith),
+    )
     (simp (getD-drop, add-assoc))
 
 pub getD-part : (b : List ℕ) (i n j : ℕ) → j < n → getD (part b i n) j 0 ≡ getD b (i + j) 0

@@ -20,7 +20,12 @@ pub record Below (v : ℤ) : Type 0 where
 
 pub below : (v : ℤ) → ltZ v (pos 0) ≡ true → SFits w64 v → Below v
 below (pos a) s f = absurd (omega (arith, ltb-true a 0 s))
-below (negsuc zero) s f = record { next = record { sfits = lit< tt }; turned = refl; fits = record { sfits = lit< tt }; bits = refl }
+below (negsuc zero) s f = record {
+  next = record { sfits = lit< tt };
+  turned = refl;
+  fits = record { sfits = lit< tt };
+  bits = refl;
+}
 below (negsuc (suc a)) s f =
     let e : pos 0 -ℤ (negsuc (suc a) +ℤ pos 1) ≡ pos (suc a) = rw (+ℤ-one, +ℤ-idl) in
     record {

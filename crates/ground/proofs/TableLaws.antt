@@ -1,4 +1,5 @@
--- A rule at every number of a range, from one test that the prover computes; and what a `match` says where it takes none of its keys.
+-- A rule at every number of a range, from one test that the prover computes; and what a `match` says where it
+-- takes none of its keys.
 use mathlib.Core.Path.{_≡_, refl, subst}
 use mathlib.Core.Bool.{Bool, true, false, not, _&&_, _||_}
 use mathlib.Core.Logic.{_⊎_, inl, inr, ⊎-elim}
@@ -28,7 +29,8 @@ pub on : (p : ℕ → Bool) (i n : ℕ) → every p i n ≡ true → (b : ℕ) �
 on p i zero t b h k = absurd (omega arith)
 on p i (suc n) t b h k =
     let (first, rest) = split t in
-    ⊎-elim (λ (e : i ≡ b). subst (λ (x : ℕ). p x ≡ true) e first) (λ (l : i < b). on p (suc i) n rest b l (omega arith)) (eq-or-lt-of-le h)
+    ⊎-elim (λ (e : i ≡ b). subst (λ (x : ℕ). p x ≡ true) e first)
+    (λ (l : i < b). on p (suc i) n rest b l (omega arith)) (eq-or-lt-of-le h)
 
 -- a test of the form 'not x, or y'
 pub implies : {x y : Bool} → (not x || y) ≡ true → x ≡ true → y ≡ true
@@ -58,7 +60,8 @@ key b (k ∷ []) p = at (or-split p)
     at (inr q) = never q
 key b (k ∷ j ∷ ks) p = at (or-split p) (λ q. key b (j ∷ ks) q)
   where
-    at : (eqb b k ≡ true) ⊎ (isKey b (j ∷ ks) ≡ true) → (isKey b (j ∷ ks) ≡ true → OneOf (j ∷ ks) b) → OneOf (k ∷ j ∷ ks) b
+    at : (eqb b k ≡ true) ⊎ (isKey b (j ∷ ks) ≡ true)
+        → (isKey b (j ∷ ks) ≡ true → OneOf (j ∷ ks) b) → OneOf (k ∷ j ∷ ks) b
     at (inl q) go = inl (eqb-true b k q)
     at (inr q) go = inr (go q)
 

@@ -23,6 +23,12 @@ pub enum Reference {
     InTopic(Name, Name, Name),
 }
 
+// A rule that is broken, and its place; 0 for none.
+pub struct Ruling {
+    pub number: u8,
+    pub place: usize,
+}
+
 // ---- tests
 pub fn either(a: bool, b: bool) -> bool
     ensures { λ r. ⌜ r ≡ (a || b) ⌝ }
@@ -137,10 +143,10 @@ pub fn put2(out: &mut [u16], at: usize, src: &[u16])
     requires { ⌜ at + length (now src) ≤ length (now out) ⌝ }
     ensures { λ _. ⌜ now (out .exit) ≡ splice (now (out .entry)) at (now (src .entry)) ⌝ }
 {
-    let mut i = 0;
-    while i < src.len() {
-        out[at + i] = src[i];
-        i += 1;
+    let mut k = 0;
+    while k < src.len() {
+        out[at + k] = src[k];
+        k += 1;
     }
 }
 

@@ -1,3 +1,2 @@
 pub mod UnitLaws
-pub mod ClassLaws
 pub mod EndLaws

@@ -15,7 +15,8 @@ use Rattle.rules.proofs.MergeLaws.{has-some, has-none, inner-some}
 use Rattle.enumerations.specs.Lists.{nowhere, isElement, pastInner, innerAt, written, findFrom}
 use Rattle.enumerations.specs.Standing.{plain, DeepIn, Deep, Stands, ElementsAt}
 use Rattle.holding.specs.Holding.{heldOf, pairAt, Reads}
-use Rattle.enumerations.proofs.StandLaws.{list-elements, past-inside, found, find-elements, found-inside, found-has, Inside, inside-is}
+use Rattle.enumerations.proofs.StandLaws.{list-elements, past-inside, found, find-elements, found-inside, found-has}
+use Rattle.enumerations.proofs.StandLaws.{Inside, inside-is}
 use Rattle.enumerations.proofs.WrittenLaws.{stands-whole}
 use Rattle.enumerations.proofs.WrittenLaws.{inner-stands}
 use Rattle.enumerations.specs.declared.Inner.{Inner}
@@ -36,7 +37,8 @@ held-fits p q = rw (p, q)
 
 module _ (t s : List ℕ) (p : ℕ) (v : Inner) (m : ℕ) (e : m ≡ findFrom (length s + 1) t s (v .list) (written s p)) where
   pub pair-found : m < nowhere → (i j : Inner) (h : Held) → i ≡ innerAt s (p + elementSize) → j ≡ innerAt s m →
-      h ≡ heldOf (isElement s (i .list)) (isElement s (j .list)) → record { held = h; own = i; base = j } ≡ pairAt t s p v
+      h ≡ heldOf (isElement s (i .list)) (isElement s (j .list))
+      → record { held = h; own = i; base = j } ≡ pairAt t s p v
   unfolding pairAt
   pair-found l i j h ei ej eh = rw (← e, lt-ltb m nowhere l, ← ei, ← ej, eh)
 
@@ -71,7 +73,8 @@ deeper-missing false h = never h
 module _ (t s : List ℕ) where
   pub reads-stands : (e : Enum) (p : ℕ) (v : Inner) → v ≡ innerAt s p → Stands t s e p → Reads t s e v
   reads-stands e p v q h =
-      rw (q ∙ inner-stands t s e p h) (record { «is_final» = refl; list = list-elements t s e (p + listSize) (stands-whole t s e p h .list) })
+      rw (q ∙ inner-stands t s e p h)
+      (record { «is_final» = refl; list = list-elements t s e (p + listSize) (stands-whole t s e p h .list) })
 
   pub inside-held : (i j : Enum) (v w : Inner) → Reads t s i v → Reads t s j w →
       enumFits i j ≡ by (heldOf (isElement s (v .list)) (isElement s (w .list))) (fitsIn i j)
@@ -80,7 +83,8 @@ module _ (t s : List ℕ) where
   inside-held (elem n i r) j v w a b = rw (a .list .0 .there)
 
   -- a list that has elements is inside something
-  deep-list : (k : ℕ) (i : Enum) (p : ℕ) → ElementsAt t s i p → isElement s p ≡ true → DeepIn (plain i) k (Deep (k - 1) i) → (0 < k) × Deep (k - 1) i
+  deep-list : (k : ℕ) (i : Enum) (p : ℕ) → ElementsAt t s i p → isElement s p ≡ true
+      → DeepIn (plain i) k (Deep (k - 1) i) → (0 < k) × Deep (k - 1) i
   deep-list k (end f) p h e d = not-both e h
   deep-list k (elem n i r) p h e d = d
 
@@ -106,7 +110,8 @@ module _ (t s : List ℕ) where
   module _ (short : length s < nowhere) where
     record Judges (n : Name) (i b : Enum) (q : Pair) : Type 0 where
       says : orElse (at (n .bytes) b) (not (final b)) (enumFits i) ≡ by (q .held) (fitsIn i (inner (n .bytes) b))
-      inside : isDeeper (q .held) ≡ true → Reads t s i (q .own) × Reads t s (inner (n .bytes) b) (q .base) × (isElement s (q .own .list) ≡ true)
+      inside : isDeeper (q .held) ≡ true
+          → Reads t s i (q .own) × Reads t s (inner (n .bytes) b) (q .base) × (isElement s (q .own .list) ≡ true)
 
     reads-inside : (i : Enum) (m : ℕ) → Inside t s short i (innerAt s m) → Reads t s i (innerAt s m)
     reads-inside i m h = record { «is_final» = h .«is_final»; list = h .list }
@@ -115,7 +120,8 @@ module _ (t s : List ℕ) where
     missing true q = refl
     missing false q = refl
 
-    element-judged : (n : Name) (i r b : Enum) (p : ℕ) (v : Inner) → ElementsAt t s (elem n i r) p → Reads t s b v → Judges n i b (pairAt t s p v)
+    element-judged : (n : Name) (i r b : Enum) (p : ℕ) (v : Inner) → ElementsAt t s (elem n i r) p → Reads t s b v
+        → Judges n i b (pairAt t s p v)
     unfolding pairAt
     element-judged n i r b p v h g =
         let m : ℕ = findFrom (length s + 1) t s (v .list) (written s p) in
@@ -123,26 +129,35 @@ module _ (t s : List ℕ) where
         rw (h .0 .name) (find-elements t s n (h .0 .in-text) b (v .list) (g .list) (length s + 1) (omega arith)) in
         let hm : ltb m nowhere ≡ has (n .bytes) b = rw em (found-has t s short (n .bytes) b (v .list) (g .list)) in
         let I = reads-inside i (p + elementSize) (inside-is t s short i (p + elementSize) (h .1)) in
-        let J = reads-inside (inner (n .bytes) b) m (inside-is t s short (inner (n .bytes) b) m (rw em (found-inside t s short (n .bytes) b (v .list) (g .list)))) in
+        let J = reads-inside (inner (n .bytes) b) m (inside-is t s short (inner (n .bytes) b) m
+        (rw em (found-inside t s short (n .bytes) b (v .list) (g .list)))) in
         go m refl hm I J (at (n .bytes) b) refl
       where
-        go : (m : ℕ) → m ≡ findFrom (length s + 1) t s (v .list) (written s p) → ltb m nowhere ≡ has (n .bytes) b → Reads t s i (innerAt s (p + elementSize)) →
-            Reads t s (inner (n .bytes) b) (innerAt s m) → (o : Option Enum) → at (n .bytes) b ≡ o → Judges n i b (pairAt t s p v)
+        go : (m : ℕ) → m ≡ findFrom (length s + 1) t s (v .list) (written s p) → ltb m nowhere ≡ has (n .bytes) b
+            → Reads t s i (innerAt s (p + elementSize))
+            → Reads t s (inner (n .bytes) b) (innerAt s m) → (o : Option Enum) → at (n .bytes) b ≡ o
+            → Judges n i b (pairAt t s p v)
         go m em hm I J none e =
             rw (← em, hm ∙ has-none (n .bytes) b e)
-            (record { says = rw (e, g .«is_final») (missing (final b) _); inside = λ z. deeper-missing (v .«is_final») z })
+            (record {
+              says = rw (e, g .«is_final») (missing (final b) _);
+              inside = λ z. deeper-missing (v .«is_final») z;
+            })
         go m em hm I J (some j) e =
             rw (← em, hm ∙ has-some (n .bytes) b j e)
             (record {
-              says = rw e (inside-held i j (innerAt s (p + elementSize)) (innerAt s m) I (rw (inner-some (n .bytes) b j e) at J));
+              says = rw e (inside-held i j (innerAt s (p + elementSize)) (innerAt s m) I
+                  (rw (inner-some (n .bytes) b j e) at J));
               inside = λ z. (I, J, deeper-first _ _ z);
             })
 
-    pub stepped : (k : ℕ) (e b : Enum) (p next : ℕ) (v : Inner) (q : Pair) → Rest k e b p → isElement s p ≡ true → Reads t s b v →
-        q ≡ pairAt t s p v → next ≡ pastInner s (p + elementSize) → Stepped k e b next q
+    pub stepped : (k : ℕ) (e b : Enum) (p next : ℕ) (v : Inner) (q : Pair) → Rest k e b p
+        → isElement s p ≡ true → Reads t s b v
+        → q ≡ pairAt t s p v → next ≡ pastInner s (p + elementSize) → Stepped k e b next q
     stepped k e b p next v q R h g eq en = go (R .rest) (R .stands) (R .deep) (R .«is_final») (R .same)
       where
-        go : (r : Enum) → ElementsAt t s r p → Deep k r → final r ≡ final e → fitsIn e b ≡ fitsIn r b → Stepped k e b next q
+        go : (r : Enum) → ElementsAt t s r p → Deep k r → final r ≡ final e
+            → fitsIn e b ≡ fitsIn r b → Stepped k e b next q
         go (end c) l d f e = not-both h l
         go (elem n i r) l d f same =
             let J : Judges n i b q = rw eq (element-judged n i r b p v l g) in
@@ -151,15 +166,23 @@ module _ (t s : List ℕ) where
               i = i;
               j = inner (n .bytes) b;
               goes = λ z. let y : o ≡ true = J .says ∙ z in
-                  record { rest = r; stands = rw (en ∙ past-inside t s i (p + elementSize) (l .1)) (l .2); deep = d .1; «is_final» = f; same = same ∙ ap (_&& fitsIn r b) y };
+                  record {
+                    rest = r;
+                    stands = rw (en ∙ past-inside t s i (p + elementSize) (l .1)) (l .2);
+                    deep = d .1;
+                    «is_final» = f;
+                    same = same ∙ ap (_&& fitsIn r b) y;
+                  };
               stops = λ z. let y : o ≡ false = J .says ∙ z in same ∙ ap (_&& fitsIn r b) y;
               deeper = λ z. let u = J .inside (ap isDeeper z) in
                   let w = deep-list k i (q .own .list) (u .0 .list) (u .2) (d .0) in (u .0, u .1, w .0, w .1);
             }
 
-  pub finished : (k : ℕ) (e b : Enum) (p : ℕ) → Rest k e b p → isElement s p ≡ false → fitsIn e b ≡ (final e || not (final b))
+  pub finished : (k : ℕ) (e b : Enum) (p : ℕ) → Rest k e b p → isElement s p ≡ false
+      → fitsIn e b ≡ (final e || not (final b))
   finished k e b p R h = go (R .rest) (R .stands) (R .«is_final») (R .same)
     where
-      go : (r : Enum) → ElementsAt t s r p → final r ≡ final e → fitsIn e b ≡ fitsIn r b → fitsIn e b ≡ (final e || not (final b))
+      go : (r : Enum) → ElementsAt t s r p → final r ≡ final e → fitsIn e b ≡ fitsIn r b
+          → fitsIn e b ≡ (final e || not (final b))
       go (end c) l f e = e ∙ rw f
       go (elem n i r) l f e = not-both (l .0 .there) h

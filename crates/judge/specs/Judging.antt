@@ -18,5 +18,6 @@ ComesAny t s none u rs = u ≡ Mark
 ComesAny t s (some v) u rs = Comes t s v u rs
 
 -- with a buffer of m bytes, r is the answer to the unit v in the state s, which the code had as st; what it then holds
-pub record Answers (t : List ℕ) (m : ℕ) (s : State) (st : code.State) (r : Judged) (o w hs : List ℕ) (v : Option U.Unit) : Type 0 where
+pub record Answers (t : List ℕ) (m : ℕ) (s : State) (st : code.State) (r : Judged) (o w hs : List ℕ)
+    (v : Option U.Unit) : Type 0 where
   pub as-judged : Answered t (judged (lent m) s v) st r o w hs

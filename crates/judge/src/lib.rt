@@ -38,7 +38,7 @@ pub fn judge(
         Unit::Header(name) => heads::judge_header(text, st, name),
         Unit::Model(head) => heads::judge_model(text, book, st, head),
         Unit::Topic(name) => heads::judge_topic(text, book, work, st, name),
-        Unit::Class(head) => heads::judge_class(text, book, work, hand, st, head),
+        Unit::Class(head) => classes::judge_class(text, book, work, hand, st, head),
         Unit::Domain(d) => domains::judge_domain(text, book, work, scratch, tables, st, d),
         Unit::Attribute(a) => {
             attributes::judge_attribute(text, book, work, hand, scratch, tables, st, a)

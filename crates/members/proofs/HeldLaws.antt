@@ -10,13 +10,13 @@ use lib.ListN.{length, length-append, length-drop, getD, set, take, drop, take-a
 use lib.Seq.{drop-append-le, take-append-le, take-at, drop-at, length-take-le, set-split, drop-set-add, take-set-lt}
 use lib.Dec.{leb}
 use borrow.Author.Tests.{leb-true, leb-false}
-use Rattle.rules.specs.Declarations.{Attribute, Def, inline, tyOf, domain}
-use Rattle.rules.specs.Book.{flags, numberOr, headRecord, defRecord, typeRecords, useRecords}
+use Rattle.rules.specs.Declarations.{Attribute, Def, inline, tyOf}
+use Rattle.rules.specs.Book.{flags, numberOr, headRecord, typeRecords, useRecords}
 use Rattle.rules.specs.Judge.{naming}
 use Rattle.ground.specs.Parts.{part, splice}
 use Rattle.names.specs.Index.{entry, row, Based, definitionWidth}
 use Rattle.members.specs.Members.{Owns, Indexed, attributeWidth}
-use Rattle.members.specs.Held.{heading, useFor, DefRow, AttributeRow, Held}
+use Rattle.members.specs.Held.{useFor, DefRow, AttributeRow, Held}
 use Rattle.names.proofs.IndexLaws.{nth-within, nth-last, entry-keep, entry-within}
 use Rattle.names.proofs.BaseLaws.{entry-there}
 use Rattle.book.specs.Places.{Stands}
@@ -24,7 +24,8 @@ use Rattle.book.proofs.StandLaws.{stands-more, stands-behind}
 use Rattle.book.specs.Sizes.{headSize}
 
 -- ---- what lookups and filling need
-pub indexed : {t b : List ℕ} {ks : List Def} {ms : List Attribute} {x : List ℕ} {count : ℕ} {y : List ℕ} {total : ℕ} → Held t b ks ms x count y total → Indexed t ks ms x count y total
+pub indexed : {t b : List ℕ} {ks : List Def} {ms : List Attribute} {x : List ℕ} {count : ℕ} {y : List ℕ} {total : ℕ}
+    → Held t b ks ms x count y total → Indexed t ks ms x count y total
 indexed h = record {
   known = record { all = h .all-defs; says = λ p d e. h .def-rows p d e .says };
   chained = λ p d e. h .def-rows p d e .based;
@@ -48,15 +49,24 @@ module _ (ks es : List Def) (ms ns : List Attribute) where
         last = a;
         within = let l = length-append ms ns in omega arith;
         more = h .more ++ ns;
-        own = drop-append-le (getD r 8 0) ms ns (omega arith) ∙ ap (λ (l : List Attribute). l ++ ns) (h .own) ∙ append-assoc (d .own) (h .more) ns;
+        own =
+            drop-append-le (getD r 8 0) ms ns (omega arith) ∙ ap (λ (l : List Attribute). l ++ ns) (h .own)
+            ∙ append-assoc (d .own) (h .more) ns;
         unlike = h .unlike;
         few = h .few;
       }
 
-  pub def-row-more : (t b v : List ℕ) (p : ℕ) (d : Def) (r : List ℕ) → p ≤ length ks + 1 → DefRow t b ks ms p d r → DefRow t (b ++ v) (ks ++ es) (ms ++ ns) p d r
-  def-row-more t b v p d r w h = record { says = h .says; based = based-more p d r w (h .based); owns = owns-more d r (h .owns); stands = stands-more b v _ _ (h .stands) }
+  pub def-row-more : (t b v : List ℕ) (p : ℕ) (d : Def) (r : List ℕ) → p ≤ length ks + 1 → DefRow t b ks ms p d r
+      → DefRow t (b ++ v) (ks ++ es) (ms ++ ns) p d r
+  def-row-more t b v p d r w h = record {
+    says = h .says;
+    based = based-more p d r w (h .based);
+    owns = owns-more d r (h .owns);
+    stands = stands-more b v _ _ (h .stands);
+  }
 
-  pub attribute-row-more : (t b v : List ℕ) (a : Attribute) (r : List ℕ) → AttributeRow t b ks a r → AttributeRow t (b ++ v) (ks ++ es) a r
+  pub attribute-row-more : (t b v : List ℕ) (a : Attribute) (r : List ℕ) → AttributeRow t b ks a r
+      → AttributeRow t (b ++ v) (ks ++ es) a r
   attribute-row-more t b v a r h = record {
     tells = h .tells;
     stands = stands-more b v _ _ (h .stands);
@@ -78,18 +88,26 @@ part-keep x z i j n h w =
     let a : j ≤ length (take i x) = omega arith in
     let e : drop j (take i x ++ z) ≡ drop j (take i x) ++ z = drop-append-le j (take i x) z a in
     let k : n ≤ length (drop j (take i x)) = let d = length-drop j (take i x) in omega arith in
-    let u : drop j x ≡ drop j (take i x) ++ drop i x = ap (drop j) (sym (take-append-drop i x)) ∙ drop-append-le j (take i x) (drop i x) a in
+    let u : drop j x ≡ drop j (take i x) ++ drop i x =
+    ap (drop j) (sym (take-append-drop i x)) ∙ drop-append-le j (take i x) (drop i x) a in
     rw (e, u, take-append-le n (drop j (take i x)) z k, take-append-le n (drop j (take i x)) (drop i x) k)
 
 module _ (x r : List ℕ) (count : ℕ) where
-  pub agree-def : count * definitionWidth + 10 ≤ length x → Agree definitionWidth x (splice x ((count + 1) * definitionWidth) r) count
-  agree-def h p w = rw append-assoc (part-keep x (r ++ drop ((count + 1) * definitionWidth + length r) x) ((count + 1) * definitionWidth) (p * definitionWidth) 10 (omega arith) (omega arith))
+  pub agree-def : count * definitionWidth + 10 ≤ length x
+      → Agree definitionWidth x (splice x ((count + 1) * definitionWidth) r) count
+  agree-def h p w = rw append-assoc (part-keep x (r ++ drop ((count + 1) * definitionWidth + length r) x)
+      ((count + 1) * definitionWidth) (p * definitionWidth) 10 (omega arith) (omega arith))
 
-  pub agree-attribute : count * attributeWidth + 6 ≤ length x → Agree attributeWidth x (splice x ((count + 1) * attributeWidth) r) count
-  agree-attribute h p w = rw append-assoc (part-keep x (r ++ drop ((count + 1) * attributeWidth + length r) x) ((count + 1) * attributeWidth) (p * attributeWidth) 6 (omega arith) (omega arith))
+  pub agree-attribute : count * attributeWidth + 6 ≤ length x
+      → Agree attributeWidth x (splice x ((count + 1) * attributeWidth) r) count
+  agree-attribute h p w = rw append-assoc (part-keep x (r ++ drop ((count + 1) * attributeWidth + length r) x)
+      ((count + 1) * attributeWidth) (p * attributeWidth) 6 (omega arith) (omega arith))
 
-  pub agree-last : (v : ℕ) → count * definitionWidth + 20 ≤ length x → Agree definitionWidth x (set x ((count + 1) * definitionWidth + 9) v) count
-  agree-last v h p w = rw (set-split x ((count + 1) * definitionWidth + 9) v (omega arith)) (part-keep x (v ∷ drop (suc ((count + 1) * definitionWidth + 9)) x) ((count + 1) * definitionWidth + 9) (p * definitionWidth) 10 (omega arith) (omega arith))
+  pub agree-last : (v : ℕ) → count * definitionWidth + 20 ≤ length x
+      → Agree definitionWidth x (set x ((count + 1) * definitionWidth + 9) v) count
+  agree-last v h p w = rw (set-split x ((count + 1) * definitionWidth + 9) v (omega arith))
+      (part-keep x (v ∷ drop (suc ((count + 1) * definitionWidth + 9)) x) ((count + 1) * definitionWidth + 9)
+      (p * definitionWidth) 10 (omega arith) (omega arith))
 
 pub row-written : (w : ℕ) (x r : List ℕ) (p : ℕ) → length r ≡ w → p * w ≤ length x → row w (splice x (p * w) r) p ≡ r
 row-written w x r p e h =
@@ -100,14 +118,21 @@ row-written w x r p e h =
     ∙ ap (take w) (drop-at (take i x) (r ++ z) i l)
     ∙ take-at r z w e
 
-pub row-last : (x : List ℕ) (p v : ℕ) → row definitionWidth (set x (p * definitionWidth + 9) v) p ≡ set (row definitionWidth x p) 9 v
-row-last x p v = ap (take 10) (drop-set-add (p * definitionWidth) x 9 v) ∙ take-set-lt 10 (drop (p * definitionWidth) x) 9 v (omega arith)
+pub row-last : (x : List ℕ) (p v : ℕ)
+    → row definitionWidth (set x (p * definitionWidth + 9) v) p ≡ set (row definitionWidth x p) 9 v
+row-last x p v =
+    ap (take 10) (drop-set-add (p * definitionWidth) x 9 v)
+    ∙ take-set-lt 10 (drop (p * definitionWidth) x) 9 v (omega arith)
 
 -- the master law: es, ns and v are what is new
-pub grow : (t b v : List ℕ) (ks es : List Def) (ms ns : List Attribute) (x x' : List ℕ) (count count' : ℕ) (y y' : List ℕ) (total total' : ℕ)
-    → Held t b ks ms x count y total → Agree definitionWidth x x' count → Agree attributeWidth y y' total → count' ≡ length (ks ++ es) → total' ≡ length (ms ++ ns)
-    → ((p : ℕ) (d : Def) → count < p → entry (ks ++ es) p ≡ some d → DefRow t (b ++ v) (ks ++ es) (ms ++ ns) p d (row definitionWidth x' p))
-    → ((q : ℕ) (a : Attribute) → total < q → entry (ms ++ ns) q ≡ some a → AttributeRow t (b ++ v) (ks ++ es) a (row attributeWidth y' q))
+pub grow : (t b v : List ℕ) (ks es : List Def) (ms ns : List Attribute) (x x' : List ℕ) (count count' : ℕ)
+    (y y' : List ℕ) (total total' : ℕ)
+    → Held t b ks ms x count y total → Agree definitionWidth x x' count → Agree attributeWidth y y' total
+    → count' ≡ length (ks ++ es) → total' ≡ length (ms ++ ns)
+    → ((p : ℕ) (d : Def) → count < p → entry (ks ++ es) p ≡ some d
+    → DefRow t (b ++ v) (ks ++ es) (ms ++ ns) p d (row definitionWidth x' p))
+    → ((q : ℕ) (a : Attribute) → total < q → entry (ms ++ ns) q ≡ some a
+    → AttributeRow t (b ++ v) (ks ++ es) a (row attributeWidth y' q))
     → Held t (b ++ v) (ks ++ es) (ms ++ ns) x' count' y' total'
 grow t b v ks es ms ns x x' count count' y y' total total' h ax ay ec et nd na = record {
   all-defs = ec;
@@ -123,14 +148,16 @@ grow t b v ks es ms ns x x' count count' y y' total total' h ax ay ec et nd na =
         go true e = inl (leb-true p c e)
         go false e = inr (leb-false p c e)
 
-    def : (p : ℕ) (d : Def) → entry (ks ++ es) p ≡ some d → (p ≤ count) ⊎ (count < p) → DefRow t (b ++ v) (ks ++ es) (ms ++ ns) p d (row definitionWidth x' p)
+    def : (p : ℕ) (d : Def) → entry (ks ++ es) p ≡ some d → (p ≤ count) ⊎ (count < p)
+        → DefRow t (b ++ v) (ks ++ es) (ms ++ ns) p d (row definitionWidth x' p)
     def p d e (inl w) =
         let c = h .all-defs in
         let o : entry ks p ≡ some d = sym (entry-keep ks es p (omega arith)) ∙ e in
         rw (ax p w) (def-row-more ks es ms ns t b v p d (row definitionWidth x p) (omega arith) (h .def-rows p d o))
     def p d e (inr w) = nd p d w e
 
-    att : (q : ℕ) (a : Attribute) → entry (ms ++ ns) q ≡ some a → (q ≤ total) ⊎ (total < q) → AttributeRow t (b ++ v) (ks ++ es) a (row attributeWidth y' q)
+    att : (q : ℕ) (a : Attribute) → entry (ms ++ ns) q ≡ some a → (q ≤ total) ⊎ (total < q)
+        → AttributeRow t (b ++ v) (ks ++ es) a (row attributeWidth y' q)
     att q a e (inl w) =
         let c = h .all-attributes in
         let o : entry ms q ≡ some a = sym (entry-keep ms ns q (omega arith)) ∙ e in
@@ -138,44 +165,57 @@ grow t b v ks es ms ns x x' count count' y y' total total' h ax ay ec et nd na =
     att q a e (inr w) = na q a w e
 
 -- ---- one more definition, whose row r stands behind the last
-only-last : {A : Type 0} (l : List A) (a : A) (p : ℕ) (b : A) → length l < p → entry (l ++ (a ∷ [])) p ≡ some b → (p ≡ length l + 1) × (a ≡ b)
+only-last : {A : Type 0} (l : List A) (a : A) (p : ℕ) (b : A) → length l < p → entry (l ++ (a ∷ [])) p ≡ some b
+    → (p ≡ length l + 1) × (a ≡ b)
 only-last l a zero b w e = absurd (omega arith)
-only-last l a (suc i) b w e = ⊎-elim (λ q. let v = nth-within l i b q in absurd (omega arith)) (λ q. let v = q .0 in (omega arith, q .1)) (nth-last l a i b e)
+only-last l a (suc i) b w e = ⊎-elim (λ q. let v = nth-within l i b q in absurd (omega arith))
+    (λ q. let v = q .0 in (omega arith, q .1)) (nth-last l a i b e)
 
 none-behind : {A : Type 0} (l : List A) (p : ℕ) (b : A) → length l < p → ¬ (entry (l ++ []) p ≡ some b)
-none-behind l p b w e = let q : entry l p ≡ some b = rw (append-nil l) at e in let v = entry-within l p b q in omega arith
+none-behind l p b w e =
+    let q : entry l p ≡ some b = rw (append-nil l) at e in
+    let v = entry-within l p b q in omega arith
 
-module _ (t b v : List ℕ) (ks : List Def) (ms : List Attribute) (x : List ℕ) (count : ℕ) (y : List ℕ) (total : ℕ) (h : Held t b ks ms x count y total) (x' : List ℕ) (ax : Agree definitionWidth x x' count) where
+module _ (t b v : List ℕ) (ks : List Def) (ms : List Attribute) (x : List ℕ) (count : ℕ) (y : List ℕ) (total : ℕ)
+    (h : Held t b ks ms x count y total) (x' : List ℕ) (ax : Agree definitionWidth x x' count) where
   -- the book is longer, or rows are written behind the last
   pub held-on : Held t (b ++ v) ks ms x' count y total
   held-on =
       let a = h .all-defs in
       let c = h .all-attributes in
-      let g = grow t b v ks [] ms [] x x' count count y y total total h ax (agree-all 6 y total) (rw (append-nil ks) a) (rw (append-nil ms) c)
-      (λ p d w e. absurd (none-behind ks p d (omega arith) e)) (λ q z w e. absurd (none-behind ms q z (omega arith) e)) in
+      let g = grow t b v ks [] ms [] x x' count count y y total total h ax (agree-all 6 y total)
+      (rw (append-nil ks) a) (rw (append-nil ms) c)
+      (λ p d w e. absurd (none-behind ks p d (omega arith) e))
+      (λ q z w e. absurd (none-behind ms q z (omega arith) e)) in
       rw (append-nil ks, append-nil ms) at g
 
-  pub held-def : (d : Def) → DefRow t (b ++ v) ks ms (count + 1) d (row definitionWidth x' (count + 1)) → Held t (b ++ v) (ks ++ (d ∷ [])) ms x' (count + 1) y total
+  pub held-def : (d : Def) → DefRow t (b ++ v) ks ms (count + 1) d (row definitionWidth x' (count + 1))
+      → Held t (b ++ v) (ks ++ (d ∷ [])) ms x' (count + 1) y total
   held-def d r =
       let a = h .all-defs in
       let c = h .all-attributes in
       let l = length-append ks (d ∷ []) in
-      let g = grow t b v ks (d ∷ []) ms [] x x' count (count + 1) y y total total h ax (agree-all 6 y total) (omega arith) (rw (append-nil ms) c)
+      let g = grow t b v ks (d ∷ []) ms [] x x' count (count + 1) y y total total h ax (agree-all 6 y total)
+      (omega arith) (rw (append-nil ms) c)
       (λ p e w u.
       let (i, j) = only-last ks d p e (omega arith) u in
       let i' : p ≡ count + 1 = omega arith in
-      rw (i', ← j, ← append-nil (b ++ v)) (def-row-more ks (d ∷ []) ms [] t (b ++ v) [] (count + 1) d (row definitionWidth x' (count + 1)) (omega arith) r))
+      rw (i', ← j, ← append-nil (b ++ v))
+      (def-row-more ks (d ∷ []) ms [] t (b ++ v) [] (count + 1) d (row definitionWidth x' (count + 1)) (omega arith) r))
       (λ q z w e. absurd (none-behind ms q z (omega arith) e)) in
       rw (append-nil ms) at g
 
 -- ---- one more attribute
-pub held-attribute : (t b v : List ℕ) (ks : List Def) (ms : List Attribute) (x : List ℕ) (count : ℕ) (y : List ℕ) (total : ℕ) → Held t b ks ms x count y total → (y' : List ℕ) → Agree attributeWidth y y' total
-    → (a : Attribute) → AttributeRow t (b ++ v) ks a (row attributeWidth y' (total + 1)) → Held t (b ++ v) ks (ms ++ (a ∷ [])) x count y' (total + 1)
+pub held-attribute : (t b v : List ℕ) (ks : List Def) (ms : List Attribute) (x : List ℕ) (count : ℕ) (y : List ℕ)
+    (total : ℕ) → Held t b ks ms x count y total → (y' : List ℕ) → Agree attributeWidth y y' total
+    → (a : Attribute) → AttributeRow t (b ++ v) ks a (row attributeWidth y' (total + 1))
+    → Held t (b ++ v) ks (ms ++ (a ∷ [])) x count y' (total + 1)
 held-attribute t b v ks ms x count y total h y' ay a r =
     let c = h .all-defs in
     let d = h .all-attributes in
     let l = length-append ms (a ∷ []) in
-    let g = grow t b v ks [] ms (a ∷ []) x x count count y y' total (total + 1) h (agree-all 10 x count) ay (rw (append-nil ks) c) (omega arith)
+    let g = grow t b v ks [] ms (a ∷ []) x x count count y y' total (total + 1) h (agree-all 10 x count) ay
+    (rw (append-nil ks) c) (omega arith)
     (λ p e w u. absurd (none-behind ks p e (omega arith) u))
     (λ q z w u.
     let (i, j) = only-last ms a q z (omega arith) u in
@@ -184,15 +224,14 @@ held-attribute t b v ks ms x count y total h y' ay a r =
     rw (append-nil ks) at g
 
 -- ---- where types stand
-pub type-stands : (b : List ℕ) (p : ℕ) (d : Def) → Stands b p (heading domain d) → Stands b (p + headSize) (typeRecords (d .type))
-type-stands b p d h = stands-behind b p (defRecord 7 d) (typeRecords (d .type)) h
-
 module _ (t b : List ℕ) (ks : List Def) (a : Attribute) (r : List ℕ) (h : AttributeRow t b ks a r) where
   -- a type in place
   pub use-in-place : getD r 5 0 ≡ 0 → Stands b (getD r 3 0 + headSize) (typeRecords (tyOf (a .use-of)))
   use-in-place z =
-      let u : a .use-of ≡ inline (tyOf (a .use-of)) = sym (h .uses) ∙ ap (λ (k : ℕ). useFor (entry ks k) (tyOf (a .use-of))) z in
-      subst (Stands b (getD r 3 0 + headSize)) (ap useRecords u) (stands-behind b (getD r 3 0) (headRecord 6 (a .name) (flags false (a .final) (a .extended) (a .mandatory)) (numberOr (a .base))) (useRecords (a .use-of)) (h .stands))
+      let u : a .use-of ≡ inline (tyOf (a .use-of)) =
+      sym (h .uses) ∙ ap (λ (k : ℕ). useFor (entry ks k) (tyOf (a .use-of))) z in
+      subst (Stands b (getD r 3 0 + headSize)) (ap useRecords u) (stands-behind b (getD r 3 0) (headRecord 6 (a .name)
+      (flags false (a .final) (a .extended) (a .mandatory)) (numberOr (a .base))) (useRecords (a .use-of)) (h .stands))
 
   -- a domain or structure that is named
   pub use-named : 0 < getD r 5 0 → (d : Def) × (entry ks (getD r 5 0) ≡ some d) × (naming d ≡ a .use-of)

@@ -15,7 +15,8 @@ use Rattle.members.specs.Members.{Tells, Members, slotFrom, Filled, attr
 use Rattle.names.proofs.IndexLaws.{there, nth-drop, entry-within}
 
 -- ---- a row with the name
-module _ (t : List ℕ) (a : Attribute) (r n : List ℕ) (s : Tells t a r) (o l : ℕ) (eo : o ≡ getD r 0 0) (el : l ≡ getD r 1 0) where
+module _ (t : List ℕ) (a : Attribute) (r n : List ℕ) (s : Tells t a r) (o l : ℕ)
+    (eo : o ≡ getD r 0 0) (el : l ≡ getD r 1 0) where
   pub own-name : part t o l ≡ a .name .bytes
   own-name = rw (eo, el, s .offset, s .size) (s .named .same-bytes)
 
@@ -26,11 +27,13 @@ module _ (t : List ℕ) (a : Attribute) (r n : List ℕ) (s : Tells t a r) (o l 
   told-inside = let w = s .named .within in let b = s .offset in let c = s .size in omega arith
 
 -- ---- a turn of the search: what stands behind i is judged by b
-module _ (t : List ℕ) (ms : List Attribute) (y : List ℕ) (total : ℕ) (k : Members t ms y total) (hs : List ℕ) (count : ℕ) (h : List Attribute) (f : Filled ms hs count h) (n : List ℕ) (i : ℕ) where
+module _ (t : List ℕ) (ms : List Attribute) (y : List ℕ) (total : ℕ) (k : Members t ms y total) (hs : List ℕ)
+    (count : ℕ) (h : List Attribute) (f : Filled ms hs count h) (n : List ℕ) (i : ℕ) where
   pub slot-end : count ≤ i → 0 ≡ slotFrom n i (drop i h)
   slot-end w = let e = f .all in let v : length h ≤ i = omega arith in sym (ap (slotFrom n i) (drop-of-length-le h v))
 
-  module _ (w : i < count) (q : ℕ) (eq : q ≡ getD hs (most + i) 0) (b : Bool) (g : q ≤ total → (a : Attribute) → Tells t a (row attributeWidth y q) → b ≡ same n (a .name .bytes)) where
+  module _ (w : i < count) (q : ℕ) (eq : q ≡ getD hs (most + i) 0) (b : Bool)
+      (g : q ≤ total → (a : Attribute) → Tells t a (row attributeWidth y q) → b ≡ same n (a .name .bytes)) where
     behind : (a : Attribute) × (nth h i ≡ some a) × (b ≡ same n (a .name .bytes))
     behind =
         let e = f .all in
@@ -41,7 +44,12 @@ module _ (t : List ℕ) (ms : List Attribute) (y : List ℕ) (total : ℕ) (k : 
         (a, p, g (omega arith) a (k .tells q a u))
 
     pub slot-found : b ≡ true → i + 1 ≡ slotFrom n i (drop i h)
-    slot-found e = let (a, p, v) = behind in let v' : same n (a .name .bytes) ≡ true = sym v ∙ e in rw (nth-drop h i a p, v')
+    slot-found e =
+        let (a, p, v) = behind in
+        let v' : same n (a .name .bytes) ≡ true = sym v ∙ e in rw (nth-drop h i a p, v')
 
     pub slot-next : b ≡ false → slotFrom n i (drop i h) ≡ slotFrom n (i + 1) (drop (i + 1) h)
-    slot-next e = let (a, p, v) = behind in let v' : same n (a .name .bytes) ≡ false = sym v ∙ e in rw (nth-drop h i a p, v', add-one i)
+    slot-next e =
+        let (a, p, v) = behind in
+        let v' : same n (a .name .bytes) ≡ false = sym v ∙ e in
+        rw (nth-drop h i a p, v', add-one i)

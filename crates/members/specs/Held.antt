@@ -1,4 +1,5 @@
--- What the code holds of a state as a whole: every row says what its definition or attribute is, and where its records stand in the book.
+-- What the code holds of a state as a whole: every row says what its definition or attribute is, and where its
+-- records stand in the book.
 use mathlib.Core.Path.{_≡_}
 use mathlib.Core.Option.{Option, none, some}
 use mathlib.Core.List.{List, [], _∷_, _++_}
@@ -7,11 +8,13 @@ use lib.ListN.{length, getD, drop}
 use Rattle.rules.specs.All.{All}
 use Rattle.rules.specs.Types.{Ty}
 use Rattle.rules.specs.Declarations as D
-use Rattle.rules.specs.Declarations.{Use, inline, tyOf, Attribute, Sort, Def, attributesOf, attributeAt, nameCount, State, known}
+use Rattle.rules.specs.Declarations.{Use, inline, tyOf, Attribute, Sort, Def, attributesOf, attributeAt, nameCount}
+use Rattle.rules.specs.Declarations.{State, known}
 use Rattle.rules.specs.Book.{Record, nameRecord, defRecord, typeRecords, attributeRecords, book}
 use Rattle.rules.specs.Judge.{naming}
-use Rattle.names.specs.Index.{entry, row, Says, Based, definitionWidth}
-use Rattle.members.specs.Members.{Tells, Unlike, Owns, Filled, attributeWidth, most}
+use Rattle.names.specs.Index.{entry, row, Says, Based, definitionWidth, placeColumn, firstColumn}
+use Rattle.members.specs.Members.{Tells, Unlike, Owns, Filled, attributeWidth, attributePlaceColumn, useColumn}
+use Rattle.members.specs.Members.{most}
 use Rattle.book.specs.Places.{Stands}
 
 -- the record of a definition, and a domain's type
@@ -31,16 +34,18 @@ pub record DefRow (t b : List ℕ) (ks : List Def) (ms : List Attribute) (p : �
   pub says : Says t d r
   pub based : Based ks p d r
   pub owns : Owns ms d r
-  pub stands : Stands b (getD r 6 0) (heading (d .sort) d)
+  pub stands : Stands b (getD r placeColumn 0) (heading (d .sort) d)
 
 pub record AttributeRow (t b : List ℕ) (ks : List Def) (a : Attribute) (r : List ℕ) : Type 0 where
   pub tells : Tells t a r
-  pub stands : Stands b (getD r 3 0) (attributeRecords a)
-  pub use-known : getD r 5 0 ≤ length ks
-  pub uses : useFor (entry ks (getD r 5 0)) (tyOf (a .use-of)) ≡ a .use-of
+  pub stands : Stands b (getD r attributePlaceColumn 0) (attributeRecords a)
+  pub use-known : getD r useColumn 0 ≤ length ks
+  pub uses : useFor (entry ks (getD r useColumn 0)) (tyOf (a .use-of)) ≡ a .use-of
 
--- ---- the relation: text, book, definitions, attributes; rows of definitions and their count, rows of attributes and theirs
-pub record Held (t b : List ℕ) (ks : List Def) (ms : List Attribute) (x : List ℕ) (count : ℕ) (y : List ℕ) (total : ℕ) : Type 0 where
+-- ---- the relation: text, book, definitions, attributes; rows of definitions and their count, rows
+-- of attributes and theirs
+pub record Held (t b : List ℕ) (ks : List Def) (ms : List Attribute) (x : List ℕ) (count : ℕ)
+    (y : List ℕ) (total : ℕ) : Type 0 where
   pub all-defs : count ≡ length ks
   pub all-attributes : total ≡ length ms
   pub def-rows : (p : ℕ) (d : Def) → entry ks p ≡ some d → DefRow t b ks ms p d (row definitionWidth x p)
@@ -50,11 +55,11 @@ pub record Held (t b : List ℕ) (ks : List Def) (ms : List Attribute) (x : List
 pub record OpenRow (t b : List ℕ) (ks : List Def) (ms : List Attribute) (p : ℕ) (c : Def) (r : List ℕ) : Type 0 where
   pub says : Says t c r
   pub based : Based ks p c r
-  pub within : getD r 8 0 ≤ length ms
-  pub own : drop (getD r 8 0) ms ≡ c .own
+  pub within : getD r firstColumn 0 ≤ length ms
+  pub own : drop (getD r firstColumn 0) ms ≡ c .own
   pub unlike : Unlike (c .own)
   pub few : nameCount (attributesOf c) ≤ most
-  pub stands : Stands b (getD r 6 0) (heading (c .sort) c)
+  pub stands : Stands b (getD r placeColumn 0) (heading (c .sort) c)
 
 pub record Opened (ms : List Attribute) (hs : List ℕ) (n : ℕ) (c : Def) : Type 0 where
   pub hand : List Attribute
@@ -67,7 +72,8 @@ abbrev pub InHand : List Attribute → List ℕ → ℕ → Option Def → Type 
 InHand ms hs n none = Unit
 InHand ms hs n (some d) = Opened ms hs n d
 
--- a fact of every state that is reached: the records of a class's own attributes stand behind its own, those of inherited ones before
+-- a fact of every state that is reached: the records of a class's own attributes stand behind its own, those
+-- of inherited ones before
 pub record Apart (c : Def) : Type 0 where
   pub own-behind : All (λ (a : Attribute). c .number < a .number) (c .own)
   pub inherited-before : All (λ (a : Attribute). a .number < c .number) (c .inherited)

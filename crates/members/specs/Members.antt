@@ -1,6 +1,7 @@
--- What the code holds of attributes: a row of numbers for each, in text order; and in hand those of the open class, of each name the nearest.
+-- What the code holds of attributes: a row of numbers for each, in text order; and in hand those of the open class, of
+-- each name the nearest.
 use mathlib.Core.Path.{_≡_}
-use mathlib.Core.Bool.{false, cond, not}
+use mathlib.Core.Bool.{false, cond}
 use mathlib.Core.Option.{none, some}
 use mathlib.Core.List.{List, [], _∷_, _++_}
 use Prim.Native.Nat.{ℕ, _+_, _*_, _≤_}
@@ -8,7 +9,7 @@ use lib.ListN.{length, getD, drop}
 use Rattle.rules.specs.Bytes.{same}
 use Rattle.rules.specs.Declarations.{Attribute, Def, attributesOf, attributeAt, isFound, nameCount}
 use Rattle.rules.specs.Book.{flags}
-use Rattle.names.specs.Index.{nth, entry, row, Named, Known, Chained, definitionWidth}
+use Rattle.names.specs.Index.{nth, entry, row, Named, Known, Chained, definitionWidth, firstColumn, lastColumn}
 
 -- how many attributes a class has at most
 abbrev pub most : ℕ
@@ -18,6 +19,13 @@ most = 256
 -- how many numbers an attribute's row has
 abbrev pub attributeWidth : ℕ
 attributeWidth = 6
+
+-- where a row has the place of its record, and the position of the definition that it names; the rest `Tells` lists
+abbrev pub attributePlaceColumn : ℕ
+attributePlaceColumn = 3
+
+abbrev pub useColumn : ℕ
+useColumn = 5
 
 -- there are rows of attributes up to the position q
 abbrev pub AttributeRows : List ℕ → ℕ → Type 0
@@ -40,13 +48,13 @@ abbrev pub Unlike : List Attribute → Type 0
 Unlike [] = Unit
 Unlike (a ∷ l) = (attributeAt (a .name .bytes) l ≡ none) × Unlike l
 
--- the own attributes of a class stand behind one another, from its row's position on; their names differ, and with those inherited they
--- are not too many
+-- the own attributes of a class stand behind one another, from its row's position on; their names differ, and with
+-- those inherited they are not too many
 pub record Owns (ms : List Attribute) (d : Def) (r : List ℕ) : Type 0 where
-  pub last : getD r 9 0 ≡ getD r 8 0 + length (d .own)
-  pub within : getD r 9 0 ≤ length ms
+  pub last : getD r lastColumn 0 ≡ getD r firstColumn 0 + length (d .own)
+  pub within : getD r lastColumn 0 ≤ length ms
   pub more : List Attribute
-  pub own : drop (getD r 8 0) ms ≡ d .own ++ more
+  pub own : drop (getD r firstColumn 0) ms ≡ d .own ++ more
   pub unlike : Unlike (d .own)
   pub few : nameCount (attributesOf d) ≤ most
 
@@ -54,7 +62,8 @@ abbrev pub Owned : List Attribute → List Def → List ℕ → Type 0
 Owned ms ks x = (p : ℕ) (d : Def) → entry ks p ≡ some d → Owns ms d (row definitionWidth x p)
 
 -- the rows x are those of the definitions ks, the rows y those of the attributes ms
-pub record Indexed (t : List ℕ) (ks : List Def) (ms : List Attribute) (x : List ℕ) (count : ℕ) (y : List ℕ) (total : ℕ) : Type 0 where
+pub record Indexed (t : List ℕ) (ks : List Def) (ms : List Attribute) (x : List ℕ) (count : ℕ)
+    (y : List ℕ) (total : ℕ) : Type 0 where
   pub known : Known t ks x count
   pub chained : Chained ks x
   pub owned : Owned ms ks x
@@ -72,7 +81,10 @@ slotOf n l = slotFrom n 0 l
 -- behind those in hand, the attributes whose names are not among them
 abbrev pub nearestTo : List Attribute → List Attribute → List Attribute
 nearestTo h [] = h
-nearestTo h (a ∷ l) = let r = nearestTo h l in let s = nearestTo (h ++ (a ∷ [])) l in cond (isFound (attributeAt (a .name .bytes) h)) r s
+nearestTo h (a ∷ l) =
+    let r = nearestTo h l in
+    let s = nearestTo (h ++ (a ∷ [])) l in
+    cond (isFound (attributeAt (a .name .bytes) h)) r s
 
 -- one more, unless its name is among g
 abbrev pub unlessIn : List Attribute → List Attribute → Attribute → List Attribute

@@ -20,7 +20,8 @@ use Rattle.enumerations.proofs.WrittenLaws.{inner-records}
 use Rattle.merging.specs.declared.Emit.{Emit}
 use Rattle.merging.specs.declared.Emit.the-variants.{Quiet, Close, Element, Opening, Barred}
 
--- `copy w r x`: of the base's list w the part r is still to be written, then what x has more. `add w y`: of the part y what w lacks
+-- `copy w r x`: of the base's list w the part r is still to be written, then what x has more. `add w y`: of
+-- the part y what w lacks
 pub data Frame : Type 0 where
   copy : Enum → Enum → Enum → Frame
   add : Enum → Enum → Frame
@@ -31,7 +32,8 @@ heading n p f = cond p (Element (partOf n)) (Opening (partOf n) f)
 
 abbrev pub emits : Frame → Emit
 emits (copy w (end f) x) = Quiet
-emits (copy w (elem n i r) x) = heading n (plain i && plain (inner (n .bytes) x)) (final i || final (inner (n .bytes) x))
+emits (copy w (elem n i r) x) =
+    heading n (plain i && plain (inner (n .bytes) x)) (final i || final (inner (n .bytes) x))
 emits (add w (end g)) = Close
 emits (add w (elem m j r)) = cond (has (m .bytes) w) Quiet (cond (final w) Barred (heading m (plain j) (final j)))
 
@@ -41,7 +43,8 @@ leaves (copy w (end f) x) = add w x ∷ []
 leaves (copy w (elem n i r) x) =
     cond (plain i && plain (inner (n .bytes) x)) (copy w r x ∷ []) (copy i i (inner (n .bytes) x) ∷ copy w r x ∷ [])
 leaves (add w (end g)) = []
-leaves (add w (elem m j r)) = cond (has (m .bytes) w) (add w r ∷ []) (cond (plain j) (add w r ∷ []) (add (end false) j ∷ add w r ∷ []))
+leaves (add w (elem m j r)) =
+    cond (has (m .bytes) w) (add w r ∷ []) (cond (plain j) (add w r ∷ []) (add (end false) j ∷ add w r ∷ []))
 
 -- ---- what is still to be written
 abbrev pub toWrite : Frame → List Record
@@ -58,7 +61,8 @@ news-flag f g w (end h) = refl
 news-flag f g w (elem m j r) = go (has (m .bytes) w) (news-flag f g w r)
   where
     go : (t : Bool) → elementRecords (news f w r) ≡ elementRecords (news g w r) →
-        elementRecords (cond t (news f w r) (elem m j (news f w r))) ≡ elementRecords (cond t (news g w r) (elem m j (news g w r)))
+        elementRecords (cond t (news f w r) (elem m j (news f w r)))
+        ≡ elementRecords (cond t (news g w r) (elem m j (news g w r)))
     go true e = e
     go false e = rw e
 
@@ -68,11 +72,13 @@ news-nothing (elem m j r) = rw (news-nothing r)
 
 -- ---- a step writes the first of what is still to be written
 head-records : (n : Name) (e : Enum) (p f : Bool) (l : List Record) → plain e ≡ p → final e ≡ f →
-    emitted (heading n p f) ++ (cond p l (elementRecords e ++ l)) ≡ nameRecord 14 n ∷ (innerRecords e (openRecord e ∷ elementRecords e) ++ l)
+    emitted (heading n p f) ++ (cond p l (elementRecords e ++ l))
+    ≡ nameRecord 14 n ∷ (innerRecords e (openRecord e ∷ elementRecords e) ++ l)
 head-records n e true f l h k = rw (inner-records e (openRecord e ∷ elementRecords e), h)
 head-records n e false f l h k = rw (inner-records e (openRecord e ∷ elementRecords e), h, k)
 
-write-two : (p : Bool) (F G : Frame) → allToWrite (cond p (G ∷ []) (F ∷ G ∷ [])) ≡ cond p (toWrite G) (toWrite F ++ toWrite G)
+write-two : (p : Bool) (F G : Frame)
+    → allToWrite (cond p (G ∷ []) (F ∷ G ∷ [])) ≡ cond p (toWrite G) (toWrite F ++ toWrite G)
 write-two true F G = append-nil (toWrite G)
 write-two false F G = rw (append-nil (toWrite G))
 
@@ -82,7 +88,8 @@ step-writes (copy w (elem n i r) x) g =
     let j : Enum = inner (n .bytes) x in
     let p : Bool = plain i && plain j in
     ap (λ (l : List Record). emitted (heading n p (final i || final j)) ++ l) (write-two p (copy i i j) (copy w r x))
-    ∙ head-records n (merge i j) p (final i || final j) (elementRecords (mergeFrom r w x)) (merge-plain i j) (final-merge i i j)
+    ∙ head-records n (merge i j) p (final i || final j) (elementRecords (mergeFrom r w x))
+    (merge-plain i j) (final-merge i i j)
 step-writes (add w (end g)) h = refl
 step-writes (add w (elem m j r)) h = go (has (m .bytes) w) (final w) h
   where
@@ -93,14 +100,16 @@ step-writes (add w (elem m j r)) h = go (has (m .bytes) w) (final w) h
     go true u h = append-nil (elementRecords (news false w r))
     go false true h = never h
     go false false h =
-        ap (λ (l : List Record). emitted (heading m (plain j) (final j)) ++ l) (write-two (plain j) (add (end false) j) (add w r) ∙ rw news-nothing)
+        ap (λ (l : List Record). emitted (heading m (plain j) (final j)) ++ l)
+        (write-two (plain j) (add (end false) j) (add w r) ∙ rw news-nothing)
         ∙ head-records m j (plain j) (final j) (elementRecords (news false w r)) refl refl
 
 write-append : (Fs Gs : List Frame) → allToWrite (Fs ++ Gs) ≡ allToWrite Fs ++ allToWrite Gs
 write-append [] Gs = refl
 write-append (F ∷ Fs) Gs = rw (write-append Fs Gs) (sym (append-assoc (toWrite F) (allToWrite Fs) (allToWrite Gs)))
 
-write-step : (F : Frame) (Gs : List Frame) → goes (emits F) ≡ true → emitted (emits F) ++ allToWrite (leaves F ++ Gs) ≡ allToWrite (F ∷ Gs)
+write-step : (F : Frame) (Gs : List Frame) → goes (emits F) ≡ true
+    → emitted (emits F) ++ allToWrite (leaves F ++ Gs) ≡ allToWrite (F ∷ Gs)
 write-step F Gs g =
     ap (λ (l : List Record). emitted (emits F) ++ l) (write-append (leaves F) Gs)
     ∙ sym (append-assoc (emitted (emits F)) (allToWrite (leaves F)) (allToWrite Gs))
@@ -134,11 +143,13 @@ steps-two false F G = omega arith
 step-less : (F : Frame) → steps (leaves F) < stepsOf F
 step-less (copy w (end f) x) = omega arith
 step-less (copy w (elem n i r) x) =
-    let h = steps-two (plain i && plain (inner (n .bytes) x)) (copy i i (inner (n .bytes) x)) (copy w r x) in omega arith
+    let h = steps-two (plain i && plain (inner (n .bytes) x)) (copy i i (inner (n .bytes) x)) (copy w r x) in
+    omega arith
 step-less (add w (end g)) = omega arith
 step-less (add w (elem m j r)) = go (has (m .bytes) w)
   where
-    go : (t : Bool) → steps (cond t (add w r ∷ []) (cond (plain j) (add w r ∷ []) (add (end false) j ∷ add w r ∷ []))) < suc (nodes j + nodes r)
+    go : (t : Bool) → steps (cond t (add w r ∷ []) (cond (plain j) (add w r ∷ []) (add (end false) j ∷ add w r ∷ [])))
+        < suc (nodes j + nodes r)
     go true = let h = nodes-pos j in omega arith
     go false = let h = steps-two (plain j) (add (end false) j) (add w r) in omega arith
 
@@ -213,7 +224,8 @@ step-ok (copy w (elem n i r) x) =
     (go (plain i && plain (inner (n .bytes) x)) refl)
   where
     go : (t : Bool) → (plain i && plain (inner (n .bytes) x)) ≡ t →
-        (copyOk i i (inner (n .bytes) x) && copyOk r w x) ≡ ok (cond t (copy w r x ∷ []) (copy i i (inner (n .bytes) x) ∷ copy w r x ∷ []))
+        (copyOk i i (inner (n .bytes) x) && copyOk r w x)
+        ≡ ok (cond t (copy w r x ∷ []) (copy i i (inner (n .bytes) x) ∷ copy w r x ∷ []))
     go true e = rw (ok-plain i (inner (n .bytes) x) e) (sym (and-true (copyOk r w x)))
     go false e = rw (and-true (copyOk r w x))
 step-ok (add w (end g)) = refl
@@ -242,18 +254,24 @@ walked (suc k) (F ∷ Fs) = cond (goes (emits F)) (before (emitted (emits F)) (w
 pub walk-whole : (k : ℕ) (Fs : List Frame) → steps Fs < k → walked k Fs ≡ cond (ok Fs) (wrote (allToWrite Fs)) barred
 walk-whole zero Fs h = absurd (omega arith)
 walk-whole (suc k) [] h = refl
-walk-whole (suc k) (F ∷ Fs) h = go (goes (emits F)) refl (let g = steps-fall F Fs in walk-whole k (leaves F ++ Fs) (omega arith))
+walk-whole (suc k) (F ∷ Fs) h =
+    go (goes (emits F)) refl (let g = steps-fall F Fs in walk-whole k (leaves F ++ Fs) (omega arith))
   where
     either : (t : Bool) → goes (emits F) ≡ true →
-        before (emitted (emits F)) (cond t (wrote (allToWrite (leaves F ++ Fs))) barred) ≡ cond t (wrote (allToWrite (F ∷ Fs))) barred
+        before (emitted (emits F)) (cond t (wrote (allToWrite (leaves F ++ Fs))) barred)
+        ≡ cond t (wrote (allToWrite (F ∷ Fs))) barred
     either true g = ap wrote (write-step F Fs g)
     either false g = refl
 
-    go : (t : Bool) → goes (emits F) ≡ t → walked k (leaves F ++ Fs) ≡ cond (ok (leaves F ++ Fs)) (wrote (allToWrite (leaves F ++ Fs))) barred →
-        cond (goes (emits F)) (before (emitted (emits F)) (walked k (leaves F ++ Fs))) barred ≡ cond (ok (F ∷ Fs)) (wrote (allToWrite (F ∷ Fs))) barred
+    go : (t : Bool) → goes (emits F) ≡ t
+        → walked k (leaves F ++ Fs) ≡ cond (ok (leaves F ++ Fs)) (wrote (allToWrite (leaves F ++ Fs))) barred
+        → cond (goes (emits F)) (before (emitted (emits F)) (walked k (leaves F ++ Fs))) barred
+        ≡ cond (ok (F ∷ Fs)) (wrote (allToWrite (F ∷ Fs))) barred
     go true e q = rw (ok-step F Fs, e, q) (either (ok (leaves F ++ Fs)) e)
     go false e q = rw (ok-step F Fs, e)
 
 -- the walk from the start writes the merged list
-pub walk-merge : (k : ℕ) (b x : Enum) → copySteps b x < k → walked k (copy b b x ∷ []) ≡ cond (copyOk b b x) (wrote (elementRecords (merge b x))) barred
-walk-merge k b x h = walk-whole k (copy b b x ∷ []) (omega arith) ∙ rw (and-true (copyOk b b x), append-nil (elementRecords (merge b x)))
+pub walk-merge : (k : ℕ) (b x : Enum) → copySteps b x < k
+    → walked k (copy b b x ∷ []) ≡ cond (copyOk b b x) (wrote (elementRecords (merge b x))) barred
+walk-merge k b x h =
+    walk-whole k (copy b b x ∷ []) (omega arith) ∙ rw (and-true (copyOk b b x), append-nil (elementRecords (merge b x)))

@@ -26,8 +26,9 @@ use Rattle.merging.specs.declared.Laid.the-variants as laid
 use Rattle.book.specs.Sizes.{listSize}
 
 -- the opening, and then the records of the list
-laid-after : (c : Bool) (o o₁ o₂ : List ℕ) (i : ℕ) (r : Laid) (h : Record) (l : List Record) → length h ≡ 2 → o₁ ≡ putAt o i h →
-    RanTo (cond c (wrote l) barred) i (record { bytes = 2; records = 1 }) o₁ o₂ r → LaidAs c (h ∷ l) i o o₂ r
+laid-after : (c : Bool) (o o₁ o₂ : List ℕ) (i : ℕ) (r : Laid) (h : Record) (l : List Record)
+    → length h ≡ 2 → o₁ ≡ putAt o i h
+    → RanTo (cond c (wrote l) barred) i (record { bytes = 2; records = 1 }) o₁ o₂ r → LaidAs c (h ∷ l) i o o₂ r
 laid-after true o o₁ o₂ i r h l s e (q, f) =
     let n : length (h ++ bytes l) ≡ 2 + length (bytes l) = length-append h (bytes l) ∙ rw s in (
       q ∙ ap laid.Whole (size-is (sym n) (omega arith)),
@@ -38,8 +39,9 @@ laid-after true o o₁ o₂ i r h l s e (q, f) =
 laid-after false o o₁ o₂ i r h l s e q = q
 
 pub merged-laid : (t o x : List ℕ) (n base i : ℕ) (o₁ o₂ : List ℕ) (r : Laid) (vb vx : Inner) (w : Walk) (k : ℕ) →
-    n ≤ length o → n ≤ i → i ≤ 65546 → length x ≤ 262144 → vb ≡ innerAt (take n o) base → vx ≡ innerAt x 0 → Starts vb vx w →
-    o₁ ≡ putAt o i (13 ∷ bit (vb .«is_final» || vx .«is_final») 1 ∷ []) → n * (length x + 1) < k →
+    n ≤ length o → n ≤ i → i ≤ 65546 → length x ≤ 262144 → vb ≡ innerAt (take n o) base
+    → vx ≡ innerAt x 0 → Starts vb vx w
+    → o₁ ≡ putAt o i (13 ∷ bit (vb .«is_final» || vx .«is_final») 1 ∷ []) → n * (length x + 1) < k →
     RanTo (runFrom k t (take n o₁) x w) i (record { bytes = 2; records = 1 }) o₁ o₂ r →
     (b e : Enum) → Stands t (take n o) b base → Stands t x e 0 → Merges b e i o o₂ r
 merged-laid t o x n base i o₁ o₂ r vb vx w k hn hi si sx eb ex st eo hk ran b e sb se ob oe =
@@ -48,12 +50,16 @@ merged-laid t o x n base i o₁ o₂ r vb vx w k hn hi si sx eb ex st eo hk ran 
     let ib = eb ∙ inner-stands t bb b base sb in
     let ix = ex ∙ inner-stands t x e 0 se in
     let base-is : take n o₁ ≡ bb = rw eo (take-put o n i _ hi) in
-    let first : getD (w .places) 0 noPosition ≡ record { base = base + listSize; at = base + listSize; own = 2; adding = false; «is_final» = final b } = st .first ∙ rw (ib, ix) in
+    let first : getD (w .places) 0 noPosition
+    ≡ record { base = base + listSize; at = base + listSize; own = 2; adding = false; «is_final» = final b } =
+    st .first ∙ rw (ib, ix) in
     let run : runFrom k t bb x w ≡ cond (enumFits (merge b e) b) (wrote (elementRecords (merge b e))) barred =
-    whole-run t bb x b e (base + listSize) 2 k w (omega arith) (omega arith) (stands-whole t bb b base sb .list) (stands-whole t x e 0 se .list) (sb .deep) (se .deep)
+    whole-run t bb x b e (base + listSize) 2 k w (omega arith) (omega arith) (stands-whole t bb b base sb .list)
+    (stands-whole t x e 0 se .list) (sb .deep) (se .deep)
     (st .depth) (st .eight) first (rw lb hk) ∙ rw (walk-fits b e ob oe) in
     let f : bit (vb .«is_final» || vx .«is_final») 1 ≡ bit (final (merge b e)) 1 = rw (ib, ix, final-merge b b e) in
-    laid-after (enumFits (merge b e) b) o o₁ o₂ i r (openRecord (merge b e)) (elementRecords (merge b e)) refl (eo ∙ rw f) (rw (base-is, run) at ran)
+    laid-after (enumFits (merge b e) b) o o₁ o₂ i r (openRecord (merge b e)) (elementRecords (merge b e)) refl
+    (eo ∙ rw f) (rw (base-is, run) at ran)
 
 -- the steps that are enough
 pub fuel-small : (n l : ℕ) → n ≤ 65546 → l ≤ 262144 → n * (l + 1) ≤ 65546 * 262145

@@ -39,7 +39,8 @@ module _ (k : ℕ) (t b x : List ℕ) (w : Walk) where
   unfolding runFrom
   run-go m d e g = rw (ne-eqb (w .depth) 0 d, ← e, g)
 
-  pub run-stop : (m : Move) → ¬ (w .depth ≡ 0) → m ≡ lookMove t b x (topOf w) → goes (m .emit) ≡ false → runFrom (suc k) t b x w ≡ barred
+  pub run-stop : (m : Move) → ¬ (w .depth ≡ 0) → m ≡ lookMove t b x (topOf w) → goes (m .emit) ≡ false
+      → runFrom (suc k) t b x w ≡ barred
   unfolding runFrom
   run-stop m d e g = rw (ne-eqb (w .depth) 0 d, ← e, g)
 
@@ -62,8 +63,10 @@ pub record Bounded (o₀ : List ℕ) (i : ℕ) (o : List ℕ) (s : Size) (k : �
   pub deep : w .depth ≤ 8
   pub room : i + s .bytes + 8 * k + 8 < 18446744073709551616
 
-pub bounded-step : (o₀ : List ℕ) (i : ℕ) (o : List ℕ) (s : Size) (k : ℕ) (w : Walk) → Bounded o₀ i o s k w → 0 < k → (e : Emit) (o₁ : List ℕ) (s₁ : Size) (w₁ : Walk) →
-    s₁ ≡ sizeWith s (emitted e) → o₁ ≡ putAt o (i + s .bytes) (bytes (emitted e)) → w₁ .depth ≤ 8 → Bounded o₀ i o₁ s₁ (k - 1) w₁
+pub bounded-step : (o₀ : List ℕ) (i : ℕ) (o : List ℕ) (s : Size) (k : ℕ) (w : Walk) → Bounded o₀ i o s k w → 0 < k
+    → (e : Emit) (o₁ : List ℕ) (s₁ : Size) (w₁ : Walk)
+    → s₁ ≡ sizeWith s (emitted e) → o₁ ≡ putAt o (i + s .bytes) (bytes (emitted e)) → w₁ .depth ≤ 8
+    → Bounded o₀ i o₁ s₁ (k - 1) w₁
 bounded-step o₀ i o s k w B z e o₁ s₁ w₁ es eo dw =
     let l : List Record = emitted e in
     let h = emit-short e in
@@ -77,7 +80,8 @@ bounded-step o₀ i o s k w B z e o₁ s₁ w₁ es eo dw =
     }
 
 -- ---- the run so far: `put` is written, and the rest of the run is that of the walk w with k steps left
-pub record SoFar (t b x o₀ : List ℕ) (n i : ℕ) (s₀ : Size) (k₀ : ℕ) (w₀ : Walk) (o : List ℕ) (s : Size) (k : ℕ) (w : Walk) : Type 0 where
+pub record SoFar (t b x o₀ : List ℕ) (n i : ℕ) (s₀ : Size) (k₀ : ℕ) (w₀ : Walk) (o : List ℕ) (s : Size)
+    (k : ℕ) (w : Walk) : Type 0 where
   pub put : List Record
   pub rest : runFrom k₀ t b x w₀ ≡ before put (runFrom k t b x w)
   pub in-bytes : s .bytes ≡ s₀ .bytes + length (bytes put)
@@ -86,7 +90,8 @@ pub record SoFar (t b x o₀ : List ℕ) (n i : ℕ) (s₀ : Size) (k₀ : ℕ) 
   pub first : n ≤ i
   pub out : i + s .bytes ≤ length o₀ → o ≡ splice o₀ (i + s₀ .bytes) (bytes put)
 
-pub far-start : (t x o : List ℕ) (n i : ℕ) (s : Size) (k : ℕ) (w : Walk) → n ≤ i → SoFar t (take n o) x o n i s k w o s k w
+pub far-start : (t x o : List ℕ) (n i : ℕ) (s : Size) (k : ℕ) (w : Walk) → n ≤ i
+    → SoFar t (take n o) x o n i s k w o s k w
 far-start t x o n i s k w h =
     record {
       put = [];
@@ -98,10 +103,12 @@ far-start t x o n i s k w h =
       out = λ _. sym (splice-none o (i + s .bytes));
     }
 
-module _ (t b x o₀ : List ℕ) (n i : ℕ) (s₀ : Size) (k₀ : ℕ) (w₀ : Walk) (o : List ℕ) (s : Size) (k : ℕ) (w : Walk) (S : SoFar t b x o₀ n i s₀ k₀ w₀ o s k w) where
+module _ (t b x o₀ : List ℕ) (n i : ℕ) (s₀ : Size) (k₀ : ℕ) (w₀ : Walk) (o : List ℕ) (s : Size) (k : ℕ) (w : Walk)
+    (S : SoFar t b x o₀ n i s₀ k₀ w₀ o s k w) where
   finished : runFrom k t b x w ≡ wrote [] → RanTo (runFrom k₀ t b x w₀) i s₀ o₀ o (Whole s)
   finished q =
-      let e : runFrom k₀ t b x w₀ ≡ wrote (S .put) = S .rest ∙ ap (before (S .put)) q ∙ ap wrote (append-nil (S .put)) in
+      let e : runFrom k₀ t b x w₀ ≡ wrote (S .put) =
+      S .rest ∙ ap (before (S .put)) q ∙ ap wrote (append-nil (S .put)) in
       rw e (ap Whole (size-is (S .in-bytes) (S .in-records)), λ f. S .out (omega (arith, S .in-bytes)))
 
   pub far-done : w .depth ≡ 0 → RanTo (runFrom k₀ t b x w₀) i s₀ o₀ o (Whole s)
@@ -126,15 +133,20 @@ module _ (t b x o₀ : List ℕ) (n i : ℕ) (s₀ : Size) (k₀ : ℕ) (w₀ : 
         go zero h = absurd (omega arith)
         go (suc k) h = run-stop k t b x w m d e g
 
-    step-rest : goes (m .emit) ≡ true → runFrom k₀ t b x w₀ ≡ before (S .put ++ emitted (m .emit)) (runFrom (k - 1) t b x (movedBy w m))
-    step-rest g = S .rest ∙ ap (before (S .put)) (go k z) ∙ before-before (S .put) (emitted (m .emit)) (runFrom (k - 1) t b x (movedBy w m))
+    step-rest : goes (m .emit) ≡ true
+        → runFrom k₀ t b x w₀ ≡ before (S .put ++ emitted (m .emit)) (runFrom (k - 1) t b x (movedBy w m))
+    step-rest g =
+        S .rest ∙ ap (before (S .put)) (go k z)
+        ∙ before-before (S .put) (emitted (m .emit)) (runFrom (k - 1) t b x (movedBy w m))
       where
         go : (k : ℕ) → 0 < k → runFrom k t b x w ≡ before (emitted (m .emit)) (runFrom (k - 1) t b x (movedBy w m))
         go zero h = absurd (omega arith)
         go (suc k) h = run-go k t b x w m d e g ∙ rw sub-one
 
-    pub far-step : length o ≡ length o₀ → goes (m .emit) ≡ true → (o₁ : List ℕ) (s₁ : Size) (w₁ : Walk) → s₁ ≡ sizeWith s (emitted (m .emit)) →
-        o₁ ≡ putAt o (i + s .bytes) (bytes (emitted (m .emit))) → w₁ ≡ movedBy w m → SoFar t b x o₀ n i s₀ k₀ w₀ o₁ s₁ (k - 1) w₁
+    pub far-step : length o ≡ length o₀ → goes (m .emit) ≡ true → (o₁ : List ℕ) (s₁ : Size) (w₁ : Walk)
+        → s₁ ≡ sizeWith s (emitted (m .emit))
+        → o₁ ≡ putAt o (i + s .bytes) (bytes (emitted (m .emit))) → w₁ ≡ movedBy w m
+        → SoFar t b x o₀ n i s₀ k₀ w₀ o₁ s₁ (k - 1) w₁
     far-step same-size g o₁ s₁ w₁ es eo ew =
         let l : List Record = emitted (m .emit) in
         let sb : s₁ .bytes ≡ s .bytes + length (bytes l) = ap (λ (y : Size). y .bytes) es in
@@ -150,5 +162,6 @@ module _ (t b x o₀ : List ℕ) (n i : ℕ) (s₀ : Size) (k₀ : ℕ) (w₀ : 
           out = λ f. let q : i + s .bytes + length (bytes l) ≤ length o₀ = omega arith in
               let u : o ≡ splice o₀ (i + s₀ .bytes) (bytes (S .put)) = S .out (omega arith) in
               eo ∙ put-fits o (i + s .bytes) (bytes l) (rw same-size q) ∙ rw (u, bl)
-              (splice-splice o₀ (i + s₀ .bytes) (i + s .bytes) (bytes (S .put)) (bytes l) (omega (arith, S .in-bytes)) (omega arith));
+              (splice-splice o₀ (i + s₀ .bytes) (i + s .bytes) (bytes (S .put)) (bytes l)
+              (omega (arith, S .in-bytes)) (omega arith));
         }

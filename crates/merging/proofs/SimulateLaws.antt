@@ -14,7 +14,8 @@ use Rattle.enumerations.specs.Lists.{nowhere, pastInner, innerAt, written, find
 use Rattle.merging.specs.Steps.{goes, elementMove, copyMove, addMove, lookMove}
 use Rattle.enumerations.specs.Standing.{plain, partOf, ElementAt, InsideAt, ElementsAt}
 use Rattle.enumerations.proofs.ListLaws.{element-short}
-use Rattle.merging.proofs.StepLaws.{copy-element, copy-end, add-known, add-barred, add-new, add-end, look-add, look-copy}
+use Rattle.merging.proofs.StepLaws.{copy-element, copy-end, add-known, add-barred, add-new, add-end, look-add}
+use Rattle.merging.proofs.StepLaws.{look-copy}
 use Rattle.enumerations.proofs.StandLaws.{past-inside, found, find-elements, found-inside, found-has, Inside, inside-is}
 use Rattle.merging.proofs.FrameLaws.{Frame, copy, add, heading, emits, leaves}
 use Rattle.book.specs.declared.Part.{Part}
@@ -54,11 +55,14 @@ pub record Simulates (t b x : List ℕ) (e : Emit) (Fs : List Frame) (m : Move) 
   pub emit : m .emit ≡ e
   pub left : goes e ≡ true → Left t b x Fs m
 
-heading-simulates : (t b x : List ℕ) (n : Name) (pl fi : Bool) (F G : Frame) (a : Part) (y z : Bool) (next child : Position) →
-    a ≡ partOf n → y ≡ not pl → z ≡ fi → Shows t b x F child → Shows t b x G next →
+heading-simulates : (t b x : List ℕ) (n : Name) (pl fi : Bool) (F G : Frame) (a : Part)
+    (y z : Bool) (next child : Position)
+    → a ≡ partOf n → y ≡ not pl → z ≡ fi → Shows t b x F child → Shows t b x G next →
     Simulates t b x (heading n pl fi) (cond pl (G ∷ []) (F ∷ G ∷ [])) (elementMove a y z next child)
-heading-simulates t b x n true fi F G a y z next child ea ey ez f g = rw ey (record { emit = rw ea; left = λ _. (refl, g) })
-heading-simulates t b x n false fi F G a y z next child ea ey ez f g = rw ey (record { emit = rw (ea, ez); left = λ _. (refl, f, g) })
+heading-simulates t b x n true fi F G a y z next child ea ey ez f g =
+    rw ey (record { emit = rw ea; left = λ _. (refl, g) })
+heading-simulates t b x n false fi F G a y z next child ea ey ez f g =
+    rw ey (record { emit = rw (ea, ez); left = λ _. (refl, f, g) })
 
 not-and : (a b : Bool) → (not a || not b) ≡ not (a && b)
 not-and true b = refl
@@ -73,7 +77,8 @@ module _ (t b x : List ℕ) (lb : length b < nowhere) (lx : length x < nowhere) 
       let j : Enum = inner (n .bytes) y in
       let a : Part = written b (p .at) in
       let m : ℕ = findFrom (length x + 1) t x (p .own) a in
-      let em : m ≡ found t x (n .bytes) y (p .own) = rw (e .name) (find-elements t x n (e .in-text) y (p .own) (h .own) (length x + 1) (omega arith)) in
+      let em : m ≡ found t x (n .bytes) y (p .own) =
+      rw (e .name) (find-elements t x n (e .in-text) y (p .own) (h .own) (length x + 1) (omega arith)) in
       let wj : InsideAt t x j m = rw em (found-inside t x lx (n .bytes) y (p .own) (h .own)) in
       let I : Inside t b lb i (innerAt b (p .at + elementSize)) = inside-is t b lb i (p .at + elementSize) wi in
       let J : Inside t x lx j (innerAt x m) = inside-is t x lx j m wj in
@@ -81,10 +86,18 @@ module _ (t b x : List ℕ) (lb : length b < nowhere) (lx : length x < nowhere) 
       let Z : Bool = innerAt b (p .at + elementSize) .«is_final» || innerAt x m .«is_final» in
       let ey : Y ≡ not (plain i && plain j) = rw (I .there, J .there) (not-and (plain i) (plain j)) in
       let ez : Z ≡ (final i || final j) = rw (I .«is_final», J .«is_final») in
-      rw (sym (copy-element t b x p a m (pastInner b (p .at + elementSize)) (innerAt b (p .at + elementSize)) (innerAt x m) (e .there) refl refl refl refl refl))
-      (heading-simulates t b x n (plain i && plain j) (final i || final j) (copy i i j) (copy w r y) a Y Z _ _ (e .name) ey ez
+      rw (sym (copy-element t b x p a m (pastInner b (p .at + elementSize)) (innerAt b (p .at + elementSize))
+      (innerAt x m) (e .there) refl refl refl refl refl))
+      (heading-simulates t b x n (plain i && plain j) (final i || final j) (copy i i j)
+      (copy w r y) a Y Z _ _ (e .name) ey ez
       (record { phase = refl; whole = I .list; rest = I .list; own = J .list; «is_final» = I .«is_final» })
-      (record { phase = refl; whole = h .whole; rest = rw (past-inside t b i (p .at + elementSize) wi) (h .rest .2); own = h .own; «is_final» = h .«is_final» }))
+      (record {
+        phase = refl;
+        whole = h .whole;
+        rest = rw (past-inside t b i (p .at + elementSize) wi) (h .rest .2);
+        own = h .own;
+        «is_final» = h .«is_final»;
+      }))
 
   add-simulates : (w : Enum) (n : Name) (j r : Enum) (p : Position) → Adding t b x w (elem n j r) p →
       Simulates t b x (emits (add w (elem n j r))) (leaves (add w (elem n j r))) (addMove t b x p)
@@ -92,30 +105,45 @@ module _ (t b x : List ℕ) (lb : length b < nowhere) (lx : length x < nowhere) 
       let e : ElementAt t x n (p .at) = h .rest .0 in
       let wi : InsideAt t x j (p .at + elementSize) = h .rest .1 in
       let m : ℕ = findFrom (length b + 1) t b (p .base) (written x (p .at)) in
-      let em : m ≡ found t b (n .bytes) w (p .base) = rw (e .name) (find-elements t b n (e .in-text) w (p .base) (h .whole) (length b + 1) (omega arith)) in
+      let em : m ≡ found t b (n .bytes) w (p .base) =
+      rw (e .name) (find-elements t b n (e .in-text) w (p .base) (h .whole) (length b + 1) (omega arith)) in
       let hm : ltb m nowhere ≡ has (n .bytes) w = rw em (found-has t b lb (n .bytes) w (p .base) (h .whole)) in
-      go m refl e (inside-is t x lx j (p .at + elementSize) wi) (rw (past-inside t x j (p .at + elementSize) wi) (h .rest .2)) (has (n .bytes) w) hm (final w) (h .«is_final»)
+      go m refl e (inside-is t x lx j (p .at + elementSize) wi)
+      (rw (past-inside t x j (p .at + elementSize) wi) (h .rest .2)) (has (n .bytes) w) hm (final w) (h .«is_final»)
     where
-      go : (m : ℕ) → m ≡ findFrom (length b + 1) t b (p .base) (written x (p .at)) → ElementAt t x n (p .at) → Inside t x lx j (innerAt x (p .at + elementSize)) →
-          ElementsAt t x r (pastInner x (p .at + elementSize)) → (c : Bool) → ltb m nowhere ≡ c → (d : Bool) → p .«is_final» ≡ d →
-          Simulates t b x (cond c Quiet (cond d Barred (heading n (plain j) (final j))))
+      go : (m : ℕ) → m ≡ findFrom (length b + 1) t b (p .base) (written x (p .at)) → ElementAt t x n (p .at)
+          → Inside t x lx j (innerAt x (p .at + elementSize))
+          → ElementsAt t x r (pastInner x (p .at + elementSize)) → (c : Bool) → ltb m nowhere ≡ c
+          → (d : Bool) → p .«is_final» ≡ d
+          → Simulates t b x (cond c Quiet (cond d Barred (heading n (plain j) (final j))))
           (cond c (add w r ∷ []) (cond (plain j) (add w r ∷ []) (add (end false) j ∷ add w r ∷ []))) (addMove t b x p)
       go m em e I k true c d q =
-          rw (sym (add-known t b x p (written x (p .at)) m (pastInner x (p .at + elementSize)) (e .there) refl em refl (ltb-true m nowhere c)))
-          (record { emit = refl; left = λ _. (refl, record { phase = refl; whole = h .whole; rest = k; «is_final» = h .«is_final» }) })
+          rw (sym (add-known t b x p (written x (p .at)) m (pastInner x (p .at + elementSize))
+          (e .there) refl em refl (ltb-true m nowhere c)))
+          (record {
+            emit = refl;
+            left = λ _. (refl, record { phase = refl; whole = h .whole; rest = k; «is_final» = h .«is_final» });
+          })
       go m em e I k false c true q =
-          rw (sym (add-barred t b x p (written x (p .at)) m (pastInner x (p .at + elementSize)) (e .there) refl em refl (ltb-false m nowhere c) q))
+          rw (sym (add-barred t b x p (written x (p .at)) m (pastInner x (p .at + elementSize))
+          (e .there) refl em refl (ltb-false m nowhere c) q))
           (record { emit = refl; left = λ z. never z })
       go m em e I k false c false q =
-          rw (sym (add-new t b x p (written x (p .at)) m (pastInner x (p .at + elementSize)) (e .there) refl em refl (innerAt x (p .at + elementSize)) refl (ltb-false m nowhere c) q))
-          (heading-simulates t b x n (plain j) (final j) (add (end false) j) (add w r) _ _ _ _ _ (e .name) (I .there) (I .«is_final»)
+          rw (sym (add-new t b x p (written x (p .at)) m (pastInner x (p .at + elementSize)) (e .there) refl em refl
+          (innerAt x (p .at + elementSize)) refl (ltb-false m nowhere c) q))
+          (heading-simulates t b x n (plain j) (final j) (add (end false) j) (add w r) _ _ _ _ _
+          (e .name) (I .there) (I .«is_final»)
           (record { phase = refl; whole = element-short b nowhere (omega arith); rest = I .list; «is_final» = refl })
           (record { phase = refl; whole = h .whole; rest = k; «is_final» = h .«is_final» }))
 
-  pub step-simulates : (F : Frame) (p : Position) → Shows t b x F p → Simulates t b x (emits F) (leaves F) (lookMove t b x p)
+  pub step-simulates : (F : Frame) (p : Position) → Shows t b x F p
+      → Simulates t b x (emits F) (leaves F) (lookMove t b x p)
   step-simulates (copy w (end f) y) p h =
       rw (sym (look-copy t b x p (h .phase)), sym (copy-end t b x p (h .rest)))
-      (record { emit = refl; left = λ _. (refl, record { phase = refl; whole = h .whole; rest = h .own; «is_final» = h .«is_final» }) })
+      (record {
+        emit = refl;
+        left = λ _. (refl, record { phase = refl; whole = h .whole; rest = h .own; «is_final» = h .«is_final» });
+      })
   step-simulates (copy w (elem n i r) y) p h = rw (sym (look-copy t b x p (h .phase))) (copy-simulates w n i r y p h)
   step-simulates (add w (end g)) p h =
       rw (sym (look-add t b x p (h .phase)), sym (add-end t b x p (h .rest))) (record { emit = refl; left = λ _. refl })

@@ -8,7 +8,8 @@ use lib.ListN.{length, set, take}
 use borrow.Author.Tests.{lt-ltb, le-ltb}
 use Rattle.rules.specs.Book.{bytes}
 use Rattle.enumerations.specs.Lists.{nowhere, isElement, pastInner, innerAt, written, findFrom}
-use Rattle.merging.specs.Steps.{emitted, pieceOf, sizeWith, elementMove, sharedMove, addedMove, copyMove, addMove, lookMove}
+use Rattle.merging.specs.Steps.{emitted, pieceOf, sizeWith, elementMove, sharedMove, addedMove, copyMove, addMove}
+use Rattle.merging.specs.Steps.{lookMove}
 use Rattle.merging.specs.Walks.{gone, movedBy}
 use Rattle.book.specs.declared.Part.{Part}
 use Rattle.enumerations.specs.declared.Inner.{Inner}
@@ -24,34 +25,45 @@ use Rattle.book.specs.Sizes.{elementSize}
 
 -- ---- what a step does
 module _ (t b x : List ℕ) (p : Position) where
-  pub copy-element : (n : Part) (m nx : ℕ) (i j : Inner) → isElement b (p .at) ≡ true → n ≡ written b (p .at) → i ≡ innerAt b (p .at + elementSize) →
-      m ≡ findFrom (length x + 1) t x (p .own) n → j ≡ innerAt x m → nx ≡ pastInner b (p .at + elementSize) →
-      sharedMove i j n (record { base = p .base; at = nx; own = p .own; adding = false; «is_final» = p .«is_final» }) ≡ copyMove t b x p
+  pub copy-element : (n : Part) (m nx : ℕ) (i j : Inner) → isElement b (p .at) ≡ true → n ≡ written b (p .at)
+      → i ≡ innerAt b (p .at + elementSize)
+      → m ≡ findFrom (length x + 1) t x (p .own) n → j ≡ innerAt x m → nx ≡ pastInner b (p .at + elementSize) →
+      sharedMove i j n (record { base = p .base; at = nx; own = p .own; adding = false; «is_final» = p .«is_final» })
+      ≡ copyMove t b x p
   unfolding copyMove
   copy-element n m nx i j e en ei em ej ex = rw (e, ← en, ← em, ← ej, ← ei, ← ex)
 
   pub copy-end : isElement b (p .at) ≡ false →
-      record { emit = Quiet; turn = Go; next = record { base = p .base; at = p .own; own = p .own; adding = true; «is_final» = p .«is_final» }; child = p } ≡ copyMove t b x p
+      record {
+        emit = Quiet;
+        turn = Go;
+        next = record { base = p .base; at = p .own; own = p .own; adding = true; «is_final» = p .«is_final» };
+        child = p;
+      } ≡ copyMove t b x p
   unfolding copyMove
   copy-end e = rw e
 
-  pub add-end : isElement x (p .at) ≡ false → record { emit = Close; turn = Leave; next = p; child = p } ≡ addMove t b x p
+  pub add-end : isElement x (p .at) ≡ false
+      → record { emit = Close; turn = Leave; next = p; child = p } ≡ addMove t b x p
   unfolding addMove
   add-end e = rw e
 
   abbrev pub further : ℕ → Position
   further nx = record { base = p .base; at = nx; own = p .own; adding = true; «is_final» = p .«is_final» }
 
-  module _ (n : Part) (m nx : ℕ) (e : isElement x (p .at) ≡ true) (en : n ≡ written x (p .at)) (em : m ≡ findFrom (length b + 1) t b (p .base) n) (ex : nx ≡ pastInner x (p .at + elementSize)) where
+  module _ (n : Part) (m nx : ℕ) (e : isElement x (p .at) ≡ true) (en : n ≡ written x (p .at))
+      (em : m ≡ findFrom (length b + 1) t b (p .base) n) (ex : nx ≡ pastInner x (p .at + elementSize)) where
     pub add-known : m < nowhere → record { emit = Quiet; turn = Go; next = further nx; child = p } ≡ addMove t b x p
     unfolding addMove
     add-known h = rw (e, ← en, ← em, lt-ltb m nowhere h, ex)
 
-    pub add-barred : nowhere ≤ m → p .«is_final» ≡ true → record { emit = Barred; turn = Go; next = further nx; child = p } ≡ addMove t b x p
+    pub add-barred : nowhere ≤ m → p .«is_final» ≡ true
+        → record { emit = Barred; turn = Go; next = further nx; child = p } ≡ addMove t b x p
     unfolding addMove
     add-barred h l = rw (e, ← en, ← em, le-ltb m nowhere h, ex, l)
 
-    pub add-new : (i : Inner) → i ≡ innerAt x (p .at + elementSize) → nowhere ≤ m → p .«is_final» ≡ false → addedMove i n (further nx) ≡ addMove t b x p
+    pub add-new : (i : Inner) → i ≡ innerAt x (p .at + elementSize) → nowhere ≤ m → p .«is_final» ≡ false
+        → addedMove i n (further nx) ≡ addMove t b x p
     unfolding addMove
     add-new i ei h l = rw (e, ← en, ← em, le-ltb m nowhere h, ex, l, ei)
 
@@ -69,10 +81,12 @@ pub look-copy : (t b x : List ℕ) (p : Position) → p .adding ≡ false → co
 unfolding lookMove
 look-copy t b x p e = sym (cond-false (addMove t b x p) (copyMove t b x p) (p .adding) e)
 
-pub element-there : (n : Part) (t l : Bool) (p q : Position) → t ≡ true → record { emit = Opening n l; turn = Enter; next = p; child = q } ≡ elementMove n t l p q
+pub element-there : (n : Part) (t l : Bool) (p q : Position) → t ≡ true
+    → record { emit = Opening n l; turn = Enter; next = p; child = q } ≡ elementMove n t l p q
 element-there n t l p q e = rw e
 
-pub element-plain : (n : Part) (t l : Bool) (p q : Position) → t ≡ false → record { emit = Element n; turn = Go; next = p; child = q } ≡ elementMove n t l p q
+pub element-plain : (n : Part) (t l : Bool) (p q : Position) → t ≡ false
+    → record { emit = Element n; turn = Go; next = p; child = q } ≡ elementMove n t l p q
 element-plain n t l p q e = rw e
 
 -- ---- the open lists
@@ -82,7 +96,8 @@ module _ (w : Walk) (m : Move) where
   moved-go e = rw e
 
   pub moved-enter : m .turn ≡ Enter → w .depth < 8 →
-      record { places = set (set (w .places) (w .depth - 1) (m .next)) (w .depth) (m .child); depth = w .depth + 1 } ≡ movedBy w m
+      record { places = set (set (w .places) (w .depth - 1) (m .next)) (w .depth) (m .child); depth = w .depth + 1 }
+      ≡ movedBy w m
   unfolding movedBy
   moved-enter e h = rw (e, lt-ltb (w .depth) 8 h)
 
@@ -102,14 +117,16 @@ piece-bytes (Element n) = refl
 piece-bytes (Opening n f) = refl
 piece-bytes Barred = refl
 
-pub piece-size : (e : Emit) (s : Size) → _≡_ {A = Size} (record { bytes = s .bytes + pieceOf e .len; records = s .records + pieceOf e .records }) (sizeWith s (emitted e))
+pub piece-size : (e : Emit) (s : Size) → _≡_ {A = Size}
+    (record { bytes = s .bytes + pieceOf e .len; records = s .records + pieceOf e .records }) (sizeWith s (emitted e))
 piece-size Quiet s = refl
 piece-size Close s = refl
 piece-size (Element n) s = refl
 piece-size (Opening n f) s = refl
 piece-size Barred s = refl
 
-pub piece-short : (e : Emit) → (pieceOf e .len ≤ 8) × (pieceOf e .records ≤ pieceOf e .len) × (length (pieceOf e .bytes) ≡ 8)
+pub piece-short : (e : Emit) → (pieceOf e .len ≤ 8) × (pieceOf e .records ≤ pieceOf e .len)
+    × (length (pieceOf e .bytes) ≡ 8)
 piece-short Quiet = (omega arith, omega arith, refl)
 piece-short Close = (omega arith, omega arith, refl)
 piece-short (Element n) = (omega arith, omega arith, refl)
@@ -122,7 +139,8 @@ pub record PieceIs (p : Piece) (e : Emit) : Type 0 where
   pub fewer : p .records ≤ p .len
   pub eight : length (p .bytes) ≡ 8
   pub taken : take (p .len) (p .bytes) ≡ bytes (emitted e)
-  pub size : (s : Size) → _≡_ {A = Size} (record { bytes = s .bytes + p .len; records = s .records + p .records }) (sizeWith s (emitted e))
+  pub size : (s : Size) → _≡_ {A = Size}
+      (record { bytes = s .bytes + p .len; records = s .records + p .records }) (sizeWith s (emitted e))
 
 pub piece-is : (p : Piece) (e : Emit) → p ≡ pieceOf e → PieceIs p e
 piece-is p e q =

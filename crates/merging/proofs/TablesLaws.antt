@@ -12,7 +12,8 @@ use Rattle.merging.specs.Merging.{ownTable, baseTable, BothSized, BothGa
 use Rattle.merging.specs.declared.Grids.{Grids}
 use Rattle.ground.proofs.LentLaws.{back, part-back, front-back, length-back, prefix-back}
 
-module _ (g : Grids) (z own base : List ℕ) (fits : g .part ≤ length z) (same-own : length own ≡ length (take (g .part) z)) where
+module _ (g : Grids) (z own base : List ℕ) (fits : g .part ≤ length z)
+    (same-own : length own ≡ length (take (g .part) z)) where
   -- with the first table in it
   abbrev pub begun : List ℕ
   begun = own ++ drop (g .part) z
@@ -35,11 +36,14 @@ module _ (g : Grids) (z own base : List ℕ) (fits : g .part ≤ length z) (same
     filled-length = length-back (g .part) (length z - g .part) begun base within same-base ∙ begun-length
 
     own-there : ownTable g filled ≡ own
-    own-there = front-back (g .part) (length z - g .part) begun base within same-base (g .part) (omega arith) ∙ prefix-back (g .part) z own fits same-own
+    own-there =
+        front-back (g .part) (length z - g .part) begun base within same-base (g .part) (omega arith)
+        ∙ prefix-back (g .part) z own fits same-own
 
     base-there : baseTable g filled ≡ base
     base-there =
-        ap (λ (n : ℕ). take (n - g .part) (drop (g .part) filled)) filled-length ∙ part-back (g .part) (length z - g .part) begun base within same-base
+        ap (λ (n : ℕ). take (n - g .part) (drop (g .part) filled)) filled-length
+        ∙ part-back (g .part) (length z - g .part) begun base within same-base
 
     module _ (t b x : List ℕ) (p : ℕ) (O : TableOf t x 0 (g .own) own) (B : TableOf t b p (g .base) base) where
       pub both-sized : BothSized g filled

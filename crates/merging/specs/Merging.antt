@@ -1,4 +1,5 @@
--- What merging promises: the records of the merged enumeration, written where they fit, or that it does not fit its base.
+-- What merging promises: the records of the merged enumeration, written where they fit, or that it
+-- does not fit its base.
 use mathlib.Core.Path.{_≡_}
 use mathlib.Core.Bool.{Bool, true, false}
 use mathlib.Core.Option.{none}
@@ -14,14 +15,16 @@ use Rattle.merging.specs.declared.Grids.{Grids}
 use Rattle.merging.specs.declared.Laid.{Laid}
 use Rattle.merging.specs.declared.Laid.the-variants.{Whole, Misfit}
 
--- these records are counted, and written at the place i of the buffer o if they fit it; or the answer is that they may not be
+-- these records are counted, and written at the place i of the buffer o if they fit it; or the answer
+-- is that they may not be
 abbrev pub LaidAs : Bool → List Record → ℕ → List ℕ → List ℕ → Laid → Type 0
 LaidAs true l i o o₁ r = (r ≡ Whole (sizeOf l)) × (i + length (bytes l) ≤ length o → o₁ ≡ splice o i (bytes l))
 LaidAs false l i o o₁ r = r ≡ Misfit
 
 -- of the base b and the written e, neither of which has an element twice
 abbrev pub Merges : Enum → Enum → ℕ → List ℕ → List ℕ → Laid → Type 0
-Merges b e i o o₁ r = twice b [] ≡ none → twice e [] ≡ none → LaidAs (enumFits (merge b e) b) (records (merge b e)) i o o₁ r
+Merges b e i o o₁ r =
+    twice b [] ≡ none → twice e [] ≡ none → LaidAs (enumFits (merge b e) b) (records (merge b e)) i o o₁ r
 
 -- ---- the lent numbers z: first the table of the extension, then that of the base
 abbrev pub ownTable : Grids → List ℕ → List ℕ

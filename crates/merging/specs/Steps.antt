@@ -1,4 +1,5 @@
--- What a step of the walk through a merged enumeration does, on bytes: the base's b, the extension's x, the names in the text t.
+-- What a step of the walk through a merged enumeration does, on bytes: the base's b, the extension's x,
+-- the names in the text t.
 use mathlib.Core.Bool.{Bool, true, false, cond, _||_}
 use mathlib.Core.List.{List, [], _∷_, _++_}
 use Prim.Native.Nat.{ℕ, _+_}
@@ -66,7 +67,8 @@ sharedMove i j n next =
 
 abbrev pub addedMove : Inner → Part → Position → Move
 addedMove i n next =
-    elementMove n (i .there) (i .«is_final») next (record { base = nowhere; at = i .list; own = nowhere; adding = true; «is_final» = false })
+    elementMove n (i .there) (i .«is_final») next
+    (record { base = nowhere; at = i .list; own = nowhere; adding = true; «is_final» = false })
 
 -- the next element of the base, with what the extension has of it; behind the last one, the extension's are next
 unfoldable pub copyMove : List ℕ → List ℕ → List ℕ → Position → Move
@@ -75,18 +77,36 @@ copyMove t b x p =
     (let n = written b (p .at) in
     let i = innerAt b (p .at + elementSize) in
     let j = innerAt x (findFrom (length x + 1) t x (p .own) n) in
-    sharedMove i j n (record { base = p .base; at = pastInner b (p .at + elementSize); own = p .own; adding = false; «is_final» = p .«is_final» }))
-    (record { emit = Quiet; turn = Go; next = record { base = p .base; at = p .own; own = p .own; adding = true; «is_final» = p .«is_final» }; child = p })
+    sharedMove i j n (record {
+      base = p .base;
+      at = pastInner b (p .at + elementSize);
+      own = p .own;
+      adding = false;
+      «is_final» = p .«is_final»;
+    }))
+    (record {
+      emit = Quiet;
+      turn = Go;
+      next = record { base = p .base; at = p .own; own = p .own; adding = true; «is_final» = p .«is_final» };
+      child = p;
+    })
 
 -- the next element of the extension, unless the base has it; behind the last one, the list is closed
 unfoldable pub addMove : List ℕ → List ℕ → List ℕ → Position → Move
 addMove t b x p =
     cond (isElement x (p .at))
     (let n = written x (p .at) in
-    let next : Position = record { base = p .base; at = pastInner x (p .at + elementSize); own = p .own; adding = true; «is_final» = p .«is_final» } in
+    let next : Position = record {
+      base = p .base;
+      at = pastInner x (p .at + elementSize);
+      own = p .own;
+      adding = true;
+      «is_final» = p .«is_final»;
+    } in
     cond (ltb (findFrom (length b + 1) t b (p .base) n) nowhere)
     (record { emit = Quiet; turn = Go; next = next; child = p })
-    (cond (p .«is_final») (record { emit = Barred; turn = Go; next = next; child = p }) (addedMove (innerAt x (p .at + elementSize)) n next)))
+    (cond (p .«is_final») (record { emit = Barred; turn = Go; next = next; child = p })
+    (addedMove (innerAt x (p .at + elementSize)) n next)))
     (record { emit = Close; turn = Leave; next = p; child = p })
 
 unfoldable pub lookMove : List ℕ → List ℕ → List ℕ → Position → Move

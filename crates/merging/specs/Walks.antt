@@ -31,7 +31,8 @@ gone w p = record { places = set (w .places) (w .depth - 1) p; depth = w .depth 
 abbrev pub turned : Turn → Walk → Position → Position → Walk
 turned Go w next child = gone w next
 turned Enter w next child =
-    cond (ltb (w .depth) 8) (record { places = set (set (w .places) (w .depth - 1) next) (w .depth) child; depth = w .depth + 1 }) (gone w next)
+    cond (ltb (w .depth) 8)
+    (record { places = set (set (w .places) (w .depth - 1) next) (w .depth) child; depth = w .depth + 1 }) (gone w next)
 turned Leave w next child = record { places = w .places; depth = w .depth - 1 }
 
 unfoldable pub movedBy : Walk → Move → Walk
@@ -56,7 +57,8 @@ runFrom (suc k) t b x w =
     let r = runFrom k t b x (movedBy w m) in
     cond (eqb (w .depth) 0) (wrote []) (afterMove m r)
 
--- the answer r and the buffer o₁ are those of a run whose records go to the buffer o, behind what has the size s from the place i on
+-- the answer r and the buffer o₁ are those of a run whose records go to the buffer o, behind what has the
+-- size s from the place i on
 abbrev pub RanTo : Ran → ℕ → Size → List ℕ → List ℕ → Laid → Type 0
 RanTo (wrote l) i s o o₁ r =
     (r ≡ Whole (sizeWith s l)) × (i + s .bytes + length (bytes l) ≤ length o → o₁ ≡ splice o (i + s .bytes) (bytes l))
@@ -66,4 +68,5 @@ RanTo barred i s o o₁ r = r ≡ Misfit
 pub record Starts (b x : Inner) (w : Walk) : Type 0 where
   pub depth : w .depth ≡ 1
   pub eight : length (w .places) ≡ 8
-  pub first : getD (w .places) 0 noPosition ≡ record { base = b .list; at = b .list; own = x .list; adding = false; «is_final» = b .«is_final» }
+  pub first : getD (w .places) 0 noPosition
+      ≡ record { base = b .list; at = b .list; own = x .list; adding = false; «is_final» = b .«is_final» }

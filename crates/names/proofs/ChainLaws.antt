@@ -24,7 +24,8 @@ key d = keyOf (d .name .bytes)
 
 -- ---- the key of a part of the text, i bytes of which are passed
 module _ (t : List ℕ) (o l i k : ℕ) where
-  pub key-next : i < l → o + l ≤ length t → keyFrom k (part t (o + i) (l - i)) ≡ keyFrom ((k * 31 + getD t (o + i) 0) % keys) (part t (o + (i + 1)) (l - (i + 1)))
+  pub key-next : i < l → o + l ≤ length t → keyFrom k (part t (o + i) (l - i))
+      ≡ keyFrom ((k * 31 + getD t (o + i) 0) % keys) (part t (o + (i + 1)) (l - (i + 1)))
   key-next h w =
       let a : o + i + 1 ≡ o + (i + 1) = omega arith in
       let b : l - i - 1 ≡ l - (i + 1) = omega arith in
@@ -42,18 +43,37 @@ record Next (k i : ℕ) (l : List Def) : Type 0 where
   has-key : key def ≡ k
   skipped : (q : Def → Bool) → ((d : Def) → q d ≡ true → key d ≡ k) → lookup q l ≡ lookup q (drop index l)
 
-next-of : (k i : ℕ) (l : List Def) → ((nextFrom k i l ≡ 0) × ((q : Def → Bool) → ((d : Def) → q d ≡ true → key d ≡ k) → lookup q l ≡ none)) ⊎ Next k i l
+next-of : (k i : ℕ) (l : List Def)
+    → ((nextFrom k i l ≡ 0) × ((q : Def → Bool) → ((d : Def) → q d ≡ true → key d ≡ k) → lookup q l ≡ none))
+    ⊎ Next k i l
 next-of k i [] = inl (refl, λ q h. refl)
 next-of k i (d ∷ l) = go (eqb (key d) k) refl (next-of k (i + 1) l)
   where
     other : (q : Def → Bool) → ((e : Def) → q e ≡ true → key e ≡ k) → eqb (key d) k ≡ false → q d ≡ false
     other q h e = is-false (λ p. not-both (eq-eqb (key d) k (h d p)) e)
 
-    go : (t : Bool) → eqb (key d) k ≡ t → ((nextFrom k (i + 1) l ≡ 0) × ((q : Def → Bool) → ((e : Def) → q e ≡ true → key e ≡ k) → lookup q l ≡ none)) ⊎ Next k (i + 1) l
-        → ((cond t (i + 1) (nextFrom k (i + 1) l) ≡ 0) × ((q : Def → Bool) → ((e : Def) → q e ≡ true → key e ≡ k) → lookup q (d ∷ l) ≡ none)) ⊎ Next k i (d ∷ l)
-    go true e h = inr (record { index = 0; def = d; at = rw e (omega arith); there-is = refl; has-key = eqb-true (key d) k e; skipped = λ q f. refl })
+    go : (t : Bool) → eqb (key d) k ≡ t
+        → ((nextFrom k (i + 1) l ≡ 0) × ((q : Def → Bool) → ((e : Def) → q e ≡ true → key e ≡ k) → lookup q l ≡ none))
+        ⊎ Next k (i + 1) l
+        → ((cond t (i + 1) (nextFrom k (i + 1) l) ≡ 0)
+        × ((q : Def → Bool) → ((e : Def) → q e ≡ true → key e ≡ k) → lookup q (d ∷ l) ≡ none)) ⊎ Next k i (d ∷ l)
+    go true e h = inr (record {
+      index = 0;
+      def = d;
+      at = rw e (omega arith);
+      there-is = refl;
+      has-key = eqb-true (key d) k e;
+      skipped = λ q f. refl;
+    })
     go false e (inl (z, f)) = inl (z, λ q g. rw (other q g e) (f q g))
-    go false e (inr n) = inr (record { index = suc (n .index); def = n .def; at = let a = n .at in rw e (omega arith); there-is = n .there-is; has-key = n .has-key; skipped = λ q f. rw (other q f e) (n .skipped q f) })
+    go false e (inr n) = inr (record {
+      index = suc (n .index);
+      def = n .def;
+      at = let a = n .at in rw e (omega arith);
+      there-is = n .there-is;
+      has-key = n .has-key;
+      skipped = λ q f. rw (other q f e) (n .skipped q f);
+    })
 
 -- ---- the search: p is the next behind i of the key of the name n
 same-key : (n : List ℕ) (low high : ℕ) (d : Def) → definedAt n low high d ≡ true → key d ≡ keyOf n
@@ -71,10 +91,12 @@ module _ (ks : List Def) (n : List ℕ) (low high p : ℕ) where
   module _ (b : Behind ks n low high p) where
     pub behind-none : p ≡ 0 → none ≡ lookup (definedAt n low high) ks
     behind-none z =
-        ⊎-elim (λ h. sym (b .rest ∙ h .1 (definedAt n low high) (same-key n low high))) (λ h. let a = h .at in let e = b .next in absurd (omega arith)) (next-of (keyOf n) (b .passed) (drop (b .passed) ks))
+        ⊎-elim (λ h. sym (b .rest ∙ h .1 (definedAt n low high) (same-key n low high))) (λ h. let a = h .at in
+        let e = b .next in absurd (omega arith)) (next-of (keyOf n) (b .passed) (drop (b .passed) ks))
 
     -- the definition at p
-    pub behind-there : 0 < p → (d : Def) × (nth ks (p - 1) ≡ some d) × (key d ≡ keyOf n) × (lookup (definedAt n low high) ks ≡ lookup (definedAt n low high) (drop (p - 1) ks))
+    pub behind-there : 0 < p → (d : Def) × (nth ks (p - 1) ≡ some d) × (key d ≡ keyOf n)
+        × (lookup (definedAt n low high) ks ≡ lookup (definedAt n low high) (drop (p - 1) ks))
     behind-there z =
         ⊎-elim (λ h. let a = h .0 in let e = b .next in absurd (omega arith))
         (λ h.
@@ -82,17 +104,21 @@ module _ (ks : List Def) (n : List ℕ) (low high p : ℕ) where
           h .def,
           rw (e, ← nth-dropped ks (b .passed) (h .index)) (h .there-is),
           h .has-key,
-          rw (e, ← drop-drop (h .index) (b .passed) ks) (b .rest ∙ h .skipped (definedAt n low high) (same-key n low high)),
+          rw (e, ← drop-drop (h .index) (b .passed) ks)
+              (b .rest ∙ h .skipped (definedAt n low high) (same-key n low high)),
         ))
         (next-of (keyOf n) (b .passed) (drop (b .passed) ks))
 
 -- ---- a turn: the row at p is judged by v
-module _ (t : List ℕ) (ks : List Def) (x : List ℕ) (count : ℕ) (k : Known t ks x count) (z : List ℕ) (c : Chains ks z) (n : List ℕ) (low high p : ℕ) (b : Behind ks n low high p) (w : 0 < p) where
+module _ (t : List ℕ) (ks : List Def) (x : List ℕ) (count : ℕ) (k : Known t ks x count) (z : List ℕ) (c : Chains ks z)
+    (n : List ℕ) (low high p : ℕ) (b : Behind ks n low high p) (w : 0 < p) where
   from-one : p ≡ suc (p - 1)
   from-one = omega arith
 
   pub chain-within : p ≤ count
-  chain-within = let (d, e, g, r) = behind-there ks n low high p b w in let h = nth-within ks (p - 1) d e in let a = k .all in omega arith
+  chain-within =
+      let (d, e, g, r) = behind-there ks n low high p b w in
+      let h = nth-within ks (p - 1) d e in let a = k .all in omega arith
 
   module _ (v : Bool) (f : (d : Def) → Says t d (row definitionWidth x p) → v ≡ definedAt n low high d) where
     judged : (d : Def) → entry ks p ≡ some d → v ≡ definedAt n low high d
@@ -110,11 +136,15 @@ module _ (t : List ℕ) (ks : List Def) (x : List ℕ) (count : ℕ) (k : Known 
           let (d, a, g, r) = behind-there ks n low high p b w in
           let q : entry ks p ≡ some d = ap (entry ks) from-one ∙ a in
           let y : lookup (definedAt n low high) (drop (p - 1) ks) ≡ lookup (definedAt n low high) (drop p ks) =
-          look-on (definedAt n low high) ks (p - 1) d a (sym (judged d q) ∙ e) ∙ ap (λ (i : ℕ). lookup (definedAt n low high) (drop i ks)) (sym from-one) in
+          look-on (definedAt n low high) ks (p - 1) d a (sym (judged d q) ∙ e)
+          ∙ ap (λ (i : ℕ). lookup (definedAt n low high) (drop i ks)) (sym from-one) in
           record { passed = p; next = em ∙ c .links p d q ∙ ap (λ (j : ℕ). nextFrom j p (drop p ks)) g; rest = r ∙ y }
 
       pub chain-up : m ≤ p → m ≡ 0
-      chain-up h = let y = chain-on .next in ⊎-elim (λ s. chain-on-next ∙ s .0) (λ s. let a = s .at in let u = chain-on-next in absurd (omega arith)) (next-of (keyOf n) p (drop p ks))
+      chain-up h =
+          let y = chain-on .next in
+          ⊎-elim (λ s. chain-on-next ∙ s .0) (λ s. let a = s .at in let u = chain-on-next in absurd (omega arith))
+          (next-of (keyOf n) p (drop p ks))
         where
           chain-on-next : m ≡ nextFrom (keyOf n) p (drop p ks)
           chain-on-next =

@@ -43,7 +43,8 @@ nth-left [] m i a e = let z : _≡_ {A = ℕ} 0 1 = cc in absurd (omega arith)
 nth-left (b ∷ l) m zero a e = e
 nth-left (b ∷ l) m (suc i) a e = nth-left l m i a e
 
-pub nth-last : {A : Type 0} (l : List A) (a : A) (i : ℕ) (b : A) → nth (l ++ (a ∷ [])) i ≡ some b → (nth l i ≡ some b) ⊎ ((i ≡ length l) × (a ≡ b))
+pub nth-last : {A : Type 0} (l : List A) (a : A) (i : ℕ) (b : A) → nth (l ++ (a ∷ [])) i ≡ some b
+    → (nth l i ≡ some b) ⊎ ((i ≡ length l) × (a ≡ b))
 nth-last [] a zero b e = let p : a ≡ b = cc in inr (refl, p)
 nth-last [] a (suc i) b e = let z : _≡_ {A = ℕ} 0 1 = cc in absurd (omega arith)
 nth-last (c ∷ l) a zero b e = inl e
@@ -71,7 +72,8 @@ module _ (q : Def → Bool) where
   pub look-here : (ks : List Def) (i : ℕ) (d : Def) → nth ks i ≡ some d → q d ≡ true → lookup q (drop i ks) ≡ some d
   look-here ks i d e h = rw (nth-drop ks i d e, h)
 
-  pub look-on : (ks : List Def) (i : ℕ) (d : Def) → nth ks i ≡ some d → q d ≡ false → lookup q (drop i ks) ≡ lookup q (drop (suc i) ks)
+  pub look-on : (ks : List Def) (i : ℕ) (d : Def) → nth ks i ≡ some d → q d ≡ false
+      → lookup q (drop i ks) ≡ lookup q (drop (suc i) ks)
   look-on ks i d e h = rw (nth-drop ks i d e, h)
 
 pub look-alike : (q r : Def → Bool) → ((d : Def) → q d ≡ r d) → (ks : List Def) → lookup q ks ≡ lookup r ks
@@ -114,17 +116,20 @@ at-hand-test : (a b c : Bool) → ((a && b) || (a && c)) ≡ (a && (b || c))
 at-hand-test true b c = refl
 at-hand-test false b c = refl
 
-pub at-hand : (s : State) (n : List ℕ) (h : ℕ) → h ≡ homeNumber (numberIn (s .topic)) → lookup (definedAt n 0 h) (known (s .decls)) ≡ atHand s n
+pub at-hand : (s : State) (n : List ℕ) (h : ℕ) → h ≡ homeNumber (numberIn (s .topic))
+    → lookup (definedAt n 0 h) (known (s .decls)) ≡ atHand s n
 at-hand s n h e = look-alike _ _ (λ d. test d) (known (s .decls))
   where
     test : (d : Def) → definedAt n 0 h d ≡ (definedAs n none d || definedAs n (numberIn (s .topic)) d)
-    test d = rw (e, home-eq none (d .home), home-eq (numberIn (s .topic)) (d .home)) (sym (at-hand-test (same n (d .name .bytes)) (sameHome none (d .home)) (sameHome (numberIn (s .topic)) (d .home))))
+    test d = rw (e, home-eq none (d .home), home-eq (numberIn (s .topic)) (d .home)) (sym
+        (at-hand-test (same n (d .name .bytes)) (sameHome none (d .home)) (sameHome (numberIn (s .topic)) (d .home))))
 
 twice : (b : Bool) → (b || b) ≡ b
 twice true = refl
 twice false = refl
 
-pub at-home : (s : State) (n : List ℕ) (k : Option ℕ) (h : ℕ) → h ≡ homeNumber k → lookup (definedAt n h h) (known (s .decls)) ≡ atHome s k n
+pub at-home : (s : State) (n : List ℕ) (k : Option ℕ) (h : ℕ) → h ≡ homeNumber k
+    → lookup (definedAt n h h) (known (s .decls)) ≡ atHome s k n
 at-home s n k h e = look-alike _ _ (λ d. test d) (known (s .decls))
   where
     test : (d : Def) → definedAt n h h d ≡ definedAs n k d

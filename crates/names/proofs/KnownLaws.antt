@@ -28,7 +28,8 @@ module _ (k : ℕ) (d : Def) where
   next-new i [] h z = rw (eq-eqb (key d) k h) (omega arith)
   next-new i (e ∷ l) h z = go (eqb (key e) k) z (next-new (i + 1) l h)
     where
-      go : (t : Bool) → cond t (i + 1) (nextFrom k (i + 1) l) ≡ 0 → (nextFrom k (i + 1) l ≡ 0 → nextFrom k (i + 1) (l ++ (d ∷ [])) ≡ i + 1 + length l + 1)
+      go : (t : Bool) → cond t (i + 1) (nextFrom k (i + 1) l) ≡ 0
+          → (nextFrom k (i + 1) l ≡ 0 → nextFrom k (i + 1) (l ++ (d ∷ [])) ≡ i + 1 + length l + 1)
           → cond t (i + 1) (nextFrom k (i + 1) (l ++ (d ∷ []))) ≡ i + suc (length l) + 1
       go true p h = absurd (omega arith)
       go false p h = let q = h p in omega arith
@@ -37,7 +38,8 @@ module _ (k : ℕ) (d : Def) where
   next-keep i [] h = absurd (h refl)
   next-keep i (e ∷ l) h = go (eqb (key e) k) h (next-keep (i + 1) l)
     where
-      go : (t : Bool) → ¬ (cond t (i + 1) (nextFrom k (i + 1) l) ≡ 0) → (¬ (nextFrom k (i + 1) l ≡ 0) → nextFrom k (i + 1) (l ++ (d ∷ [])) ≡ nextFrom k (i + 1) l)
+      go : (t : Bool) → ¬ (cond t (i + 1) (nextFrom k (i + 1) l) ≡ 0)
+          → (¬ (nextFrom k (i + 1) l ≡ 0) → nextFrom k (i + 1) (l ++ (d ∷ [])) ≡ nextFrom k (i + 1) l)
           → cond t (i + 1) (nextFrom k (i + 1) (l ++ (d ∷ []))) ≡ cond t (i + 1) (nextFrom k (i + 1) l)
       go true p h = refl
       go false p h = h p
@@ -45,7 +47,10 @@ module _ (k : ℕ) (d : Def) where
 -- a definition of the key stands in the list
 next-some : (k i j : ℕ) (l : List Def) (d : Def) → nth l j ≡ some d → key d ≡ k → ¬ (nextFrom k i l ≡ 0)
 next-some k i j [] d e h z = let y : _≡_ {A = ℕ} 0 1 = cc in omega arith
-next-some k i zero (b ∷ l) d e h z = let q : b ≡ d = cc in let r : eqb (key b) k ≡ true = eq-eqb (key b) k (ap key q ∙ h) in let y : i + 1 ≡ 0 = rw r at z in omega arith
+next-some k i zero (b ∷ l) d e h z =
+    let q : b ≡ d = cc in
+    let r : eqb (key b) k ≡ true = eq-eqb (key b) k (ap key q ∙ h) in
+    let y : i + 1 ≡ 0 = rw r at z in omega arith
 next-some k i (suc j) (b ∷ l) d e h z = go (eqb (key b) k) z (next-some k (i + 1) j l d e h)
   where
     go : (t : Bool) → cond t (i + 1) (nextFrom k (i + 1) l) ≡ 0 → ¬ (nextFrom k (i + 1) l ≡ 0) → ⊥
@@ -71,7 +76,8 @@ module _ (z : List ℕ) (k last p : ℕ) (hk : k < keys) (hp : keys + keys + p <
   two i = set one i p
 
   other : (i j m : ℕ) → ¬ (m ≡ keys + keys + p) → ¬ (m ≡ i) → ¬ (m ≡ j) → getD (set (two i) j p) m 0 ≡ getD z m 0
-  other i j m a b c = getD-set-other (two i) j m p 0 c ∙ getD-set-other one i m p 0 b ∙ getD-set-other z (keys + keys + p) m 0 0 a
+  other i j m a b c =
+      getD-set-other (two i) j m p 0 c ∙ getD-set-other one i m p 0 b ∙ getD-set-other z (keys + keys + p) m 0 0 a
 
   long : (i : ℕ) → length (two i) ≡ length z
   long i = length-set one i p ∙ length-set z (keys + keys + p) 0
@@ -80,14 +86,19 @@ module _ (z : List ℕ) (k last p : ℕ) (hk : k < keys) (hp : keys + keys + p <
   stored-first e =
       let l = length-set z (keys + keys + p) 0 in
       record {
-        head-first = λ _. getD-set-other (two k) (keys + k) k p 0 (λ y. omega arith) ∙ getD-set-same one k p 0 (omega arith);
+        head-first =
+            λ _. getD-set-other (two k) (keys + k) k p 0 (λ y. omega arith) ∙ getD-set-same one k p 0 (omega arith);
         head-kept = λ f. absurd (f e);
         heads-kept = λ j h f. other k (keys + k) j (λ y. omega arith) f (λ y. omega arith);
         tail-new = let m = long k in getD-set-same (two k) (keys + k) p 0 (omega arith);
-        tails-kept = λ j h f. other k (keys + k) (keys + j) (λ y. omega arith) (λ y. omega arith) (λ y. f (omega arith));
-        link-new = getD-set-other (two k) (keys + k) (keys + keys + p) p 0 (λ y. omega arith) ∙ getD-set-other one k (keys + keys + p) p 0 (λ y. omega arith) ∙ getD-set-same z (keys + keys + p) 0 0 hp;
+        tails-kept =
+            λ j h f. other k (keys + k) (keys + j) (λ y. omega arith) (λ y. omega arith) (λ y. f (omega arith));
+        link-new =
+            getD-set-other (two k) (keys + k) (keys + keys + p) p 0 (λ y. omega arith)
+            ∙ getD-set-other one k (keys + keys + p) p 0 (λ y. omega arith) ∙ getD-set-same z (keys + keys + p) 0 0 hp;
         link-last = λ f. absurd (f e);
-        links-kept = λ q h w f. other k (keys + k) (keys + keys + q) (λ y. omega arith) (λ y. omega arith) (λ y. omega arith);
+        links-kept =
+            λ q h w f. other k (keys + k) (keys + keys + q) (λ y. omega arith) (λ y. omega arith) (λ y. omega arith);
       }
 
   pub stored-last : ¬ (last ≡ 0) → last < p → Stored z (set (two (keys + keys + last)) (keys + k) p) k last p
@@ -95,13 +106,23 @@ module _ (z : List ℕ) (k last p : ℕ) (hk : k < keys) (hp : keys + keys + p <
       let l = length-set z (keys + keys + p) 0 in
       record {
         head-first = λ f. absurd (e f);
-        head-kept = λ f. other (keys + keys + last) (keys + k) k (λ y. omega arith) (λ y. omega arith) (λ y. omega arith);
-        heads-kept = λ j h f. other (keys + keys + last) (keys + k) j (λ y. omega arith) (λ y. omega arith) (λ y. omega arith);
-        tail-new = let m = long (keys + keys + last) in getD-set-same (two (keys + keys + last)) (keys + k) p 0 (omega arith);
-        tails-kept = λ j h f. other (keys + keys + last) (keys + k) (keys + j) (λ y. omega arith) (λ y. omega arith) (λ y. f (omega arith));
-        link-new = getD-set-other (two (keys + keys + last)) (keys + k) (keys + keys + p) p 0 (λ y. omega arith) ∙ getD-set-other one (keys + keys + last) (keys + keys + p) p 0 (λ y. omega arith) ∙ getD-set-same z (keys + keys + p) 0 0 hp;
-        link-last = λ f. getD-set-other (two (keys + keys + last)) (keys + k) (keys + keys + last) p 0 (λ y. omega arith) ∙ getD-set-same one (keys + keys + last) p 0 (omega arith);
-        links-kept = λ q h w f. other (keys + keys + last) (keys + k) (keys + keys + q) (λ y. omega arith) (λ y. f (omega arith)) (λ y. omega arith);
+        head-kept =
+            λ f. other (keys + keys + last) (keys + k) k (λ y. omega arith) (λ y. omega arith) (λ y. omega arith);
+        heads-kept =
+            λ j h f. other (keys + keys + last) (keys + k) j (λ y. omega arith) (λ y. omega arith) (λ y. omega arith);
+        tail-new =
+            let m = long (keys + keys + last) in
+            getD-set-same (two (keys + keys + last)) (keys + k) p 0 (omega arith);
+        tails-kept = λ j h f. other (keys + keys + last) (keys + k) (keys + j) (λ y. omega arith)
+            (λ y. omega arith) (λ y. f (omega arith));
+        link-new =
+            getD-set-other (two (keys + keys + last)) (keys + k) (keys + keys + p) p 0 (λ y. omega arith)
+            ∙ getD-set-other one (keys + keys + last) (keys + keys + p) p 0 (λ y. omega arith)
+            ∙ getD-set-same z (keys + keys + p) 0 0 hp;
+        link-last = λ f. getD-set-other (two (keys + keys + last)) (keys + k) (keys + keys + last) p 0
+            (λ y. omega arith) ∙ getD-set-same one (keys + keys + last) p 0 (omega arith);
+        links-kept = λ q h w f. other (keys + keys + last) (keys + k) (keys + keys + q) (λ y. omega arith)
+            (λ y. f (omega arith)) (λ y. omega arith);
       }
 
 -- ---- the chains with one definition more
@@ -139,7 +160,8 @@ tail-none : (ks : List Def) (k t : ℕ) → Tail ks k t → t ≡ 0 → nextFrom
 tail-none ks k zero h e = h
 tail-none ks k (suc j) h e = absurd (omega arith)
 
-tail-end : (ks : List Def) (k t : ℕ) → Tail ks k t → ¬ (t ≡ 0) → (d : Def) × (entry ks t ≡ some d) × (key d ≡ k) × (nextFrom k t (drop t ks) ≡ 0)
+tail-end : (ks : List Def) (k t : ℕ) → Tail ks k t → ¬ (t ≡ 0)
+    → (d : Def) × (entry ks t ≡ some d) × (key d ≡ k) × (nextFrom k t (drop t ks) ≡ 0)
 tail-end ks k zero h e = absurd (e refl)
 tail-end ks k (suc j) h e = h
 
@@ -147,8 +169,13 @@ tail-other : (ks : List Def) (d : Def) (k t : ℕ) → ¬ (key d ≡ k) → Tail
 tail-other ks d k zero h f = next-other k d 0 ks h ∙ f
 tail-other ks d k (suc j) h f =
     let (e, a, g, n) = f in
-    let w = nth-within ks j e a in
-    (e, nth-left ks (d ∷ []) j e a, g, ap (nextFrom k (suc j)) (drop-append-le (suc j) ks (d ∷ []) (omega arith)) ∙ next-other k d (suc j) (drop (suc j) ks) h ∙ n)
+    let w = nth-within ks j e a in (
+      e,
+      nth-left ks (d ∷ []) j e a,
+      g,
+      ap (nextFrom k (suc j)) (drop-append-le (suc j) ks (d ∷ []) (omega arith))
+          ∙ next-other k d (suc j) (drop (suc j) ks) h ∙ n,
+    )
 
 tail-last : (ks : List Def) (d : Def) (p : ℕ) → p ≡ suc (length ks) → Tail (ks ++ (d ∷ [])) (key d) p
 tail-last ks d zero e = absurd (omega arith)
@@ -162,35 +189,45 @@ tail-last ks d (suc j) e =
     nth-seam [] a = refl
     nth-seam (b ∷ l) a = nth-seam l a
 
-module _ (ks : List Def) (z z' : List ℕ) (d : Def) (last p : ℕ) (c : Chains ks z) (hk : key d < keys) (el : last ≡ getD z (keys + key d) 0) (ep : p ≡ length ks + 1) (s : Stored z z' (key d) last p) where
+module _ (ks : List Def) (z z' : List ℕ) (d : Def) (last p : ℕ) (c : Chains ks z) (hk : key d < keys)
+    (el : last ≡ getD z (keys + key d) 0) (ep : p ≡ length ks + 1) (s : Stored z z' (key d) last p) where
   tail : Tail ks (key d) last
   tail = rw el (c .tails (key d) hk)
 
   head : (k : ℕ) → k < keys → getD z' k 0 ≡ nextFrom k 0 (ks ++ (d ∷ []))
-  head k h = ⊎-elim same-key (λ f. s .heads-kept k h f ∙ c .heads k h ∙ sym (next-other k d 0 ks (λ e. f (sym e)))) (side k (key d))
+  head k h = ⊎-elim same-key (λ f. s .heads-kept k h f ∙ c .heads k h ∙ sym (next-other k d 0 ks (λ e. f (sym e))))
+      (side k (key d))
     where
       at-key : getD z' (key d) 0 ≡ nextFrom (key d) 0 (ks ++ (d ∷ []))
       at-key =
-          ⊎-elim (λ e. s .head-first e ∙ ep ∙ sym (next-new (key d) d 0 ks refl (tail-none ks (key d) last tail e) ∙ zero-front (length ks)))
+          ⊎-elim (λ e. s .head-first e ∙ ep
+          ∙ sym (next-new (key d) d 0 ks refl (tail-none ks (key d) last tail e) ∙ zero-front (length ks)))
           (λ e. s .head-kept e ∙ c .heads (key d) hk ∙ sym (next-keep (key d) d 0 ks (kept e))) (side last 0)
         where
           zero-front : (n : ℕ) → 0 + n + 1 ≡ n + 1
           zero-front n = omega arith
 
           kept : ¬ (last ≡ 0) → ¬ (nextFrom (key d) 0 ks ≡ 0)
-          kept e = let (b, a, g, n) = tail-end ks (key d) last tail e in next-some (key d) 0 (last - 1) ks b (entry-nth ks last b e a) g
+          kept e =
+              let (b, a, g, n) = tail-end ks (key d) last tail e in
+              next-some (key d) 0 (last - 1) ks b (entry-nth ks last b e a) g
 
       same-key : k ≡ key d → getD z' k 0 ≡ nextFrom k 0 (ks ++ (d ∷ []))
       same-key e = rw e at-key
 
   tail' : (k : ℕ) → k < keys → Tail (ks ++ (d ∷ [])) k (getD z' (keys + k) 0)
   tail' k h =
-      ⊎-elim (λ e. subst (λ (m : ℕ). Tail (ks ++ (d ∷ [])) m (getD z' (keys + m) 0)) (sym e) (subst (Tail (ks ++ (d ∷ [])) (key d)) (sym (s .tail-new)) (tail-last ks d p (omega arith))))
-      (λ f. subst (Tail (ks ++ (d ∷ [])) k) (sym (s .tails-kept k h f)) (tail-other ks d k (getD z (keys + k) 0) (λ e. f (sym e)) (c .tails k h))) (side k (key d))
+      ⊎-elim (λ e. subst (λ (m : ℕ). Tail (ks ++ (d ∷ [])) m (getD z' (keys + m) 0)) (sym e)
+      (subst (Tail (ks ++ (d ∷ [])) (key d)) (sym (s .tail-new)) (tail-last ks d p (omega arith))))
+      (λ f. subst (Tail (ks ++ (d ∷ [])) k) (sym (s .tails-kept k h f))
+      (tail-other ks d k (getD z (keys + k) 0) (λ e. f (sym e)) (c .tails k h))) (side k (key d))
 
   -- a definition of the same key that is not the last of its chain has one behind it
-  followed : (q : ℕ) (e : Def) → ¬ (q ≡ 0) → entry ks q ≡ some e → ¬ (q ≡ last) → key e ≡ key d → ¬ (nextFrom (key d) q (drop q ks) ≡ 0)
-  followed q e nz a nl g = ⊎-elim (λ y. absurd (next-some (key d) 0 (q - 1) ks e at-q g (tail-none ks (key d) last tail y))) (λ y. more y (tail-end ks (key d) last tail y)) (side last 0)
+  followed : (q : ℕ) (e : Def) → ¬ (q ≡ 0) → entry ks q ≡ some e → ¬ (q ≡ last) → key e ≡ key d
+      → ¬ (nextFrom (key d) q (drop q ks) ≡ 0)
+  followed q e nz a nl g =
+      ⊎-elim (λ y. absurd (next-some (key d) 0 (q - 1) ks e at-q g (tail-none ks (key d) last tail y)))
+      (λ y. more y (tail-end ks (key d) last tail y)) (side last 0)
     where
       at-q : nth ks (q - 1) ≡ some e
       at-q = entry-nth ks q e nz a
@@ -198,21 +235,32 @@ module _ (ks : List Def) (z z' : List ℕ) (d : Def) (last p : ℕ) (c : Chains 
       behind : (l i : ℕ) (b : Def) → l ≤ i → nth ks i ≡ some b → nth (drop l ks) (i - l) ≡ some b
       behind l i b w h = let y : l + (i - l) ≡ i = omega arith in rw (nth-dropped ks l (i - l), y) h
 
-      more : ¬ (last ≡ 0) → (b : Def) × (entry ks last ≡ some b) × (key b ≡ key d) × (nextFrom (key d) last (drop last ks) ≡ 0) → ¬ (nextFrom (key d) q (drop q ks) ≡ 0)
+      more : ¬ (last ≡ 0) → (b : Def) × (entry ks last ≡ some b) × (key b ≡ key d)
+          × (nextFrom (key d) last (drop last ks) ≡ 0) → ¬ (nextFrom (key d) q (drop q ks) ≡ 0)
       more y (b, h, k, n) = go (leb q last) refl
         where
           go : (t : Bool) → leb q last ≡ t → ¬ (nextFrom (key d) q (drop q ks) ≡ 0)
-          go true w = let v = leb-true q last w in let u : ¬ (q ≡ last) = nl in let m : q ≤ last - 1 = lower q last v u in next-some (key d) q (last - 1 - q) (drop q ks) b (behind q (last - 1) b m (entry-nth ks last b y h)) k
-          go false w = let v = leb-false q last w in let m : last ≤ q - 1 = omega arith in absurd (next-some (key d) last (q - 1 - last) (drop last ks) e (behind last (q - 1) e m at-q) g n)
+          go true w =
+              let v = leb-true q last w in
+              let u : ¬ (q ≡ last) = nl in
+              let m : q ≤ last - 1 = lower q last v u in
+              next-some (key d) q (last - 1 - q) (drop q ks) b (behind q (last - 1) b m (entry-nth ks last b y h)) k
+          go false w =
+              let v = leb-false q last w in
+              let m : last ≤ q - 1 = omega arith in
+              absurd (next-some (key d) last (q - 1 - last) (drop last ks) e (behind last (q - 1) e m at-q) g n)
 
-  link : (q : ℕ) (e : Def) → entry (ks ++ (d ∷ [])) q ≡ some e → getD z' (keys + keys + q) 0 ≡ nextFrom (key e) q (drop q (ks ++ (d ∷ [])))
+  link : (q : ℕ) (e : Def) → entry (ks ++ (d ∷ [])) q ≡ some e
+      → getD z' (keys + keys + q) 0 ≡ nextFrom (key e) q (drop q (ks ++ (d ∷ [])))
   link q e a = ⊎-elim newest (λ f. older f) (side q p)
     where
       len : length (ks ++ (d ∷ [])) ≡ length ks + 1
       len = length-append ks (d ∷ [])
 
       newest : q ≡ p → getD z' (keys + keys + q) 0 ≡ nextFrom (key e) q (drop q (ks ++ (d ∷ [])))
-      newest f = let w : length (ks ++ (d ∷ [])) ≤ q = let l = len in omega arith in rw f at-new ∙ sym (ap (nextFrom (key e) q) (drop-of-length-le (ks ++ (d ∷ [])) w))
+      newest f =
+          let w : length (ks ++ (d ∷ [])) ≤ q = let l = len in omega arith in
+          rw f at-new ∙ sym (ap (nextFrom (key e) q) (drop-of-length-le (ks ++ (d ∷ [])) w))
         where
           at-new : getD z' (keys + keys + p) 0 ≡ 0
           at-new = s .link-new
@@ -225,33 +273,41 @@ module _ (ks : List Def) (z z' : List ℕ) (d : Def) (last p : ℕ) (c : Chains 
           let o : entry ks q ≡ some e = sym (entry-keep ks (d ∷ []) q v) ∙ a in
           ap-drop v (⊎-elim (at-last o) (λ y. between o y) (side q last))
         where
-          ap-drop : q ≤ length ks → getD z' (keys + keys + q) 0 ≡ nextFrom (key e) q (drop q ks ++ (d ∷ [])) → getD z' (keys + keys + q) 0 ≡ nextFrom (key e) q (drop q (ks ++ (d ∷ [])))
+          ap-drop : q ≤ length ks → getD z' (keys + keys + q) 0 ≡ nextFrom (key e) q (drop q ks ++ (d ∷ []))
+              → getD z' (keys + keys + q) 0 ≡ nextFrom (key e) q (drop q (ks ++ (d ∷ [])))
           ap-drop v h = h ∙ sym (ap (nextFrom (key e) q) (drop-append-le q ks (d ∷ []) v))
 
-          at-last : entry ks q ≡ some e → q ≡ last → getD z' (keys + keys + q) 0 ≡ nextFrom (key e) q (drop q ks ++ (d ∷ []))
+          at-last : entry ks q ≡ some e → q ≡ last
+              → getD z' (keys + keys + q) 0 ≡ nextFrom (key e) q (drop q ks ++ (d ∷ []))
           at-last o y =
               let (b, h, g, n) = tail-end ks (key d) last tail (λ u. not-none ks q e o (y ∙ u)) in
               let oe : entry ks last ≡ some e = sym (ap (entry ks) y) ∙ o in
               let eb : e ≡ b = cc in
               let kz : key d ≡ key e = sym g ∙ ap key (sym eb) in
-              let zero : nextFrom (key e) q (drop q ks) ≡ 0 = ap (λ (k : ℕ). nextFrom k q (drop q ks)) (sym kz) ∙ ap (λ (i : ℕ). nextFrom (key d) i (drop i ks)) y ∙ n in
+              let zero : nextFrom (key e) q (drop q ks) ≡ 0 = ap (λ (k : ℕ). nextFrom k q (drop q ks)) (sym kz)
+              ∙ ap (λ (i : ℕ). nextFrom (key d) i (drop i ks)) y ∙ n in
               let w = entry-within ks q e o in
               let l = length-drop q ks in
               let r : p ≡ q + length (drop q ks) + 1 = omega arith in
-              ap (λ (i : ℕ). getD z' (keys + keys + i) 0) y ∙ s .link-last (λ u. not-none ks q e o (y ∙ u)) ∙ r ∙ sym (next-new (key e) d q (drop q ks) kz zero)
+              ap (λ (i : ℕ). getD z' (keys + keys + i) 0) y ∙ s .link-last (λ u. not-none ks q e o (y ∙ u)) ∙ r
+              ∙ sym (next-new (key e) d q (drop q ks) kz zero)
 
-          between : entry ks q ≡ some e → ¬ (q ≡ last) → getD z' (keys + keys + q) 0 ≡ nextFrom (key e) q (drop q ks ++ (d ∷ []))
+          between : entry ks q ≡ some e → ¬ (q ≡ last)
+              → getD z' (keys + keys + q) 0 ≡ nextFrom (key e) q (drop q ks ++ (d ∷ []))
           between o y =
               let w = entry-within ks q e o in
               let nz = not-none ks q e o in
               s .links-kept q (positive q nz) (omega arith) y ∙ c .links q e o
-              ∙ sym (⊎-elim (λ ke. next-keep (key e) d q (drop q ks) (λ z0. followed q e nz o y (sym ke) (ap (λ (k : ℕ). nextFrom k q (drop q ks)) ke ∙ z0))) (λ ne. next-other (key e) d q (drop q ks) ne) (side (key d) (key e)))
+              ∙ sym (⊎-elim (λ ke. next-keep (key e) d q (drop q ks)
+              (λ z0. followed q e nz o y (sym ke) (ap (λ (k : ℕ). nextFrom k q (drop q ks)) ke ∙ z0)))
+              (λ ne. next-other (key e) d q (drop q ks) ne) (side (key d) (key e)))
 
   pub chains-more : Chains (ks ++ (d ∷ [])) z'
   chains-more = record { heads = head; tails = tail'; links = link }
 
 -- the stores that the code makes
-module _ (ks : List Def) (z : List ℕ) (d : Def) (k last p : ℕ) (c : Chains ks z) (ep : p ≡ length ks + 1) (ek : k ≡ key d) (hk : k < keys) (hp : keys + keys + p < length z) (el : last ≡ getD z (keys + k) 0) where
+module _ (ks : List Def) (z : List ℕ) (d : Def) (k last p : ℕ) (c : Chains ks z) (ep : p ≡ length ks + 1)
+    (ek : k ≡ key d) (hk : k < keys) (hp : keys + keys + p < length z) (el : last ≡ getD z (keys + k) 0) where
   key-below : key d < keys
   key-below = omega arith
 
@@ -260,15 +316,22 @@ module _ (ks : List Def) (z : List ℕ) (d : Def) (k last p : ℕ) (c : Chains k
 
   pub known-first : last ≡ 0 → Chains (ks ++ (d ∷ [])) (set (set (set z (keys + keys + p) 0) k p) (keys + k) p)
   known-first e =
-      let s : Stored z (set (set (set z (keys + keys + p) 0) k p) (keys + k) p) (key d) last p = subst (λ (i : ℕ). Stored z (set (set (set z (keys + keys + p) 0) k p) (keys + k) p) i last p) ek (stored-first z k last p hk hp e) in
+      let s : Stored z (set (set (set z (keys + keys + p) 0) k p) (keys + k) p) (key d) last p =
+      subst (λ (i : ℕ). Stored z (set (set (set z (keys + keys + p) 0) k p) (keys + k) p) i last p) ek
+      (stored-first z k last p hk hp e) in
       chains-more ks z _ d last p c key-below last-is ep s
 
   before : last < p
-  before = let w = tail-before ks (key d) last (subst (Tail ks (key d)) (sym last-is) (c .tails (key d) key-below)) in omega arith
+  before =
+      let w = tail-before ks (key d) last (subst (Tail ks (key d)) (sym last-is) (c .tails (key d) key-below)) in
+      omega arith
 
-  pub known-last : ¬ (last ≡ 0) → Chains (ks ++ (d ∷ [])) (set (set (set z (keys + keys + p) 0) (keys + keys + last) p) (keys + k) p)
+  pub known-last : ¬ (last ≡ 0)
+      → Chains (ks ++ (d ∷ [])) (set (set (set z (keys + keys + p) 0) (keys + keys + last) p) (keys + k) p)
   known-last e =
-      let s : Stored z (set (set (set z (keys + keys + p) 0) (keys + keys + last) p) (keys + k) p) (key d) last p = subst (λ (i : ℕ). Stored z (set (set (set z (keys + keys + p) 0) (keys + keys + last) p) (keys + k) p) i last p) ek (stored-last z k last p hk hp e before) in
+      let s : Stored z (set (set (set z (keys + keys + p) 0) (keys + keys + last) p) (keys + k) p) (key d) last p =
+      subst (λ (i : ℕ). Stored z (set (set (set z (keys + keys + p) 0) (keys + keys + last) p) (keys + k) p) i last p)
+      ek (stored-last z k last p hk hp e before) in
       chains-more ks z _ d last p c key-below last-is ep s
 
   pub known-not : p ≤ last → ⊥

@@ -1,5 +1,5 @@
--- What the code holds of a state: for each definition and each attribute a row of numbers, in text order. A position is counted from 1, and
--- 0 is none.
+-- What the code holds of a state: for each definition and each attribute a row of numbers, in text order. A position is
+-- counted from 1, and 0 is none.
 use mathlib.Core.Path.{_≡_}
 use mathlib.Core.Bool.{Bool, false, _&&_, _||_}
 use mathlib.Core.Option.{Option, none, some}
@@ -32,7 +32,17 @@ row w x p = part x (p * w) w
 abbrev pub definitionWidth : ℕ
 definitionWidth = 10
 
--- where a row has the position of its last attribute
+-- where a row has the place of its record, the position of its base, and those of its own attributes, from the first
+-- to behind the last; before them it has what `Says` lists
+abbrev pub placeColumn : ℕ
+placeColumn = 6
+
+abbrev pub baseColumn : ℕ
+baseColumn = 7
+
+abbrev pub firstColumn : ℕ
+firstColumn = 8
+
 abbrev pub lastColumn : ℕ
 lastColumn = 9
 
@@ -73,9 +83,9 @@ definedAt n low high d = same n (d .name .bytes) && (eqb (homeNumber (d .home)) 
 -- ---- bases
 -- the base stands before; what d has of its bases is what that has
 pub record Based (ks : List Def) (p : ℕ) (d : Def) (r : List ℕ) : Type 0 where
-  pub before : getD r 7 0 < p
-  pub bases : basesOf (entry ks (getD r 7 0)) ≡ d .bases
-  pub inherits : attributesOf (orNoDef (entry ks (getD r 7 0))) ≡ d .inherited
+  pub before : getD r baseColumn 0 < p
+  pub bases : basesOf (entry ks (getD r baseColumn 0)) ≡ d .bases
+  pub inherits : attributesOf (orNoDef (entry ks (getD r baseColumn 0))) ≡ d .inherited
 
 abbrev pub Chained : List Def → List ℕ → Type 0
 Chained ks x = (p : ℕ) (d : Def) → entry ks p ≡ some d → Based ks p d (row definitionWidth x p)

@@ -4,7 +4,9 @@ use Prim.Native.Nat.{ℕ, _<_}
 use Rattle.names.specs.declared.NewDefinition.{NewDefinition}
 
 abbrev pub definitionRow : NewDefinition → List ℕ
-definitionRow d = d .name .offset ∷ d .name .len ∷ d .home ∷ d .number ∷ d .sort ∷ d .flags ∷ d .place ∷ d .base ∷ d .first ∷ d .first ∷ []
+definitionRow d =
+    d .name .offset ∷ d .name .len ∷ d .home ∷ d .number ∷ d .sort ∷ d .flags ∷ d .place
+    ∷ d .base ∷ d .first ∷ d .first ∷ []
 
 -- every number fits its 16 bits
 pub record Narrow (d : NewDefinition) : Type 0 where

@@ -1,4 +1,5 @@
--- A bound fits exactly when its reading does; so two tests, one of each bound, judge 17 of a range whose first bound is not the greater.
+-- A bound fits exactly when its reading does; so two tests, one of each bound, judge 17 of a range whose first
+-- bound is not the greater.
 use mathlib.Core.Path.{_≡_, refl, sym}
 use mathlib.Core.Bool.{Bool, true, false, cond, not, _&&_}
 use Prim.Native.Nat.{ℕ, zero, suc, _-_, _^_}
@@ -35,7 +36,8 @@ above (negsuc a) (negsuc b) = leb·suc-suc b a
 
 -- ---- bounds
 floor : (k : ℕ) (a b : ℤ) → leZ a (shrZ b (10 ^ k)) ≡ leZ (a *ℤ pos (10 ^ k)) b
-floor k a b = alike (λ h. leZ-is .1 (shr→mul (10 ^ k) (ten-pos k) a b (leZ-is .0 h))) (λ h. leZ-is .1 (mul→shr (10 ^ k) (ten-pos k) a b (leZ-is .0 h)))
+floor k a b = alike (λ h. leZ-is .1 (shr→mul (10 ^ k) (ten-pos k) a b (leZ-is .0 h)))
+    (λ h. leZ-is .1 (mul→shr (10 ^ k) (ten-pos k) a b (leZ-is .0 h)))
 
 module _ (d db : ℕ) (v bound : ℤ) where
   pub low-is : lowFits d db v bound ≡ leZ bound (reading d db v)
@@ -46,7 +48,8 @@ module _ (d db : ℕ) (v bound : ℤ) where
       go true = refl
       go false =
           let w = v *ℤ pos (10 ^ (db - d)) in
-          rw (less-is (shrZ (predℤ bound) (10 ^ (db - d))) v, floor (db - d) v (predℤ bound), ← less-is (predℤ bound) w) (above bound w)
+          rw (less-is (shrZ (predℤ bound) (10 ^ (db - d))) v, floor (db - d) v (predℤ bound), ← less-is (predℤ bound) w)
+          (above bound w)
 
   pub high-is : highFits d db v bound ≡ leZ (reading d db v) bound
   high-is = go (ltb db d)
@@ -64,7 +67,8 @@ ends true m n true f g = rw (f refl, g refl)
 ends true m n false f g = fail-r m (fail-r n refl)
 
 pub range-is : (e b : Range) → leZ (e .low) (e .high) ≡ true →
-    rangeFits e b ≡ (lowFits (e .decimals) (b .decimals) (e .low) (b .low) && highFits (e .decimals) (b .decimals) (e .high) (b .high))
+    rangeFits e b ≡ (lowFits (e .decimals) (b .decimals) (e .low) (b .low)
+    && highFits (e .decimals) (b .decimals) (e .high) (b .high))
 range-is e b o =
     let l : ℤ = reading (e .decimals) (b .decimals) (e .low) in
     let h : ℤ = reading (e .decimals) (b .decimals) (e .high) in

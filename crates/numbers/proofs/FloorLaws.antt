@@ -14,7 +14,8 @@ use Rattle.rules.proofs.Tests.{never, not-both}
 use Rattle.numbers.proofs.SignedLaws.{held, Holds, holds, plain}
 
 -- ---- -(a + 1) divided by m, where a + 1 is q * m + r
-div-same : (a m q r : ℕ) → 0 < m → q * m + r ≡ suc a → ltZ (negℤ (pos r)) (pos 0) ≡ false → negℤ (pos q) ≡ negsuc (a / m)
+div-same : (a m q r : ℕ) → 0 < m → q * m + r ≡ suc a → ltZ (negℤ (pos r)) (pos 0) ≡ false
+    → negℤ (pos q) ≡ negsuc (a / m)
 div-same a m zero zero p e t = absurd (omega arith)
 div-same a m (suc k) zero p e t = ap negsuc (sym (div-eq-of-lt-le {k = k} m (omega arith) (omega arith)))
 div-same a m q (suc r) p e t = not-both refl t
@@ -23,7 +24,8 @@ pred-neg : (q : ℕ) → negℤ (pos q) -ℤ pos 1 ≡ negsuc q
 pred-neg zero = refl
 pred-neg (suc k) = -ℤ-one (negsuc k)
 
-div-down : (a m q r : ℕ) → r < m → q * m + r ≡ suc a → ltZ (negℤ (pos r)) (pos 0) ≡ true → negℤ (pos q) -ℤ pos 1 ≡ negsuc (a / m)
+div-down : (a m q r : ℕ) → r < m → q * m + r ≡ suc a → ltZ (negℤ (pos r)) (pos 0) ≡ true
+    → negℤ (pos q) -ℤ pos 1 ≡ negsuc (a / m)
 div-down a m q zero p e t = never t
 div-down a m q (suc r) p e t = pred-neg q ∙ ap negsuc (sym (div-eq-of-lt-le {k = q} m (omega arith) (omega arith)))
 
@@ -57,5 +59,6 @@ module _ (x : ℤ) (m : ℕ) (f : SFits w64 x) (h : (0 < m) × (m < 10 ^ 18)) wh
   pub floor-same : ltZ (held (remZ (held x) (toZ w64 m))) (pos 0) ≡ false → held (quotZ (held x) (toZ w64 m)) ≡ shrZ x m
   floor-same t = quotient .1 ∙ same x m (h .0) (rw remainder at t)
 
-  pub floor-down : ltZ (held (remZ (held x) (toZ w64 m))) (pos 0) ≡ true → Holds (held (quotZ (held x) (toZ w64 m)) -ℤ pos 1) (shrZ x m)
+  pub floor-down : ltZ (held (remZ (held x) (toZ w64 m))) (pos 0) ≡ true
+      → Holds (held (quotZ (held x) (toZ w64 m)) -ℤ pos 1) (shrZ x m)
   floor-down t = holds (rw (quotient .1) (down x m (h .0) (rw remainder at t))) (below (mag-shr x m) f)

@@ -36,7 +36,8 @@ module _ (m : ℕ) (h : 1 < m) where
   shr-small : (a : ℕ) → a < 10 ^ 18 * m → a / m < 10 ^ 18
   shr-small a k = div-lt-iff-lt-mul {k = m} (omega arith) .1 k
 
-  sub-small : (a : ℕ) → suc a < 10 ^ 18 → (t : Bool) → natAbs (shrZ (cond t (negsuc (suc a - suc (m / 2))) (pos (m / 2 - suc a))) m) < 10 ^ 18
+  sub-small : (a : ℕ) → suc a < 10 ^ 18 → (t : Bool)
+      → natAbs (shrZ (cond t (negsuc (suc a - suc (m / 2))) (pos (m / 2 - suc a))) m) < 10 ^ 18
   sub-small a k true = omega (arith, div-le-self (suc a - suc (m / 2)) m)
   sub-small a k false = shr-small _ (omega arith)
 
@@ -65,7 +66,9 @@ module _ (v : ℤ) (d db : ℕ) where
     in-scope = rw (le-ltb 17 d (h .0), le-ltb 17 db (h .1), lt-leb (10 ^ 18) (natAbs v) (h .2))
 
     read : {w : ℤ} → reading d db v ≡ w → natAbs w < 10 ^ 18 → Promised v d db (Value w)
-    read {w} e k = let q = lt-leb (10 ^ 18) (natAbs w) k in record { number = rw (in-scope, e, q); value = rw (in-scope, e, q) }
+    read {w} e k =
+        let q = lt-leb (10 ^ 18) (natAbs w) k in
+        record { number = rw (in-scope, e, q); value = rw (in-scope, e, q) }
 
     pub rounds : db < d → {p : ℕ} {w : ℤ} → p ≡ 10 ^ (d - db) → w ≡ rounded v p → Promised v d db (Value w)
     rounds l e q =
@@ -78,5 +81,6 @@ module _ (v : ℤ) (d db : ℕ) where
 
       pub too-great : 10 ^ 18 ≤ natAbs v * p → Promised v d db TooGreat
       too-great k =
-          let q : tooGreat (reading d db v) ≡ true = rw (le-ltb db d l, ← e) (le-leb (10 ^ 18) (natAbs (v *ℤ pos p)) (omega (arith, abs-mul v p))) in
+          let q : tooGreat (reading d db v)
+          ≡ true = rw (le-ltb db d l, ← e) (le-leb (10 ^ 18) (natAbs (v *ℤ pos p)) (omega (arith, abs-mul v p))) in
           record { number = rw (in-scope, q); value = rw (in-scope, q) }

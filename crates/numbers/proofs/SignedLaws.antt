@@ -72,7 +72,8 @@ module _ (v : ℤ) (f : SFits w64 v) (p : ltZ (held v) (pos 0) ≡ true) where
   below-zero : ltZ v (pos 0) ≡ true
   below-zero = rw (toZ-ofZ f) at p
 
-  next : (v : ℤ) → ltZ v (pos 0) ≡ true → SFits w64 v → SFits w64 (sucℤ v) × (negℤ (sucℤ v) ≡ pos (mag v)) × (natAbs v ≡ mag v + 1)
+  next : (v : ℤ) → ltZ v (pos 0) ≡ true → SFits w64 v
+      → SFits w64 (sucℤ v) × (negℤ (sucℤ v) ≡ pos (mag v)) × (natAbs v ≡ mag v + 1)
   next (pos a) t g = absurd (omega (arith, ltb-true a 0 t))
   next (negsuc zero) t g = (record { sfits = omega arith }, refl, omega arith)
   next (negsuc (suc a)) t g = (record { sfits = omega (arith, g .sfits) }, refl, omega arith)

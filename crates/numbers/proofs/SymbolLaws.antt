@@ -11,8 +11,10 @@ use lib.ListN.{length, take, drop, getD, length-take, List·getD-eq-default}
 use lib.Seq.{drop-cons}
 use lib.Dec.{leb, ltb}
 use Rattle.rules.specs.Bytes.{is, isLetter, isDigit, isWordByte, isOneOf, span}
-use Rattle.rules.specs.Symbols.{Kind, Symbol, Quote, Gap, number, symbol, tag, closed, bad, endless, upTo, open-at, gap, apart, quote}
-use Rattle.rules.specs.Symbols.{digitCount, unsignedLength, wordKind, numberKind, aString, isMarkByte, symbolOf, beyond, symbolAt}
+use Rattle.rules.specs.Symbols.{Kind, Symbol, Quote, Gap, number, symbol, tag, closed, bad, endless, upTo, open-at, gap}
+use Rattle.rules.specs.Symbols.{apart, quote}
+use Rattle.rules.specs.Symbols.{digitCount, unsignedLength, wordKind, numberKind, aString, isMarkByte, symbolOf, beyond}
+use Rattle.rules.specs.Symbols.{symbolAt}
 use Rattle.rules.specs.Reserved.{forms, table}
 use Rattle.rules.specs.Numbers.{decimalsOf}
 use Rattle.rules.proofs.Tests.{never, split, or-split}
@@ -27,8 +29,9 @@ module _ (j b : ℕ) (s : List ℕ) where
   abbrev run : Bool → ℕ
   run t = cond t (suc (span isDigit s)) zero
 
-  decimals-by : (t : Bool) → isDigit b ≡ t → decimalsOf (take (span isDigit s + j) s) ≡ decimalsOf (take j (drop (span isDigit s) s)) →
-      decimalsOf (take (run t + j) (b ∷ s)) ≡ decimalsOf (take j (drop (run t) (b ∷ s)))
+  decimals-by : (t : Bool) → isDigit b ≡ t
+      → decimalsOf (take (span isDigit s + j) s) ≡ decimalsOf (take j (drop (span isDigit s) s))
+      → decimalsOf (take (run t + j) (b ∷ s)) ≡ decimalsOf (take j (drop (run t) (b ∷ s)))
   decimals-by true p r = rw (suc-add, digit-no-dot b p) r
   decimals-by false p r = rw zero-add
 
@@ -38,11 +41,13 @@ module _ (j b : ℕ) (s : List ℕ) where
   digits-by true p r = rw (suc-add, suc-add, p) (ap suc r)
   digits-by false p r = rw (zero-add, zero-add)
 
-past-decimals : (j : ℕ) (s : List ℕ) → decimalsOf (take (span isDigit s + j) s) ≡ decimalsOf (take j (drop (span isDigit s) s))
+past-decimals : (j : ℕ) (s : List ℕ)
+    → decimalsOf (take (span isDigit s + j) s) ≡ decimalsOf (take j (drop (span isDigit s) s))
 past-decimals j [] = rw zero-add
 past-decimals j (b ∷ s) = decimals-by j b s (isDigit b) refl (past-decimals j s)
 
-past-digits : (j : ℕ) (s : List ℕ) → digitCount (take (span isDigit s + j) s) ≡ span isDigit s + digitCount (take j (drop (span isDigit s) s))
+past-digits : (j : ℕ) (s : List ℕ)
+    → digitCount (take (span isDigit s + j) s) ≡ span isDigit s + digitCount (take j (drop (span isDigit s) s))
 past-digits j [] = rw (zero-add, zero-add)
 past-digits j (b ∷ s) = digits-by j b s (isDigit b) refl (past-digits j s)
 
@@ -59,7 +64,8 @@ module _ (s : List ℕ) where
   back = span isDigit (drop (suc front) s)
 
   dot-inside : is "." (getD s front 0) ≡ true → front < length s
-  dot-inside p = lt-of-not-le (λ h. omega (arith, eqb-true (getD s front 0) 46 p, List·getD-eq-default s 0 {n = front} h))
+  dot-inside p =
+      lt-of-not-le (λ h. omega (arith, eqb-true (getD s front 0) 46 p, List·getD-eq-default s 0 {n = front} h))
 
   few-by : 0 < front → (t : Bool) → (t ≡ true → is "." (getD s front 0) ≡ true) →
       decimalsOf (take (cond t (suc (front + back)) front) s) < digitCount (take (cond t (suc (front + back)) front) s)
@@ -68,12 +74,23 @@ module _ (s : List ℕ) where
       let b = getD s front 0 in
       let u = drop (suc front) s in
       let e = drop-cons s front 0 (dot-inside (p refl)) in
-      let l : take (suc (front + back)) s ≡ take (front + suc back) s = ap (λ (n : ℕ). take n s) (sym (add-suc front back)) in
+      let l : take (suc (front + back)) s
+      ≡ take (front + suc back) s = ap (λ (n : ℕ). take n s) (sym (add-suc front back)) in
       let d : decimalsOf (take (front + suc back) s) ≡ length (take back u) = rw (past-decimals, e, p refl) in
       let c : digitCount (take (front + suc back) s) ≡ front + digitCount (b ∷ take back u) = rw (past-digits, e) in
-      omega (arith, ap decimalsOf l, ap digitCount l, d, c, count-more b (take back u), length-take back u, rw add-zero at (past-digits 0 u))
+      omega (
+        arith,
+        ap decimalsOf l,
+        ap digitCount l,
+        d,
+        c,
+        count-more b (take back u),
+        length-take back u,
+        rw add-zero at (past-digits 0 u),
+      )
 
-few : (b : ℕ) (s : List ℕ) → isDigit b ≡ true → decimalsOf (take (unsignedLength (b ∷ s)) (b ∷ s)) < digitCount (take (unsignedLength (b ∷ s)) (b ∷ s))
+few : (b : ℕ) (s : List ℕ) → isDigit b ≡ true
+    → decimalsOf (take (unsignedLength (b ∷ s)) (b ∷ s)) < digitCount (take (unsignedLength (b ∷ s)) (b ∷ s))
 few b s p =
     let dot = is "." (getD (b ∷ s) (front (b ∷ s)) 0) in
     let digit = isDigit (getD (b ∷ s) (suc (front (b ∷ s))) 0) in
@@ -86,7 +103,8 @@ few-signed b [] p = never (split {x = is "+" b || is "-" b} p .1)
 few-signed b (d ∷ s) p =
     let r = split {x = is "+" b || is "-" b} p in
     let e : is "." b ≡ false =
-    ne-eqb b 46 (⊎-elim (λ q e. omega (arith, eqb-true b 43 q)) (λ q e. omega (arith, eqb-true b 45 q)) (or-split {x = is "+" b} (r .0))) in
+    ne-eqb b 46 (⊎-elim (λ q e. omega (arith, eqb-true b 43 q)) (λ q e. omega (arith, eqb-true b 45 q))
+    (or-split {x = is "+" b} (r .0))) in
     rw e (omega (arith, few d s (r .1), count-more b (take (unsignedLength (d ∷ s)) (d ∷ s))))
 
 -- ---- number symbols
@@ -110,7 +128,10 @@ word-tag b =
 counted : {p : ℕ} (b : List ℕ) → decimalsOf b < digitCount b → SizedNumber (symbol (numberKind b) p b)
 counted {p} b h =
     either (λ k. SizedNumber (symbol k p b)) (ltb 18 (digitCount b)) (λ _. other (λ q. omega arith))
-    (λ e. record { sized = λ _. record { digits = ltb-false 18 (digitCount b) e; decimals = omega (arith, ltb-false 18 (digitCount b) e) } })
+    (λ e. record {
+      sized = λ _.
+          record { digits = ltb-false 18 (digitCount b) e; decimals = omega (arith, ltb-false 18 (digitCount b) e) };
+    })
 
 string-sized : (k : ℕ) (s : List ℕ) (q : Quote) → SizedNumber (aString k s q)
 string-sized k s (closed n) = other (λ q. omega arith)
@@ -126,7 +147,8 @@ symbol-sized k (b ∷ s) =
     (λ _. either SizedNumber ((is "+" b || is "-" b) && isDigit (getD s 0 0)) (λ e. counted _ (few-signed b s e))
     (λ _. either SizedNumber (is "\"" b) (λ _. string-sized k (b ∷ s) (quote s 0 0))
     (λ _. either SizedNumber (isMarkByte b) (λ _. other (λ q. omega arith))
-    (λ _. either SizedNumber (is "." b) (λ _. either SizedNumber (is "." (getD s 0 0)) (λ _. other (λ q. omega arith)) (λ _. other (λ q. omega arith)))
+    (λ _. either SizedNumber (is "." b)
+    (λ _. either SizedNumber (is "." (getD s 0 0)) (λ _. other (λ q. omega arith)) (λ _. other (λ q. omega arith)))
     (λ _. other (λ q. omega arith)))))))
 
 beyond-sized : (t : List ℕ) (g : Gap) → SizedNumber (beyond t g)

@@ -29,8 +29,9 @@ pub record Room (s : List ℕ) (n : ℕ) : Type 0 where
   pub few : digitCount s ≤ 18
   pub small : n < 10 ^ (18 - digitCount s)
 
-room-by : (t : Bool) (b : ℕ) (s : List ℕ) (n : ℕ) → (t ≡ true → b ≤ 57) → cond t (suc (digitCount s)) (digitCount s) ≤ 18 →
-    n < 10 ^ (18 - cond t (suc (digitCount s)) (digitCount s)) → Room s (cond t (n * 10 + (b - 48)) n)
+room-by : (t : Bool) (b : ℕ) (s : List ℕ) (n : ℕ) → (t ≡ true → b ≤ 57)
+    → cond t (suc (digitCount s)) (digitCount s) ≤ 18
+    → n < 10 ^ (18 - cond t (suc (digitCount s)) (digitCount s)) → Room s (cond t (n * 10 + (b - 48)) n)
 room-by false b s n d f h = record { few = f; small = h }
 room-by true b s n d f h =
     let e : 18 - digitCount s ≡ 18 - suc (digitCount s) + 1 = omega arith in
@@ -56,7 +57,8 @@ written-small s h = digits-small s 0 (room-first s h)
 abbrev pub decimalsFrom : ℕ → List ℕ → ℕ
 decimalsFrom d s = cond (eqb d 0) (decimalsOf s) d
 
-from-by : (t u : Bool) (d : ℕ) (s : List ℕ) → eqb d 0 ≡ t → cond t (cond u (length s) (decimalsOf s)) d ≡ decimalsFrom (cond (t && u) (length s) d) s
+from-by : (t u : Bool) (d : ℕ) (s : List ℕ) → eqb d 0 ≡ t
+    → cond t (cond u (length s) (decimalsOf s)) d ≡ decimalsFrom (cond (t && u) (length s) d) s
 from-by false u d s e = rw e
 from-by true false d s e = rw e
 from-by true true d [] e = refl
@@ -78,11 +80,16 @@ pub scanned-small : {s t : List ℕ} {n d : ℕ} → Scanned s t n d → n < 10 
 scanned-small x = room-small _ _ (x .room)
 
 scanned-one : (s t : List ℕ) (b n d : ℕ) → Scanned s (b ∷ t) n d → Scanned s t (withDigit n b) (withDot d b (length t))
-scanned-one s t b n d x = record { room = room-next b t n (x .room); value = x .value; decimals = x .decimals ∙ from-next b d t }
+scanned-one s t b n d x = record {
+  room = room-next b t n (x .room);
+  value = x .value;
+  decimals = x .decimals ∙ from-next b d t;
+}
 
 pub scanned-next : (s : List ℕ) (i n d : ℕ) {n′ d′ : ℕ} → i < length s → Scanned s (drop i s) n d →
     n′ ≡ withDigit n (getD s i 0) → d′ ≡ withDot d (getD s i 0) (length s - (i + 1)) → Scanned s (drop (i + 1) s) n′ d′
-scanned-next s i n d h x p q = rw (p, q, add-one, ← length-drop (suc i) s) (scanned-one s (drop (suc i) s) (getD s i 0) n d (rw (drop-cons s i 0 h) at x))
+scanned-next s i n d h x p q = rw (p, q, add-one, ← length-drop (suc i) s)
+    (scanned-one s (drop (suc i) s) (getD s i 0) n d (rw (drop-cons s i 0 h) at x))
 
 last-decimals : (d : ℕ) → decimalsFrom d [] ≡ d
 last-decimals zero = refl
@@ -99,5 +106,6 @@ by-sign false n = refl
 pub value-small : (s : List ℕ) → digitCount s ≤ 18 → natAbs (valueOf s) < 10 ^ 18
 value-small s h = rw (by-sign (is "-" (getD s 0 0)) (digits s 0)) (written-small s h)
 
-pub value-is : (s : List ℕ) {t : Bool} {n : ℕ} → t ≡ is "-" (getD s 0 0) → n ≡ digits s 0 → cond t (negℤ (pos n)) (pos n) ≡ valueOf s
+pub value-is : (s : List ℕ) {t : Bool} {n : ℕ} → t ≡ is "-" (getD s 0 0) → n ≡ digits s 0
+    → cond t (negℤ (pos n)) (pos n) ≡ valueOf s
 value-is s p e = rw (p, e)

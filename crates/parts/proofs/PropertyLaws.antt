@@ -26,7 +26,8 @@ use Rattle.symbols.specs.Cut.{made}
 use Rattle.readers.specs.Reads.{faultAt, Stands, Cuts, Held, passed, Gives, Reads}
 use Rattle.readers.proofs.CodeLaws.{Test, is-mark, is-word, is-one-word}
 use Rattle.readers.proofs.StandLaws.{fault-stands, stands-lies}
-use Rattle.readers.proofs.ReadLaws.{gives-map, gives-weaker, bind, stay, held, if-true, if-false, expected, taken, is-yes, is-no}
+use Rattle.readers.proofs.ReadLaws.{gives-map, gives-weaker, bind, stay, held, if-true, if-false, expected, taken}
+use Rattle.readers.proofs.ReadLaws.{is-yes, is-no}
 use Rattle.parts.specs.declared.Properties.{Properties}
 use Rattle.parts.specs.Forms.{wordsOf, otherOf, flagsOf, withWord}
 
@@ -59,43 +60,55 @@ module _ (p : List (List ℕ)) where
     extended = same (ascii "EXTENDED") w || isOneOf (ascii "EXTENDED") p;
     twice = hasTwice p || isOneOf w p;
   }
-  more w = rw (one-more (ascii "ABSTRACT") p w, one-more (ascii "FINAL") p w, one-more (ascii "EXTENDED") p w, twice-more p w)
+  more w = rw
+      (one-more (ascii "ABSTRACT") p w, one-more (ascii "FINAL") p w, one-more (ascii "EXTENDED") p w, twice-more p w)
 
   with-final : withWord (flagsOf p) 72 ≡ flagsOf (p ++ (ascii "FINAL" ∷ []))
   with-final = sym (more (ascii "FINAL"))
 
-  with-other : (b : Bool) → withWord (flagsOf p) (otherOf b) ≡ flagsOf (p ++ (cond b (ascii "EXTENDED") (ascii "ABSTRACT") ∷ []))
+  with-other : (b : Bool) → withWord (flagsOf p) (otherOf b)
+      ≡ flagsOf (p ++ (cond b (ascii "EXTENDED") (ascii "ABSTRACT") ∷ []))
   with-other true = sym (more (ascii "EXTENDED"))
   with-other false = sym (more (ascii "ABSTRACT"))
 
 -- ---- a symbol that is a property
-pub word-bytes : {t : List ℕ} {y : Symbol} (w : List ℕ) (k : ℕ) → 64 + position w forms ≡ k → y .code ≡ k → (z : rules.Symbol) → Cuts t z y → z .bytes ≡ w
-word-bytes w k e f z c = let q : (isKind word z ≡ true) × (same (z .bytes) w ≡ true) = split (is-yes (is-word w k e) f z c) in same-eq (z .bytes) w (q .1)
+pub word-bytes : {t : List ℕ} {y : Symbol} (w : List ℕ) (k : ℕ) → 64 + position w forms ≡ k → y .code ≡ k
+    → (z : rules.Symbol) → Cuts t z y → z .bytes ≡ w
+word-bytes w k e f z c =
+    let q : (isKind word z ≡ true) × (same (z .bytes) w ≡ true) = split (is-yes (is-word w k e) f z c) in
+    same-eq (z .bytes) w (q .1)
 
 module _ {t : List ℕ} {y : Symbol} (b : Bool) where
-  property-test : (x : Bool) → x ≡ (eqb (y .code) (otherOf b) || eqb (y .code) 72) → (z : rules.Symbol) → Cuts t z y → isOneWord (wordsOf b) z ≡ x
+  property-test : (x : Bool) → x ≡ (eqb (y .code) (otherOf b) || eqb (y .code) 72) → (z : rules.Symbol)
+      → Cuts t z y → isOneWord (wordsOf b) z ≡ x
   property-test x e z c = go b e
     where
       go : (b : Bool) → x ≡ (eqb (y .code) (otherOf b) || eqb (y .code) 72) → isOneWord (wordsOf b) z ≡ x
-      go true f = is-one-word (ascii "EXTENDED") (ascii "FINAL") 76 72 refl refl z (c .stands .coded) ∙ sym (f ∙ rw (c .cuts))
-      go false f = is-one-word (ascii "ABSTRACT") (ascii "FINAL") 71 72 refl refl z (c .stands .coded) ∙ sym (f ∙ rw (c .cuts))
+      go true f =
+          is-one-word (ascii "EXTENDED") (ascii "FINAL") 76 72 refl refl z (c .stands .coded) ∙ sym (f ∙ rw (c .cuts))
+      go false f =
+          is-one-word (ascii "ABSTRACT") (ascii "FINAL") 71 72 refl refl z (c .stands .coded) ∙ sym (f ∙ rw (c .cuts))
 
-  other-word : (z : rules.Symbol) → Cuts t z y → y .code ≡ otherOf b → z .bytes ≡ cond b (ascii "EXTENDED") (ascii "ABSTRACT")
+  other-word : (z : rules.Symbol) → Cuts t z y → y .code ≡ otherOf b
+      → z .bytes ≡ cond b (ascii "EXTENDED") (ascii "ABSTRACT")
   other-word z c e = go b e
     where
       go : (b : Bool) → y .code ≡ otherOf b → z .bytes ≡ cond b (ascii "EXTENDED") (ascii "ABSTRACT")
       go true f = word-bytes (ascii "EXTENDED") 76 refl f z c
       go false f = word-bytes (ascii "ABSTRACT") 71 refl f z c
 
-  with-property : (p : List (List ℕ)) (z : rules.Symbol) → Cuts t z y → (eqb (y .code) (otherOf b) || eqb (y .code) 72) ≡ true →
-      withWord (flagsOf p) (y .code) ≡ flagsOf (p ++ (z .bytes ∷ []))
+  with-property : (p : List (List ℕ)) (z : rules.Symbol) → Cuts t z y
+      → (eqb (y .code) (otherOf b) || eqb (y .code) 72) ≡ true
+      → withWord (flagsOf p) (y .code) ≡ flagsOf (p ++ (z .bytes ∷ []))
   with-property p z c e =
       ⊎-elim (λ h. let f = eqb-true (y .code) (otherOf b) h in rw (f, other-word z c f) (with-other p b))
-      (λ h. let f = eqb-true (y .code) 72 h in rw (f, word-bytes (ascii "FINAL") 72 refl f z c) (with-final p)) (or-split e)
+      (λ h. let f = eqb-true (y .code) 72 h in rw (f, word-bytes (ascii "FINAL") 72 refl f z c) (with-final p))
+      (or-split e)
 
 not-fault : (y : Symbol) (b : Bool) → (eqb (y .code) (otherOf b) || eqb (y .code) 72) ≡ true → y .code ≡ 5 → ⊥
 not-fault y b e f =
-    ⊎-elim (λ h. let g = eqb-true (y .code) (otherOf b) h in go b g) (λ h. let g = eqb-true (y .code) 72 h in omega arith) (or-split e)
+    ⊎-elim (λ h. let g = eqb-true (y .code) (otherOf b) h in go b g)
+    (λ h. let g = eqb-true (y .code) 72 h in omega arith) (or-split e)
   where
     go : (b : Bool) → y .code ≡ otherOf b → ⊥
     go true g = omega arith
@@ -107,9 +120,12 @@ comma = is-mark "," (omega arith) (omega arith)
 
 module _ (t : List ℕ) (l : List (List ℕ)) where
   after : rules.Symbol → Reader (List (List ℕ))
-  after p = ifNext (isMark ",") (theMark "," >> propertiesFrom (enough t) l) (theMark ")" >> ret []) >>= λ r. ret (p .bytes ∷ r)
+  after p =
+      ifNext (isMark ",") (theMark "," >> propertiesFrom (enough t) l) (theMark ")" >> ret [])
+      >>= λ r. ret (p .bytes ∷ r)
 
-  list-step : (z : rules.Symbol) → Stands t z → propertiesFrom (enough t) l t z ≡ andThen t (expect (isOneWord l) t z) after
+  list-step : (z : rules.Symbol) → Stands t z
+      → propertiesFrom (enough t) l t z ≡ andThen t (expect (isOneWord l) t z) after
   unfolding propertiesFrom after
   list-step z s = properties-fuel t z (stands-lies s) l (enough t) (suc (enough t)) (omega arith) (omega arith)
 
@@ -123,17 +139,20 @@ pub record Seen (t : List ℕ) (b : Bool) (w₀ : rules.Symbol) (have : Properti
   pub cut-from : Cuts t symbol z
   pub words : List (List ℕ)
   pub flags : have ≡ flagsOf words
-  pub goes-on : (v : Properties) (n : Symbol) → Gives t (propertiesFrom (enough t) (wordsOf b) t symbol) (λ p. v ≡ flagsOf (words ++ p)) n →
-      Gives t (propertiesFrom (enough t) (wordsOf b) t w₀) (λ p. v ≡ flagsOf p) n
+  pub goes-on : (v : Properties) (n : Symbol)
+      → Gives t (propertiesFrom (enough t) (wordsOf b) t symbol) (λ p. v ≡ flagsOf (words ++ p)) n
+      → Gives t (propertiesFrom (enough t) (wordsOf b) t w₀) (λ p. v ≡ flagsOf p) n
 
 module _ {t : List ℕ} {b : Bool} {w₀ : rules.Symbol} {have : Properties} {z : Symbol} (s : Seen t b w₀ have z) where
   w : rules.Symbol
   w = s .symbol
 
-  module _ {more : Properties} {m : Symbol} (h : (eqb (z .code) (otherOf b) || eqb (z .code) 72) ≡ true) (g : more ≡ withWord have (z .code)) (e : m ≡ passed t z (z .code)) where
+  module _ {more : Properties} {m : Symbol} (h : (eqb (z .code) (otherOf b) || eqb (z .code) 72) ≡ true)
+      (g : more ≡ withWord have (z .code)) (e : m ≡ passed t z (z .code)) where
     flags-more : more ≡ flagsOf (s .words ++ (w .bytes ∷ []))
     unfolding w
-    flags-more = g ∙ ap (λ (x : Properties). withWord x (z .code)) (s .flags) ∙ with-property b (s .words) w (s .cut-from) h
+    flags-more =
+        g ∙ ap (λ (x : Properties). withWord x (z .code)) (s .flags) ∙ with-property b (s .words) w (s .cut-from) h
 
     yes : isOneWord (wordsOf b) w ≡ true
     unfolding w
@@ -149,32 +168,43 @@ module _ {t : List ℕ} {b : Bool} {w₀ : rules.Symbol} {have : Properties} {z 
         let v = symbolAt t (endOf w) in
         let is = is-yes comma k v follows in
         let u = symbolAt t (endOf v) in
-        let step : propertiesFrom (enough t) (wordsOf b) t w ≡ andThen t (propertiesFrom (enough t) (wordsOf b) t u) (λ r. ret (w .bytes ∷ r)) =
+        let step : propertiesFrom (enough t) (wordsOf b) t w
+        ≡ andThen t (propertiesFrom (enough t) (wordsOf b) t u) (λ r. ret (w .bytes ∷ r)) =
         list-step t (wordsOf b) w (s .cut-from .stands) ∙ rw (yes, is) in
         record {
           symbol = u;
           cut-from = rw is at (expected comma e₂ .reads v follows .next);
           words = s .words ++ (w .bytes ∷ []);
           flags = flags-more;
-          goes-on = λ x n q. s .goes-on x n (rw step (gives-map (propertiesFrom (enough t) (wordsOf b) t u) (λ r. w .bytes ∷ r)
+          goes-on = λ x n q.
+              s .goes-on x n (rw step (gives-map (propertiesFrom (enough t) (wordsOf b) t u) (λ r. w .bytes ∷ r)
               (gives-weaker q (λ p r. r ∙ ap flagsOf (append-assoc (s .words) (w .bytes ∷ []) p)))));
         }
 
-    seen-end : {n : Symbol} → (m .code ≡ 44 → ⊥) → n ≡ passed t m 41 → Gives t (propertiesFrom (enough t) (wordsOf b) t w₀) (λ p. more ≡ flagsOf p) n
+    seen-end : {n : Symbol} → (m .code ≡ 44 → ⊥) → n ≡ passed t m 41
+        → Gives t (propertiesFrom (enough t) (wordsOf b) t w₀) (λ p. more ≡ flagsOf p) n
     unfolding w after
     seen-end {n} k e₂ =
         let v = symbolAt t (endOf w) in
         let close = expected (is-mark ")" (omega arith) (omega arith)) e₂ .reads v follows in
         s .goes-on more n (rw (list-step t (wordsOf b) w (s .cut-from .stands), yes, is-no comma k v follows)
-        (gives-map (andThen t (theMark ")" t v) (λ _. ret [])) (λ r. w .bytes ∷ r) (gives-map (theMark ")" t v) (λ _. []) (gives-weaker close (λ _ _. flags-more)))))
+        (gives-map (andThen t (theMark ")" t v) (λ _. ret [])) (λ r. w .bytes ∷ r)
+        (gives-map (theMark ")" t v) (λ _. []) (gives-weaker close (λ _ _. flags-more)))))
 
-  seen-fault : {n : Symbol} → (eqb (z .code) (otherOf b) || eqb (z .code) 72) ≡ false → n ≡ made 5 (z .refusal) (z .place) 0 →
-      Gives t (propertiesFrom (enough t) (wordsOf b) t w₀) (λ p. have ≡ flagsOf p) n
+  seen-fault : {n : Symbol} → (eqb (z .code) (otherOf b) || eqb (z .code) 72) ≡ false
+      → n ≡ made 5 (z .refusal) (z .place) 0
+      → Gives t (propertiesFrom (enough t) (wordsOf b) t w₀) (λ p. have ≡ flagsOf p) n
   unfolding w after
   seen-fault {n} h e =
       let c = s .cut-from in
       s .goes-on have n (rw (list-step t (wordsOf b) w (c .stands), property-test b false (sym h) w c)
-      (record { next = record { cuts = e ∙ ap (λ (x : Symbol). made 5 (x .refusal) (x .place) 0) (c .cuts); stands = fault-stands t _ _ (let l = c .stands .ends in omega arith) }; value = tt }))
+      (record {
+        next = record {
+          cuts = e ∙ ap (λ (x : Symbol). made 5 (x .refusal) (x .place) 0) (c .cuts);
+          stands = fault-stands t _ _ (let l = c .stands .ends in omega arith);
+        };
+        value = tt;
+      }))
 
 -- ---- as the loop meets them
 -- z₀ and have₀ are the first symbol and the flags before it
@@ -185,34 +215,49 @@ pub loop-first : (t : List ℕ) (b : Bool) (have : Properties) (z : Symbol) → 
 loop-first t b have z h = (h, λ w c e. record { symbol = w; cut-from = c; words = []; flags = e; goes-on = λ v n g. g })
 
 module _ (t : List ℕ) (b : Bool) (have₀ : Properties) (z₀ : Symbol) where
-  reads-list : {more : Properties} {n : Symbol} → ((w : rules.Symbol) → Cuts t w z₀ → Gives t (propertiesFrom (enough t) (wordsOf b) t w) (λ p. more ≡ flagsOf p) n) →
-      Reads t (propertiesFrom (enough t) (wordsOf b)) (λ p. more ≡ flagsOf p) z₀ n
-  reads-list g = record { reads = g; passes = λ f p c. rw (fault-list t (wordsOf b) f p (c .stands)) at (g (faultAt f p) c .next) }
+  reads-list : {more : Properties} {n : Symbol} → ((w : rules.Symbol) → Cuts t w z₀
+      → Gives t (propertiesFrom (enough t) (wordsOf b) t w) (λ p. more ≡ flagsOf p) n)
+      → Reads t (propertiesFrom (enough t) (wordsOf b)) (λ p. more ≡ flagsOf p) z₀ n
+  reads-list g = record {
+    reads = g;
+    passes = λ f p c. rw (fault-list t (wordsOf b) f p (c .stands)) at (g (faultAt f p) c .next);
+  }
 
   module _ (have : Properties) (z : Symbol) (v : Loop t b have₀ z₀ have z) (e₀ : have₀ ≡ flagsOf []) where
-    pub list-fault : {n : Symbol} → (eqb (z .code) (otherOf b) || eqb (z .code) 72) ≡ false → n ≡ made 5 (z .refusal) (z .place) 0 →
-        Reads t (propertiesFrom (enough t) (wordsOf b)) (λ p. have ≡ flagsOf p) z₀ n
+    pub list-fault : {n : Symbol} → (eqb (z .code) (otherOf b) || eqb (z .code) 72) ≡ false
+        → n ≡ made 5 (z .refusal) (z .place) 0
+        → Reads t (propertiesFrom (enough t) (wordsOf b)) (λ p. have ≡ flagsOf p) z₀ n
     list-fault h e = reads-list (λ w c. seen-fault (v .1 w c e₀) h e)
 
-    pub list-end : {more : Properties} {m n : Symbol} → (eqb (z .code) (otherOf b) || eqb (z .code) 72) ≡ true → more ≡ withWord have (z .code) →
-        m ≡ passed t z (z .code) → (m .code ≡ 44 → ⊥) → n ≡ passed t m 41 → Reads t (propertiesFrom (enough t) (wordsOf b)) (λ p. more ≡ flagsOf p) z₀ n
+    pub list-end : {more : Properties} {m n : Symbol} → (eqb (z .code) (otherOf b) || eqb (z .code) 72) ≡ true
+        → more ≡ withWord have (z .code)
+        → m ≡ passed t z (z .code) → (m .code ≡ 44 → ⊥) → n ≡ passed t m 41
+        → Reads t (propertiesFrom (enough t) (wordsOf b)) (λ p. more ≡ flagsOf p) z₀ n
     list-end h g e k f = reads-list (λ w c. seen-end (v .1 w c e₀) h g e k f)
 
-  module _ (have more : Properties) (z m z′ : Symbol) (v : Loop t b have₀ z₀ have z) (h : (eqb (z .code) (otherOf b) || eqb (z .code) 72) ≡ true)
+  module _ (have more : Properties) (z m z′ : Symbol) (v : Loop t b have₀ z₀ have z)
+      (h : (eqb (z .code) (otherOf b) || eqb (z .code) 72) ≡ true)
       (e : m ≡ passed t z (z .code)) (k : m .code ≡ 44) (f : z′ ≡ passed t m 44) where
     pub loop-on : more ≡ withWord have (z .code) → Loop t b have₀ z₀ more z′
-    loop-on g = (held (expected comma f) (held (taken {p = isOneWord (wordsOf b)} (property-test b true (sym h)) (not-fault z b h) e) (v .0)), λ w c e₀. seen-more (v .1 w c e₀) h g e k f)
+    loop-on g = (
+      held (expected comma f)
+          (held (taken {p = isOneWord (wordsOf b)} (property-test b true (sym h)) (not-fault z b h) e) (v .0)),
+      λ w c e₀. seen-more (v .1 w c e₀) h g e k f,
+    )
 
     pub loop-falls : length t - z′ .place < length t - z .place
     loop-falls = go (v .0)
       where
         go : Held t z → length t - z′ .place < length t - z .place
         go (w, c) =
-            let at : Lies (w .place) (length t) w = record { starts = omega arith; ends = c .stands .ends; solid = c .stands .solid } in
+            let at : Lies (w .place) (length t) w =
+            record { starts = omega arith; ends = c .stands .ends; solid = c .stands .solid } in
             let yes = property-test b true (sym h) w c in
             let u = symbolAt t (endOf w) in
-            let first : Lies (suc (w .place)) (length t) u = rw yes at (one-word {b = true} (wordsOf b) .reads t (w .place) w at) in
-            let q : Cuts t u m = rw yes at (taken (property-test b true (sym h)) (not-fault z b h) e .reads w c .next) in
+            let first : Lies (suc (w .place)) (length t) u =
+            rw yes at (one-word {b = true} (wordsOf b) .reads t (w .place) w at) in
+            let q : Cuts t u m =
+            rw yes at (taken (property-test b true (sym h)) (not-fault z b h) e .reads w c .next) in
             let second = next-lies t (endOf u) (first .ends) in
             let i : z .place ≡ w .place = ap (λ (x : Symbol). x .place) (c .cuts) in
             let j : z′ .place ≡ symbolAt t (endOf u) .place = rw (f, q .cuts, eq-eqb _ 44 (rw (q .cuts) at k)) in
@@ -221,12 +266,15 @@ module _ (t : List ℕ) (b : Bool) (have₀ : Properties) (z₀ : Symbol) where
 -- ---- the whole list
 module _ {t : List ℕ} (b : Bool) {y : Symbol} where
   pub list-there : {z n : Symbol} {v : Properties} → y .code ≡ 40 → z ≡ passed t y 40 →
-      Reads t (propertiesFrom (enough t) (wordsOf b)) (λ p. v ≡ flagsOf p) z n → Reads t (properties (wordsOf b)) (λ p. v ≡ flagsOf p) y n
+      Reads t (propertiesFrom (enough t) (wordsOf b)) (λ p. v ≡ flagsOf p) z n
+      → Reads t (properties (wordsOf b)) (λ p. v ≡ flagsOf p) y n
   unfolding properties
   list-there k e r =
       let m = is-mark "(" (omega arith) (omega arith) in
-      if-true (isMark "(") _ _ (is-yes m k) (bind (expected m e) (λ _ _. record { reads = r .reads; passes = r .passes }) (r .passes))
+      if-true (isMark "(") _ _ (is-yes m k)
+      (bind (expected m e) (λ _ _. record { reads = r .reads; passes = r .passes }) (r .passes))
 
-  pub list-absent : {v : Properties} → (y .code ≡ 40 → ⊥) → v ≡ flagsOf [] → Reads t (properties (wordsOf b)) (λ p. v ≡ flagsOf p) y y
+  pub list-absent : {v : Properties} → (y .code ≡ 40 → ⊥) → v ≡ flagsOf []
+      → Reads t (properties (wordsOf b)) (λ p. v ≡ flagsOf p) y y
   unfolding properties
   list-absent k e = if-false (isMark "(") _ _ (is-no (is-mark "(" (omega arith) (omega arith)) k) (stay [] e)

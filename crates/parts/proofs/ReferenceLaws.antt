@@ -24,16 +24,19 @@ dot = is-mark "." (omega arith) (omega arith)
 module _ {t : List ℕ} {y a : Symbol} {i : Name} (e : a ≡ passed t y 1) (f : i ≡ named y) where
   pub one-part : (a .code ≡ 46 → ⊥) → Reads t reference (λ r. Bare i ≡ referenceOf r) y a
   unfolding reference
-  one-part k = bind (a-name e) (λ x q. if-false (isMark ".") _ _ (is-no dot k) (stay (bare x) (ap Bare (f ∙ q)))) (λ _ _ c. c)
+  one-part k =
+      bind (a-name e) (λ x q. if-false (isMark ".") _ _ (is-no dot k) (stay (bare x) (ap Bare (f ∙ q)))) (λ _ _ c. c)
 
-  module _ {m b : Symbol} {j : Name} (k : a .code ≡ 46) (e₂ : m ≡ passed t a 46) (e₃ : b ≡ passed t m 1) (f₂ : j ≡ named m) where
+  module _ {m b : Symbol} {j : Name} (k : a .code ≡ 46) (e₂ : m ≡ passed t a 46)
+      (e₃ : b ≡ passed t m 1) (f₂ : j ≡ named m) where
     pub two-parts : (b .code ≡ 46 → ⊥) → Reads t reference (λ r. InModel i j ≡ referenceOf r) y b
     unfolding reference
     two-parts l =
         let second = a-name e₃ in
         let first = expected dot e₂ in
         bind (a-name e) (λ x q. if-true (isMark ".") _ _ (is-yes dot k) (bind first
-        (λ _ _. bind second (λ z r. if-false (isMark ".") _ _ (is-no dot l) (stay (inModel x z) (rw (f ∙ q, f₂ ∙ r)))) (λ _ _ c. c)) (second .passes)))
+        (λ _ _. bind second (λ z r. if-false (isMark ".") _ _ (is-no dot l) (stay (inModel x z) (rw (f ∙ q, f₂ ∙ r))))
+        (λ _ _ c. c)) (second .passes)))
         (onward (first .passes) (second .passes))
 
     pub three-parts : {n c : Symbol} {o : Name} → b .code ≡ 46 → n ≡ passed t b 46 → c ≡ passed t n 1 → o ≡ named n →
@@ -47,17 +50,21 @@ module _ {t : List ℕ} {y a : Symbol} {i : Name} (e : a ≡ passed t y 1) (f : 
         let last = onward (third .passes) (fourth .passes) in
         bind (a-name e) (λ x q. if-true (isMark ".") _ _ (is-yes dot k) (bind first
         (λ _ _. bind second (λ z r. if-true (isMark ".") _ _ (is-yes dot l)
-        (bind third (λ _ _. mapped (inTopic x z) fourth (λ u s. rw (f ∙ q, f₂ ∙ r, f₃ ∙ s))) (fourth .passes))) last) (onward (second .passes) last)))
+        (bind third (λ _ _. mapped (inTopic x z) fourth (λ u s. rw (f ∙ q, f₂ ∙ r, f₃ ∙ s))) (fourth .passes))) last)
+        (onward (second .passes) last)))
         (onward (first .passes) (onward (second .passes) last))
 
 module _ {t : List ℕ} {y : Symbol} where
-  pub extended : {z n : Symbol} {v : Reference} → y .code ≡ 73 → z ≡ passed t y 73 → Reads t reference (λ r. v ≡ referenceOf r) z n →
-      Reads t extends (λ a. Base v ≡ extendsOf a) y n
+  pub extended : {z n : Symbol} {v : Reference} → y .code ≡ 73 → z ≡ passed t y 73
+      → Reads t reference (λ r. v ≡ referenceOf r) z n
+      → Reads t extends (λ a. Base v ≡ extendsOf a) y n
   unfolding extends
   extended k e r =
       let w = is-word (ascii "EXTENDS") 73 refl in
-      if-true (isWord (ascii "EXTENDS")) _ _ (is-yes w k) (mapped some (bind (expected w e) (λ _ _. r) (r .passes)) (λ a q. ap Base q))
+      if-true (isWord (ascii "EXTENDS")) _ _ (is-yes w k)
+      (mapped some (bind (expected w e) (λ _ _. r) (r .passes)) (λ a q. ap Base q))
 
   pub not-extended : (y .code ≡ 73 → ⊥) → Reads t extends (λ a. Nothing ≡ extendsOf a) y y
   unfolding extends
-  not-extended k = if-false (isWord (ascii "EXTENDS")) _ _ (is-no (is-word (ascii "EXTENDS") 73 refl) k) (stay none refl)
+  not-extended k =
+      if-false (isWord (ascii "EXTENDS")) _ _ (is-no (is-word (ascii "EXTENDS") 73 refl) k) (stay none refl)

@@ -12,12 +12,16 @@ use lib.Dec.{eqb}
 use borrow.Author.Tests.{eqb-true, ne-eqb, eq-eqb, lt-ltb, le-ltb}
 use Rattle.rules.specs.Bytes.{ascii, same, isDigit}
 use Rattle.rules.specs.Symbols as rules
-use Rattle.rules.specs.Symbols.{too-large, symbolAt, endOf, digitCount, Kind, word, name, number, quoted, dots, stop, mark, fault, tag, isKind, isMark, isWord, isOneWord}
+use Rattle.rules.specs.Symbols.{too-large, symbolAt, endOf, digitCount, Kind, word, name, number, quoted, dots, stop}
+use Rattle.rules.specs.Symbols.{mark, fault, tag, isKind, isMark, isWord, isOneWord}
 use Rattle.rules.specs.Readers.{Reader, ret, _>>=_, expect}
 use Rattle.rules.specs.Numbers.{digits, valueOf, decimalsOf}
-use Rattle.rules.specs.Grammar.{enough, deepest, enumeration, WrittenType, text, range, numeric, enum, named, isLength, textLength, textType, rangeType, reference, typeOf, typeOrReference, placeOfNext, written}
+use Rattle.rules.specs.Grammar.{enough, deepest, enumeration, WrittenType, text, range, numeric, enum, named, isLength}
+use Rattle.rules.specs.Grammar.{textLength, textType, rangeType, reference, typeOf, typeOrReference, placeOfNext}
+use Rattle.rules.specs.Grammar.{written}
 use Rattle.rules.proofs.Tests.{never, both, fail-r}
 use Rattle.ground.specs.Parts.{part}
+use Rattle.book.specs.Forms.{textKind}
 use Rattle.numbers.specs.declared.Number.{Number}
 use Rattle.symbols.specs.declared.Symbol.{Symbol}
 use Rattle.symbols.specs.Cut.{made, cut}
@@ -25,13 +29,16 @@ use Rattle.readers.specs.Reads.{Cuts, Held, passed, Reads}
 use Rattle.symbols.specs.Cut.{Sound}
 use Rattle.readers.proofs.CodeLaws.{Test, is-name, is-number, is-dots, is-mark, is-word, is-one-word}
 use Rattle.readers.proofs.StandLaws.{at-stands, fault-stands}
-use Rattle.readers.proofs.ReadLaws.{onward, bind, stay, mapped, weaker, if-true, if-false, expected, taken, passes-by, refuses, is-yes, is-no}
+use Rattle.readers.proofs.ReadLaws.{onward, bind, stay, mapped, weaker, if-true, if-false, expected, taken, passes-by}
+use Rattle.readers.proofs.ReadLaws.{refuses, is-yes, is-no}
 use Rattle.elements.specs.Noted.{Whole}
 use Rattle.ground.specs.declared.Reference.{Reference}
 use Rattle.parts.specs.declared.types.Whole.the-variants.{Count, Other}
 use Rattle.parts.specs.declared.types.Meant.{Meant}
-use Rattle.parts.specs.declared.types.Meant.the-variants.{Alone, Text, Limited, Range, Numeric, Enumeration, Named}
-use Rattle.parts.specs.Forms.{referenceOf, numberOf, wholeOf, kindOf, textCode, limitOf, Plainly, Means, MeansAny, MeansAll, typeBy, mandatoryBy}
+use Rattle.parts.specs.declared.types.Meant.the-variants.{Alone, Text, Limited, Range, Numeric, Enumeration}
+use Rattle.parts.specs.declared.types.Meant.the-variants.{Named}
+use Rattle.parts.specs.Forms.{referenceOf, numberOf, wholeOf, textCode, limitOf, Plainly, Means, MeansAny}
+use Rattle.parts.specs.Forms.{MeansAll, typeBy, mandatoryBy}
 use Rattle.parts.proofs.PropertyLaws.{word-bytes}
 
 -- ---- number symbols
@@ -52,7 +59,8 @@ module _ {t : List ℕ} {y : Symbol} where
   pub bytes-of : (z : rules.Symbol) → Cuts t z y → part t (y .place) (y .len) ≡ z .bytes
   bytes-of z c = ap (λ (x : Symbol). part t (x .place) (x .len)) (c .cuts) ∙ sym (c .stands .written)
 
-  pub number-stands : Held t y → y .code ≡ 2 → (y .place + y .len ≤ length t) × (0 < y .len) × (digitCount (part t (y .place) (y .len)) ≤ 18)
+  pub number-stands : Held t y → y .code ≡ 2
+      → (y .place + y .len ≤ length t) × (0 < y .len) × (digitCount (part t (y .place) (y .len)) ≤ 18)
   number-stands (z, c) k =
       let e = is-yes is-number k z c in
       let p : y .place ≡ z .place = ap (λ (x : Symbol). x .place) (c .cuts) in
@@ -61,8 +69,9 @@ module _ {t : List ℕ} {y : Symbol} where
       let q = c .stands .solid (solid-number (z .kind) e) in
       (omega arith, omega arith, rw (bytes-of z c) (few-digits (z .kind) (z .bytes) e (c .stands .coded)))
 
-  pub number-read : {r : Number} → r .value ≡ valueOf (part t (y .place) (y .len)) → r .decimals ≡ decimalsOf (part t (y .place) (y .len)) →
-      (z : rules.Symbol) → Cuts t z y → r ≡ numberOf (z .bytes)
+  pub number-read : {r : Number} → r .value ≡ valueOf (part t (y .place) (y .len))
+      → r .decimals ≡ decimalsOf (part t (y .place) (y .len))
+      → (z : rules.Symbol) → Cuts t z y → r ≡ numberOf (z .bytes)
   number-read {r} f g z c =
       let h : r ≡ numberOf (part t (y .place) (y .len)) = joined r _ _ f g in h ∙ ap numberOf (bytes-of z c)
     where
@@ -76,7 +85,8 @@ isWhole b = isDigit (getD b 0 0) && eqb (decimalsOf b) 0
 whole-count : (b : List ℕ) (n : ℕ) → wholeOf b ≡ Count n → (isWhole b ≡ true) × (n ≡ digits b 0)
 whole-count b n e = go (isWhole b) refl e
   where
-    go : (x : Bool) → isWhole b ≡ x → cond x (Count (digits b 0)) Other ≡ Count n → (isWhole b ≡ true) × (n ≡ digits b 0)
+    go : (x : Bool) → isWhole b ≡ x → cond x (Count (digits b 0)) Other ≡ Count n
+        → (isWhole b ≡ true) × (n ≡ digits b 0)
     go true f g = (f, cc)
     go false f g = absurd (let q : _≡_ {A = ℕ} 0 1 = cc in omega arith)
 
@@ -91,36 +101,51 @@ module _ {t : List ℕ} {y : Symbol} where
   pub not-number : (y .code ≡ 2 → ⊥) → (z : rules.Symbol) → Cuts t z y → isLength z ≡ false
   not-number k z c = rw (is-no is-number k z c)
 
-  pub not-whole : y .code ≡ 2 → wholeOf (part t (y .place) (y .len)) ≡ Other → (z : rules.Symbol) → Cuts t z y → isLength z ≡ false
+  pub not-whole : y .code ≡ 2 → wholeOf (part t (y .place) (y .len)) ≡ Other → (z : rules.Symbol)
+      → Cuts t z y → isLength z ≡ false
   not-whole k e z c = rw (is-yes is-number k z c) (whole-other (z .bytes) (rw (bytes-of z c) at e))
 
-  counts : {u : ℕ} → y .code ≡ 2 → wholeOf (part t (y .place) (y .len)) ≡ Count u → (z : rules.Symbol) → Cuts t z y → (isLength z ≡ true) × (u ≡ digits (z .bytes) 0)
-  counts {u} k w z c = let q = whole-count (z .bytes) u (rw (bytes-of z c) at w) in (rw (is-yes is-number k z c) (q .0), q .1)
+  counts : {u : ℕ} → y .code ≡ 2 → wholeOf (part t (y .place) (y .len)) ≡ Count u → (z : rules.Symbol) → Cuts t z y
+      → (isLength z ≡ true) × (u ≡ digits (z .bytes) 0)
+  counts {u} k w z c =
+      let q = whole-count (z .bytes) u (rw (bytes-of z c) at w) in
+      (rw (is-yes is-number k z c) (q .0), q .1)
 
 module _ {t : List ℕ} {y n : Symbol} (m : Bool) where
-  pub no-length : {v : Meant} → ((z : rules.Symbol) → Cuts t z y → isLength z ≡ false) → n ≡ made 5 (y .refusal) (y .place) 0 →
-      Reads t textLength (λ s. v ≡ limitOf m (some s)) y n
+  pub no-length : {v : Meant} → ((z : rules.Symbol) → Cuts t z y → isLength z ≡ false)
+      → n ≡ made 5 (y .refusal) (y .place) 0
+      → Reads t textLength (λ s. v ≡ limitOf m (some s)) y n
   unfolding textLength
   no-length h e = refuses _ h e
 
   module _ {u : ℕ} (k : y .code ≡ 2) (w : wholeOf (part t (y .place) (y .len)) ≡ Count u) where
-    pub long-length : {v : Meant} → 4294967295 < u → n ≡ made 5 4 (y .place) 0 → Reads t textLength (λ s. v ≡ limitOf m (some s)) y n
+    pub long-length : {v : Meant} → 4294967295 < u → n ≡ made 5 4 (y .place) 0
+        → Reads t textLength (λ s. v ≡ limitOf m (some s)) y n
     unfolding textLength
     long-length h e =
         record {
           reads = λ z c. let q = counts k w z c in rw (q .0, lt-ltb 4294967295 (digits (z .bytes) 0) (omega arith))
-              (record { next = record { cuts = e ∙ ap (λ (x : Symbol). made 5 4 (x .place) 0) (c .cuts); stands = fault-stands t too-large (z .place) (let l = c .stands .ends in omega arith) }; value = tt });
+              (record {
+                next = record {
+                  cuts = e ∙ ap (λ (x : Symbol). made 5 4 (x .place) 0) (c .cuts);
+                  stands = fault-stands t too-large (z .place) (let l = c .stands .ends in omega arith);
+                };
+                value = tt;
+              });
           passes = λ f p c. absurd (let q : 5 ≡ 2 = rw (c .cuts) at k in omega arith);
         }
 
-    pub good-length : u ≤ 4294967295 → n ≡ passed t y 2 → Reads t textLength (λ s. Limited (kindOf m) u (y .place) ≡ limitOf m (some s)) y n
+    pub good-length : u ≤ 4294967295 → n ≡ passed t y 2
+        → Reads t textLength (λ s. Limited (textKind m) u (y .place) ≡ limitOf m (some s)) y n
     unfolding textLength
     good-length h e =
         record {
           reads = λ z c. let q = counts k w z c in rw (q .0, le-ltb 4294967295 (digits (z .bytes) 0) (omega arith))
               (record {
                 next = expected-next z c;
-                value = ap (λ (x : ℕ). Limited (kindOf m) x (y .place)) (q .1) ∙ ap (λ (x : Symbol). Limited (kindOf m) (digits (z .bytes) 0) (x .place)) (c .cuts);
+                value =
+                    ap (λ (x : ℕ). Limited (textKind m) x (y .place)) (q .1)
+                    ∙ ap (λ (x : Symbol). Limited (textKind m) (digits (z .bytes) 0) (x .place)) (c .cuts);
               });
           passes = λ f p c. absurd (let q : 5 ≡ 2 = rw (c .cuts) at k in omega arith);
         }
@@ -134,14 +159,18 @@ no-fault y true k e = omega arith
 no-fault y false k e = omega arith
 
 module _ {t : List ℕ} {y : Symbol} where
-  text-test : (z : rules.Symbol) → Cuts t z y → (x : Bool) → (eqb (y .code) 79 || eqb (y .code) 80) ≡ x → isOneWord (ascii "TEXT" ∷ ascii "MTEXT" ∷ []) z ≡ x
-  text-test z c x e = is-one-word (ascii "TEXT") (ascii "MTEXT") 79 80 refl refl z (c .stands .coded) ∙ (rw (c .cuts) at e)
+  text-test : (z : rules.Symbol) → Cuts t z y → (x : Bool) → (eqb (y .code) 79 || eqb (y .code) 80) ≡ x
+      → isOneWord (ascii "TEXT" ∷ ascii "MTEXT" ∷ []) z ≡ x
+  text-test z c x e =
+      is-one-word (ascii "TEXT") (ascii "MTEXT") 79 80 refl refl z (c .stands .coded) ∙ (rw (c .cuts) at e)
 
-  is-text : (m : Bool) → y .code ≡ textCode m → (z : rules.Symbol) → Cuts t z y → isOneWord (ascii "TEXT" ∷ ascii "MTEXT" ∷ []) z ≡ true
+  is-text : (m : Bool) → y .code ≡ textCode m → (z : rules.Symbol) → Cuts t z y
+      → isOneWord (ascii "TEXT" ∷ ascii "MTEXT" ∷ []) z ≡ true
   is-text true k z c = text-test z c true (rw k)
   is-text false k z c = text-test z c true (rw k)
 
-  no-text : (y .code ≡ 79 → ⊥) → (y .code ≡ 80 → ⊥) → (z : rules.Symbol) → Cuts t z y → isOneWord (ascii "TEXT" ∷ ascii "MTEXT" ∷ []) z ≡ false
+  no-text : (y .code ≡ 79 → ⊥) → (y .code ≡ 80 → ⊥) → (z : rules.Symbol) → Cuts t z y
+      → isOneWord (ascii "TEXT" ∷ ascii "MTEXT" ∷ []) z ≡ false
   no-text f g z c = text-test z c false (rw (ne-eqb (y .code) 79 f, ne-eqb (y .code) 80 g))
 
   text-kind : (m : Bool) → y .code ≡ textCode m → (z : rules.Symbol) → Cuts t z y → same (z .bytes) (ascii "MTEXT") ≡ m
@@ -150,31 +179,38 @@ module _ {t : List ℕ} {y : Symbol} where
 
   module _ (m : Bool) (k : y .code ≡ textCode m) {z : Symbol} (e : z ≡ passed t y (y .code)) where
     text-with : {v : Meant} {n : Symbol} (q : Reader (Option rules.Symbol)) → Reads t q (λ o. v ≡ limitOf m o) z n →
-        Reads t (expect (isOneWord (ascii "TEXT" ∷ ascii "MTEXT" ∷ [])) >>= λ w. q >>= λ o. ret (text (same (w .bytes) (ascii "MTEXT")) o)) (Plainly v) y n
+        Reads t (expect (isOneWord (ascii "TEXT" ∷ ascii "MTEXT" ∷ []))
+        >>= λ w. q >>= λ o. ret (text (same (w .bytes) (ascii "MTEXT")) o)) (Plainly v) y n
     text-with q r =
         bind (taken (is-text m k) (no-fault y m k) e) (λ w c. mapped (λ o. text (same (w .bytes) (ascii "MTEXT")) o) r
         (λ o h. (rw (text-kind m k w c) h, λ _ _. tt))) (r .passes)
 
-    pub text-limited : {v : Meant} {s n : Symbol} → z .code ≡ 42 → s ≡ passed t z 42 → Reads t textLength (λ x. v ≡ limitOf m (some x)) s n → Reads t textType (Plainly v) y n
+    pub text-limited : {v : Meant} {s n : Symbol} → z .code ≡ 42 → s ≡ passed t z 42
+        → Reads t textLength (λ x. v ≡ limitOf m (some x)) s n → Reads t textType (Plainly v) y n
     unfolding textType
     text-limited f g r =
         let star = is-mark "*" (omega arith) (omega arith) in
-        text-with _ (if-true (isMark "*") _ _ (is-yes star f) (mapped some (bind (expected star g) (λ _ _. r) (r .passes)) (λ x h. h)))
+        text-with _ (if-true (isMark "*") _ _ (is-yes star f)
+        (mapped some (bind (expected star g) (λ _ _. r) (r .passes)) (λ x h. h)))
 
-    pub text-free : {kind : ℕ} → kind ≡ kindOf m → (z .code ≡ 42 → ⊥) → Reads t textType (Plainly (Text kind)) y z
+    pub text-free : {kind : ℕ} → kind ≡ textKind m → (z .code ≡ 42 → ⊥) → Reads t textType (Plainly (Text kind)) y z
     unfolding textType
-    text-free h f = text-with _ (if-false (isMark "*") _ _ (is-no (is-mark "*" (omega arith) (omega arith)) f) (stay none (ap Text h)))
+    text-free h f = text-with _
+        (if-false (isMark "*") _ _ (is-no (is-mark "*" (omega arith) (omega arith)) f) (stay none (ap Text h)))
 
 -- ---- ranges
-pub range-reads : {t : List ℕ} {y d z n : Symbol} {a b : Number} → d ≡ passed t y 2 → z ≡ passed t d 4 → n ≡ passed t z 2 →
-    ((w : rules.Symbol) → Cuts t w y → y .code ≡ 2 → a ≡ numberOf (w .bytes)) → ((w : rules.Symbol) → Cuts t w z → z .code ≡ 2 → b ≡ numberOf (w .bytes)) →
-    Reads t rangeType (Plainly (Range a b)) y n
+pub range-reads : {t : List ℕ} {y d z n : Symbol} {a b : Number} → d ≡ passed t y 2
+    → z ≡ passed t d 4 → n ≡ passed t z 2
+    → ((w : rules.Symbol) → Cuts t w y → y .code ≡ 2 → a ≡ numberOf (w .bytes))
+    → ((w : rules.Symbol) → Cuts t w z → z .code ≡ 2 → b ≡ numberOf (w .bytes))
+    → Reads t rangeType (Plainly (Range a b)) y n
 unfolding rangeType
 range-reads e₁ e₂ e₃ f g =
     let first = passes-by is-number e₁ in
     let second = expected is-dots e₂ in
     let third = passes-by is-number e₃ in
-    bind first (λ u h. bind second (λ _ _. mapped (λ w. range u w) third (λ w k. (rw (f u (h .0) (h .1), g w (k .0) (k .1)), λ _ _. tt))) (third .passes))
+    bind first (λ u h. bind second (λ _ _.
+    mapped (λ w. range u w) third (λ w k. (rw (f u (h .0) (h .1), g w (k .0) (k .1)), λ _ _. tt))) (third .passes))
     (onward (second .passes) (third .passes))
 
 -- ---- types
@@ -182,34 +218,42 @@ numeric-word : Test (isWord (ascii "NUMERIC")) 81
 numeric-word = is-word (ascii "NUMERIC") 81 refl
 
 module _ {t : List ℕ} {y n : Symbol} where
-  pub type-text : {P : WrittenType → Type 0} (m : Bool) → y .code ≡ textCode m → Reads t textType P y n → Reads t typeOf P y n
+  pub type-text : {P : WrittenType → Type 0} (m : Bool) → y .code ≡ textCode m
+      → Reads t textType P y n → Reads t typeOf P y n
   unfolding typeOf
   type-text m k r = if-true (isOneWord (ascii "TEXT" ∷ ascii "MTEXT" ∷ [])) _ _ (is-text m k) r
 
   pub type-numeric : y .code ≡ 81 → n ≡ passed t y 81 → Reads t typeOf (Plainly Numeric) y n
   unfolding typeOf
   type-numeric k e =
-      if-false (isOneWord (ascii "TEXT" ∷ ascii "MTEXT" ∷ [])) _ _ (no-text (omega arith) (omega arith)) (if-true (isWord (ascii "NUMERIC")) _ _ (is-yes numeric-word k)
+      if-false (isOneWord (ascii "TEXT" ∷ ascii "MTEXT" ∷ [])) _ _ (no-text (omega arith) (omega arith))
+      (if-true (isWord (ascii "NUMERIC")) _ _ (is-yes numeric-word k)
       (bind (expected numeric-word e) (λ _ _. stay numeric (refl, λ _ _. tt)) (λ _ _ c. c)))
 
-  pub type-range : {P : WrittenType → Type 0} → (y .code ≡ 79 → ⊥) → (y .code ≡ 80 → ⊥) → (y .code ≡ 81 → ⊥) → (y .code ≡ 40 → ⊥) →
-      Reads t rangeType P y n → Reads t typeOf P y n
+  pub type-range : {P : WrittenType → Type 0} → (y .code ≡ 79 → ⊥) → (y .code ≡ 80 → ⊥)
+      → (y .code ≡ 81 → ⊥) → (y .code ≡ 40 → ⊥)
+      → Reads t rangeType P y n → Reads t typeOf P y n
   unfolding typeOf
   type-range a b c d r =
-      if-false (isOneWord (ascii "TEXT" ∷ ascii "MTEXT" ∷ [])) _ _ (no-text a b) (if-false (isWord (ascii "NUMERIC")) _ _ (is-no numeric-word c)
+      if-false (isOneWord (ascii "TEXT" ∷ ascii "MTEXT" ∷ [])) _ _ (no-text a b)
+      (if-false (isWord (ascii "NUMERIC")) _ _ (is-no numeric-word c)
       (if-false (isMark "(") _ _ (is-no (is-mark "(" (omega arith) (omega arith)) d) r))
 
-  pub type-enum : {o p : List ℕ} {u : ℕ} → y .code ≡ 40 → Reads t (enumeration (enough t) deepest) (Whole o p u) y n → Reads t typeOf (Means o p (Enumeration u)) y n
+  pub type-enum : {o p : List ℕ} {u : ℕ} → y .code ≡ 40 → Reads t (enumeration (enough t) deepest) (Whole o p u) y n
+      → Reads t typeOf (Means o p (Enumeration u)) y n
   unfolding typeOf
   type-enum k r =
-      if-false (isOneWord (ascii "TEXT" ∷ ascii "MTEXT" ∷ [])) _ _ (no-text (omega arith) (omega arith)) (if-false (isWord (ascii "NUMERIC")) _ _ (is-no numeric-word (omega arith))
+      if-false (isOneWord (ascii "TEXT" ∷ ascii "MTEXT" ∷ [])) _ _ (no-text (omega arith) (omega arith))
+      (if-false (isWord (ascii "NUMERIC")) _ _ (is-no numeric-word (omega arith))
       (if-true (isMark "(") _ _ (is-yes (is-mark "(" (omega arith) (omega arith)) k)
-      (mapped {R = λ s z. enumeration (enough s) deepest s z} enum (record { reads = r .reads; passes = r .passes }) (λ e h. (ap Enumeration (h .0), h .1)))))
+      (mapped {R = λ s z. enumeration (enough s) deepest s z} enum (record { reads = r .reads; passes = r .passes })
+      (λ e h. (ap Enumeration (h .0), h .1)))))
 
   pub type-plain : {o : List ℕ} {v : Meant} → Reads t typeOf (Plainly v) y n → Reads t typeOf (Means o o v) y n
   type-plain {o} r = weaker r (λ x h. (h .0, h .1 o o))
 
-  pub type-named : {o : List ℕ} {v : Reference} → y .code ≡ 1 → Reads t reference (λ a. v ≡ referenceOf a) y n → Reads t typeOrReference (Means o o (Named v)) y n
+  pub type-named : {o : List ℕ} {v : Reference} → y .code ≡ 1 → Reads t reference (λ a. v ≡ referenceOf a) y n
+      → Reads t typeOrReference (Means o o (Named v)) y n
   unfolding typeOrReference
   type-named k r = if-true (isKind name) _ _ (is-yes is-name k) (mapped named r (λ a h. (ap Named h, tt)))
 
@@ -226,37 +270,47 @@ module _ {t o : List ℕ} {y : Symbol} (based or-reference : Bool) where
   alone h k = if-true (λ z. based && isMark ";" z) _ _ (λ z c. both h (is-yes semicolon k z c)) (stay none (refl, tt))
 
 module _ {t o p : List ℕ} {y n : Symbol} (based or-reference : Bool) {v : Meant} where
-  pub not-alone : ((z : rules.Symbol) → Cuts t z y → (based && isMark ";" z) ≡ false) → Reads t (typeBy or-reference) (Means o p v) y n →
-      Reads t (mandatoryBy based (typeBy or-reference)) (MeansAny o p v) y n
+  pub not-alone : ((z : rules.Symbol) → Cuts t z y → (based && isMark ";" z) ≡ false)
+      → Reads t (typeBy or-reference) (Means o p v) y n
+      → Reads t (mandatoryBy based (typeBy or-reference)) (MeansAny o p v) y n
   not-alone h r = if-false (λ z. based && isMark ";" z) _ _ h (mapped some r (λ x q. q))
 
 pub here-reads : {t : List ℕ} {y : Symbol} → Reads t placeOfNext (λ p. y .place ≡ p) y y
-here-reads = record { reads = λ z c. record { next = c; value = ap (λ (x : Symbol). x .place) (c .cuts) }; passes = λ f p c. c }
+here-reads = record {
+  reads = λ z c. record { next = c; value = ap (λ (x : Symbol). x .place) (c .cuts) };
+  passes = λ f p c. c;
+}
 
 mandatory-word : Test (isWord (ascii "MANDATORY")) 78
 mandatory-word = is-word (ascii "MANDATORY") 78 refl
 
 module _ {t o p : List ℕ} {y n : Symbol} (based or-reference : Bool) {v : Meant} where
-  pub with-mandatory : {z : Symbol} → y .code ≡ 78 → z ≡ passed t y 78 → Reads t (mandatoryBy based (typeBy or-reference)) (MeansAny o p v) z n →
-      Reads t (written based (typeBy or-reference)) (MeansAll o p (record { mandatory = true; place = z .place; meant = v })) y n
+  pub with-mandatory : {z : Symbol} → y .code ≡ 78 → z ≡ passed t y 78
+      → Reads t (mandatoryBy based (typeBy or-reference)) (MeansAny o p v) z n
+      → Reads t (written based (typeBy or-reference))
+      (MeansAll o p (record { mandatory = true; place = z .place; meant = v })) y n
   unfolding written
   with-mandatory k e r =
       if-true (isWord (ascii "MANDATORY")) _ _ (is-yes mandatory-word k) (bind (expected mandatory-word e)
-      (λ _ _. bind here-reads (λ i q. mapped (λ x. record { mandatory = true; place = i; type = x }) r (λ x h. (rw (q, h .0), h .1))) (r .passes)) (r .passes))
+      (λ _ _. bind here-reads (λ i q. mapped (λ x. record { mandatory = true; place = i; type = x }) r
+      (λ x h. (rw (q, h .0), h .1))) (r .passes)) (r .passes))
 
   pub not-mandatory : (y .code ≡ 78 → ⊥) → Reads t (typeBy or-reference) (Means o p v) y n →
-      Reads t (written based (typeBy or-reference)) (MeansAll o p (record { mandatory = false; place = y .place; meant = v })) y n
+      Reads t (written based (typeBy or-reference))
+      (MeansAll o p (record { mandatory = false; place = y .place; meant = v })) y n
   unfolding written
   not-mandatory k r =
       if-false (isWord (ascii "MANDATORY")) _ _ (is-no mandatory-word k)
-      (bind here-reads (λ i q. mapped (λ x. record { mandatory = false; place = i; type = some x }) r (λ x h. (rw (q, h .0), h .1))) (r .passes))
+      (bind here-reads (λ i q.
+      mapped (λ x. record { mandatory = false; place = i; type = some x }) r (λ x h. (rw (q, h .0), h .1))) (r .passes))
 
 -- ---- an unsigned whole number, as the code tells it
 module _ (t : List ℕ) (place len : ℕ) (h : 0 < len) where
   first-byte : getD (part t place len) 0 0 ≡ getD t place 0
   first-byte = getD-take len (drop place t) 0 0 h ∙ getD-drop place t 0 0 ∙ ap (λ (k : ℕ). getD t k 0) (add-zero place)
 
-  pub whole-yes : {n : ℕ} → isDigit (getD t place 0) ≡ true → decimalsOf (part t place len) ≡ 0 → n ≡ digits (part t place len) 0 → Count n ≡ wholeOf (part t place len)
+  pub whole-yes : {n : ℕ} → isDigit (getD t place 0) ≡ true → decimalsOf (part t place len) ≡ 0
+      → n ≡ digits (part t place len) 0 → Count n ≡ wholeOf (part t place len)
   whole-yes d e f = rw (first-byte, d, e, f)
 
   pub whole-no : (decimalsOf (part t place len) ≡ 0 → ⊥) → Other ≡ wholeOf (part t place len)
@@ -268,5 +322,10 @@ module _ (t : List ℕ) (place len : ℕ) (h : 0 < len) where
 -- behind a symbol that is passed, there is another
 pub held-behind : {t : List ℕ} {y n : Symbol} → Held t y → n ≡ passed t y (y .code) → Held t n
 held-behind {t} {y} {n} (z, c) e =
-    let f : n ≡ cut (symbolAt t (y .next .at)) = e ∙ rw (eq-eqb (y .code) (y .code) refl) in
-    (symbolAt t (endOf z), record { cuts = f ∙ ap (λ (x : Symbol). cut (symbolAt t (x .next .at))) (c .cuts); stands = at-stands t (endOf z) (c .stands .ends) })
+    let f : n ≡ cut (symbolAt t (y .next .at)) = e ∙ rw (eq-eqb (y .code) (y .code) refl) in (
+      symbolAt t (endOf z),
+      record {
+        cuts = f ∙ ap (λ (x : Symbol). cut (symbolAt t (x .next .at))) (c .cuts);
+        stands = at-stands t (endOf z) (c .stands .ends);
+      },
+    )

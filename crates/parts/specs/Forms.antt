@@ -15,6 +15,7 @@ use Rattle.rules.specs.Symbols.{isMark}
 use Rattle.rules.specs.Readers.{Reader, _>>=_, ret, ifNext}
 use Rattle.rules.specs.Judge.{hasTwice}
 use Rattle.ground.specs.Parts.{splice}
+use Rattle.book.specs.Forms.{textKind}
 use Rattle.numbers.specs.declared.Number.{Number}
 use Rattle.readers.specs.Reads.{nameCut}
 use Rattle.elements.specs.Noted.{listBytes}
@@ -26,7 +27,8 @@ use Rattle.parts.specs.declared.Extends.the-variants.{Nothing, Base}
 use Rattle.parts.specs.declared.types.Whole.{Whole}
 use Rattle.parts.specs.declared.types.Whole.the-variants.{Count, Other}
 use Rattle.parts.specs.declared.types.Meant.{Meant}
-use Rattle.parts.specs.declared.types.Meant.the-variants.{Alone, Text, Limited, Range, Numeric, Enumeration, Named}
+use Rattle.parts.specs.declared.types.Meant.the-variants.{Alone, Text, Limited, Range, Numeric, Enumeration}
+use Rattle.parts.specs.declared.types.Meant.the-variants.{Named}
 use Rattle.parts.specs.declared.types.Written.{Written}
 
 -- ---- properties
@@ -38,14 +40,34 @@ abbrev pub otherOf : Bool → ℕ
 otherOf attribute = cond attribute 76 71
 
 abbrev pub flagsOf : List (List ℕ) → Properties
-flagsOf p = record { «is_abstract» = isOneOf (ascii "ABSTRACT") p; «is_final» = isOneOf (ascii "FINAL") p; extended = isOneOf (ascii "EXTENDED") p; twice = hasTwice p }
+flagsOf p = record {
+  «is_abstract» = isOneOf (ascii "ABSTRACT") p;
+  «is_final» = isOneOf (ascii "FINAL") p;
+  extended = isOneOf (ascii "EXTENDED") p;
+  twice = hasTwice p;
+}
 
 -- the properties p and one more, by its code
 abbrev pub withWord : Properties → ℕ → Properties
 withWord p k =
-    cond (eqb k 72) (record { «is_abstract» = p .«is_abstract»; «is_final» = true; extended = p .extended; twice = p .twice || p .«is_final» })
-    (cond (eqb k 71) (record { «is_abstract» = true; «is_final» = p .«is_final»; extended = p .extended; twice = p .twice || p .«is_abstract» })
-    (record { «is_abstract» = p .«is_abstract»; «is_final» = p .«is_final»; extended = true; twice = p .twice || p .extended }))
+    cond (eqb k 72) (record {
+      «is_abstract» = p .«is_abstract»;
+      «is_final» = true;
+      extended = p .extended;
+      twice = p .twice || p .«is_final»;
+    })
+    (cond (eqb k 71) (record {
+      «is_abstract» = true;
+      «is_final» = p .«is_final»;
+      extended = p .extended;
+      twice = p .twice || p .«is_abstract»;
+    })
+    (record {
+      «is_abstract» = p .«is_abstract»;
+      «is_final» = p .«is_final»;
+      extended = true;
+      twice = p .twice || p .extended;
+    }))
 
 -- ---- references
 abbrev pub referenceOf : G.Reference → Reference
@@ -69,15 +91,12 @@ numberOf b = record { value = valueOf b; decimals = decimalsOf b }
 abbrev pub wholeOf : List ℕ → Whole
 wholeOf b = cond (isDigit (getD b 0 0) && eqb (decimalsOf b) 0) (Count (digits b 0)) Other
 
-abbrev pub kindOf : Bool → ℕ
-kindOf m = cond m 9 8
-
 abbrev pub textCode : Bool → ℕ
 textCode m = cond m 80 79
 
 abbrev pub limitOf : Bool → Option rules.Symbol → Meant
-limitOf m none = Text (kindOf m)
-limitOf m (some y) = Limited (kindOf m) (digits (y .bytes) 0) (y .place)
+limitOf m none = Text (textKind m)
+limitOf m (some y) = Limited (textKind m) (digits (y .bytes) 0) (y .place)
 
 abbrev pub meantOf : WrittenType → Meant
 meantOf (text m n) = limitOf m n

@@ -14,8 +14,9 @@ ghost use Rattle.rules.specs.Symbols.{digitCount};
 ghost use Rattle.rules.specs.Symbols.{Symbol as rules·Symbol};
 ghost use Rattle.rules.specs.Grammar.{textLength, textType, rangeType, typeOf, typeOrReference, written};
 ghost use Rattle.ground.specs.Parts.{part};
+ghost use Rattle.book.specs.Forms.{textKind};
 ghost use Rattle.readers.specs.Reads.{Cuts, Held, Reads};
-ghost use Rattle.parts.specs.Forms.{numberOf, wholeOf, limitOf, kindOf, textCode, typeBy, mandatoryBy};
+ghost use Rattle.parts.specs.Forms.{numberOf, wholeOf, limitOf, textCode, typeBy, mandatoryBy};
 ghost use Rattle.parts.specs.Forms.{Plainly, Means, MeansAny, MeansAll};
 
 // What is written: MANDATORY alone; TEXT or MTEXT, by the kind of its record, and with a length that stands at a place;
@@ -70,7 +71,7 @@ fn whole_number(text: &[u8], place: usize, len: usize) -> Whole
 // The length behind `*`.
 fn text_length(text: &[u8], kind: u8, y: Symbol) -> MeantRead
     requires { ⌜ Held (now text) y ⌝ }
-    ensures { λ r. ⌜ ((m : Bool) → kind ≡ kindOf m
+    ensures { λ r. ⌜ ((m : Bool) → kind ≡ textKind m
         → Reads (now (text .entry)) textLength (λ s. r .meant ≡ limitOf m (some s)) y (r .next)) ⌝ }
 {
     let place = y.place;
@@ -110,7 +111,7 @@ fn text_length(text: &[u8], kind: u8, y: Symbol) -> MeantRead
 // TEXT or MTEXT, which is y.
 fn text_type(text: &[u8], kind: u8, y: Symbol) -> MeantRead
     requires { ⌜ Held (now text) y ⌝ }
-    ensures { λ r. ⌜ ((m : Bool) → y .code ≡ textCode m → kind ≡ kindOf m
+    ensures { λ r. ⌜ ((m : Bool) → y .code ≡ textCode m → kind ≡ textKind m
         → Reads (now (text .entry)) textType (Plainly (r .meant)) y (r .next)) ⌝ }
 {
     let z = expect(text, y, y.code);

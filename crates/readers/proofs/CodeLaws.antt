@@ -38,7 +38,10 @@ is-stop = record { test = λ z i. stop-of (z .kind) (z .bytes) i; sound = omega 
 
 -- ---- marks
 pub is-mark : (c : Char) → 39 < code c → code c < 62 → Test (isMark c) (code c)
-is-mark c h l = record { test = λ z i. mark-of (code c) (omega arith) (omega arith) (z .kind) (z .bytes); sound = omega arith }
+is-mark c h l = record {
+  test = λ z i. mark-of (code c) (omega arith) (omega arith) (z .kind) (z .bytes);
+  sound = omega arith;
+}
 
 -- ---- words of the forms
 -- the word w, which has the position k among the forms
@@ -52,7 +55,9 @@ spread true false false = refl
 spread false a b = refl
 
 -- one of the words v and w, which have the codes j and k
-pub is-one-word : (v w : List ℕ) (j k : ℕ) → 64 + position v forms ≡ j → 64 + position w forms ≡ k → (z : rules.Symbol) → Sound (z .kind) (z .bytes) →
-    isOneWord (v ∷ w ∷ []) z ≡ (eqb (codeOf (z .kind) (z .bytes)) j || eqb (codeOf (z .kind) (z .bytes)) k)
+pub is-one-word : (v w : List ℕ) (j k : ℕ) → 64 + position v forms ≡ j → 64 + position w forms ≡ k
+    → (z : rules.Symbol) → Sound (z .kind) (z .bytes)
+    → isOneWord (v ∷ w ∷ []) z ≡ (eqb (codeOf (z .kind) (z .bytes)) j || eqb (codeOf (z .kind) (z .bytes)) k)
 is-one-word v w j k e f z i =
-    spread (isKind word z) (same (z .bytes) v) (same (z .bytes) w) ∙ rw (is-word v j e .test z i, is-word w k f .test z i)
+    spread (isKind word z) (same (z .bytes) v) (same (z .bytes) w)
+    ∙ rw (is-word v j e .test z i, is-word w k f .test z i)

@@ -1,4 +1,5 @@
--- What a reader of the code promises of a reader of the rules. A fault goes on as a faulty symbol, which no reader takes.
+-- What a reader of the code promises of a reader of the rules. A fault goes on as a faulty symbol,
+-- which no reader takes.
 use mathlib.Core.Path.{_≡_}
 use mathlib.Core.Bool.{cond}
 use mathlib.Core.List.{List, []}
@@ -60,7 +61,8 @@ pub record Gives {A : Type 0} (t : List ℕ) (m : Result A) (Q : A → Type 0) (
   pub next : Cuts t (rest m) n
   pub value : On Q m
 
--- from the symbol y on, the code reads what R reads from it: Q holds of what is read, and n is the symbol that is left. A faulty y is left as it is
+-- from the symbol y on, the code reads what R reads from it: Q holds of what is read, and n is the symbol that is left.
+-- A faulty y is left as it is
 pub record Reads {A : Type 0} (t : List ℕ) (R : Reader A) (Q : A → Type 0) (y n : Symbol) : Type 0 where
   pub reads : (z : rules.Symbol) → Cuts t z y → Gives t (R t z) Q n
   pub passes : (f : Fault) (p : ℕ) → Cuts t (faultAt f p) y → Cuts t (faultAt f p) n

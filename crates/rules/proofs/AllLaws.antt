@@ -8,7 +8,8 @@ use native.Mathlib.Omega.{arith}
 use Rattle.rules.specs.Bytes.{same}
 use Rattle.rules.specs.Grammar as G
 use Rattle.rules.specs.Grammar.{Reference}
-use Rattle.rules.specs.Declarations.{Attribute, Def, isSort, topic, attributeAt, State, known, lookup, atHome, inTopicOf, resolve}
+use Rattle.rules.specs.Declarations.{Attribute, Def, isSort, topic, attributeAt, State, known, lookup, atHome}
+use Rattle.rules.specs.Declarations.{inTopicOf, resolve}
 use Rattle.rules.specs.Judge.{resolved}
 use Rattle.rules.specs.All.{All, AnyIs, In, first, later}
 
@@ -49,9 +50,11 @@ any-lookup P p (d ∷ l) h = any-cond P (p d) (some d) (lookup p l) (h .0) (any-
 
 pub any-attribute : (P : Attribute → Type 0) (n : List ℕ) (l : List Attribute) → All P l → AnyIs P (attributeAt n l)
 any-attribute P n [] h = tt
-any-attribute P n (a ∷ l) h = any-cond P (same n (a .name .bytes)) (some a) (attributeAt n l) (h .0) (any-attribute P n l (h .1))
+any-attribute P n (a ∷ l) h =
+    any-cond P (same n (a .name .bytes)) (some a) (attributeAt n l) (h .0) (any-attribute P n l (h .1))
 
-pub all-attribute : (P : Attribute → Type 0) (n : List ℕ) (l : List Attribute) (a : Attribute) → All P l → attributeAt n l ≡ some a → P a
+pub all-attribute : (P : Attribute → Type 0) (n : List ℕ) (l : List Attribute) (a : Attribute) → All P l
+    → attributeAt n l ≡ some a → P a
 all-attribute P n l a h e = any-is P (attributeAt n l) a (any-attribute P n l h) e
 
 pub any-if : {A : Type 0} (P : A → Type 0) (t : Bool) (x : Option A) → AnyIs P x → AnyIs P (cond t x none)
@@ -61,13 +64,16 @@ any-if P t x h = any-cond P t x none h tt
 module _ (P : Def → Type 0) (s : State) (h : All P (known (s .decls))) where
   any-topic : (n : List ℕ) (o : Option Def) → AnyIs P (inTopicOf s n o)
   any-topic n none = tt
-  any-topic n (some d) = any-if P (isSort topic (d .sort)) (atHome s (some (d .number)) n) (any-lookup P _ (known (s .decls)) h)
+  any-topic n (some d) =
+      any-if P (isSort topic (d .sort)) (atHome s (some (d .number)) n) (any-lookup P _ (known (s .decls)) h)
 
   pub any-resolve : (r : Reference) → AnyIs P (resolve s r)
   any-resolve (G.bare n) = any-lookup P _ (known (s .decls)) h
-  any-resolve (G.inModel m n) = any-if P (same (m .bytes) (s .model .bytes)) (atHome s none (n .bytes)) (any-lookup P _ (known (s .decls)) h)
+  any-resolve (G.inModel m n) =
+      any-if P (same (m .bytes) (s .model .bytes)) (atHome s none (n .bytes)) (any-lookup P _ (known (s .decls)) h)
   any-resolve (G.inTopic m p n) =
-      any-if P (same (m .bytes) (s .model .bytes)) (inTopicOf s (n .bytes) (atHome s none (p .bytes))) (any-topic (n .bytes) (atHome s none (p .bytes)))
+      any-if P (same (m .bytes) (s .model .bytes)) (inTopicOf s (n .bytes) (atHome s none (p .bytes)))
+      (any-topic (n .bytes) (atHome s none (p .bytes)))
 
   pub any-resolved : (b : Option Reference) → AnyIs P (resolved s b)
   any-resolved none = tt

@@ -27,7 +27,8 @@ pub ≤ℤ-trans : {a b c : ℤ} → a ≤ℤ b → b ≤ℤ c → a ≤ℤ c
 ≤ℤ-trans {a = negsuc a} {b = negsuc b} {c = negsuc c} h k = omega (arith, leb→le, le→leb)
 
 -- two bounds that keep 14
-pub in-order : (x y : List ℕ) → (not (eqb (decimalsOf x) (decimalsOf y)) || ltZ (valueOf y) (valueOf x)) ≡ false → leZ (valueOf x) (valueOf y) ≡ true
+pub in-order : (x y : List ℕ) → (not (eqb (decimalsOf x) (decimalsOf y)) || ltZ (valueOf y) (valueOf x)) ≡ false
+    → leZ (valueOf x) (valueOf y) ≡ true
 in-order x y h =
     let (p, q) = or-fails {x = not (eqb (decimalsOf x) (decimalsOf y))} h in
     leZ-is .1 (ltZ-no {a = valueOf y} (so⁻¹ (not-false q)))
@@ -42,7 +43,8 @@ module _ (m : ℕ) (p : zero < m) where
   mul-neg a = neg-pos (suc a * m) (omega arith)
 
   pub mul→shr : (a b : ℤ) → (a *ℤ pos m) ≤ℤ b → a ≤ℤ shrZ b m
-  mul→shr (pos a) (pos b) h = let q : a ≤ b / m = le-div-iff-mul-le p .1 (leb→le (a * m) b (h .le)) in omega (arith, le→leb)
+  mul→shr (pos a) (pos b) h =
+      let q : a ≤ b / m = le-div-iff-mul-le p .1 (leb→le (a * m) b (h .le)) in omega (arith, le→leb)
   mul→shr (pos a) (negsuc b) h = absurd (h .le)
   mul→shr (negsuc a) (pos b) h = record { le = tt }
   mul→shr (negsuc a) (negsuc b) h =
@@ -51,7 +53,8 @@ module _ (m : ℕ) (p : zero < m) where
       omega (arith, le→leb)
 
   pub shr→mul : (a b : ℤ) → a ≤ℤ shrZ b m → (a *ℤ pos m) ≤ℤ b
-  shr→mul (pos a) (pos b) h = let q : a * m ≤ b = le-div-iff-mul-le p .0 (leb→le a (b / m) (h .le)) in omega (arith, le→leb)
+  shr→mul (pos a) (pos b) h =
+      let q : a * m ≤ b = le-div-iff-mul-le p .0 (leb→le a (b / m) (h .le)) in omega (arith, le→leb)
   shr→mul (pos a) (negsuc b) h = absurd (h .le)
   shr→mul (negsuc a) (pos b) h = rw (mul-neg a) (record { le = tt })
   shr→mul (negsuc a) (negsuc b) h =
@@ -71,7 +74,8 @@ sub-le-pos : (k a n : ℕ) → k ≤ n → (t : Bool) → cond t (negsuc (suc a 
 sub-le-pos k a n h true = record { le = tt }
 sub-le-pos k a n h false = omega (arith, le→leb)
 
-sub-mono : (k a b : ℕ) → b ≤ a → (t u : Bool) → ltb k (suc a) ≡ t → ltb k (suc b) ≡ u → cond t (negsuc (suc a - suc k)) (pos (k - suc a)) ≤ℤ cond u (negsuc (suc b - suc k)) (pos (k - suc b))
+sub-mono : (k a b : ℕ) → b ≤ a → (t u : Bool) → ltb k (suc a) ≡ t → ltb k (suc b) ≡ u
+    → cond t (negsuc (suc a - suc k)) (pos (k - suc a)) ≤ℤ cond u (negsuc (suc b - suc k)) (pos (k - suc b))
 sub-mono k a b h true true e f = omega (arith, le→leb)
 sub-mono k a b h true false e f = record { le = tt }
 sub-mono k a b h false true e f = absurd (omega (arith, ltb-false k (suc a) e, ltb-true k (suc b) f))
@@ -81,7 +85,8 @@ add-mono : (k : ℕ) {a b : ℤ} → a ≤ℤ b → (a +ℤ pos k) ≤ℤ (b +�
 add-mono k {a = pos a} {b = pos b} h = omega (arith, leb→le, le→leb)
 add-mono k {a = pos a} {b = negsuc b} h = absurd (h .le)
 add-mono k {a = negsuc a} {b = pos b} h = sub-le-pos k a (b + k) (omega arith) (ltb k (suc a))
-add-mono k {a = negsuc a} {b = negsuc b} h = sub-mono k a b (leb→le b a (h .le)) (ltb k (suc a)) (ltb k (suc b)) refl refl
+add-mono k {a = negsuc a} {b = negsuc b} h =
+    sub-mono k a b (leb→le b a (h .le)) (ltb k (suc a)) (ltb k (suc b)) refl refl
 
 -- ---- readings
 pub ten-pos : (n : ℕ) → zero < 10 ^ n
@@ -89,7 +94,8 @@ ten-pos n = one-le-pow n 10 (omega arith)
 
 module _ (d db : ℕ) where
   read-mono : (t : Bool) {a b : ℤ} → a ≤ℤ b →
-      cond t (rounded a (10 ^ (d - db))) (a *ℤ pos (10 ^ (db - d))) ≤ℤ cond t (rounded b (10 ^ (d - db))) (b *ℤ pos (10 ^ (db - d)))
+      cond t (rounded a (10 ^ (d - db))) (a *ℤ pos (10 ^ (db - d)))
+      ≤ℤ cond t (rounded b (10 ^ (d - db))) (b *ℤ pos (10 ^ (db - d)))
   read-mono true h = shr-mono (10 ^ (d - db)) (ten-pos (d - db)) (add-mono (10 ^ (d - db) / 2) h)
   read-mono false h = mul-mono (10 ^ (db - d)) (ten-pos (db - d)) h
 

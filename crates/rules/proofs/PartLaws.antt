@@ -28,10 +28,21 @@ module _ (s : List ℕ) (i : ℕ) (t : List ℕ) (j n k : ℕ) (h : k < n) (hs :
       let ei : i + k + 1 ≡ i + (k + 1) = omega arith in
       let ej : j + k + 1 ≡ j + (k + 1) = omega arith in
       let en : n - k - 1 ≡ n - (k + 1) = omega arith in
-      rw (part-cons s (i + k) (n - k) (omega arith) (omega arith), part-cons t (j + k) (n - k) (omega arith) (omega arith), eq-eqb _ _ e, ei, ej, en)
+      rw (
+        part-cons s (i + k) (n - k) (omega arith) (omega arith),
+        part-cons t (j + k) (n - k) (omega arith) (omega arith),
+        eq-eqb _ _ e,
+        ei,
+        ej,
+        en,
+      )
 
   pub same-stop : ¬ (getD s (i + k) 0 ≡ getD t (j + k) 0) → sameFrom s i t j n k ≡ false
-  same-stop e = rw (part-cons s (i + k) (n - k) (omega arith) (omega arith), part-cons t (j + k) (n - k) (omega arith) (omega arith), ne-eqb _ _ e)
+  same-stop e = rw (
+    part-cons s (i + k) (n - k) (omega arith) (omega arith),
+    part-cons t (j + k) (n - k) (omega arith) (omega arith),
+    ne-eqb _ _ e,
+  )
 
 pub same-done : (s : List ℕ) (i : ℕ) (t : List ℕ) (j n k : ℕ) → n ≤ k → sameFrom s i t j n k ≡ true
 same-done s i t j n k h =

@@ -21,7 +21,8 @@ pub first-broken-ok : (l : List Rule) (s x : State) → firstBrokenOr l s ≡ ok
 first-broken-ok [] s x p = record { unbroken = tt; next = cc }
 first-broken-ok (r ∷ l) s x p = go (r .broken) refl p (λ q. first-broken-ok l s x q)
   where
-    go : (b : Bool) → r .broken ≡ b → cond b (refused (r .number) (r .place)) (firstBrokenOr l s) ≡ ok x → (firstBrokenOr l s ≡ ok x → Passed l s x) → Passed (r ∷ l) s x
+    go : (b : Bool) → r .broken ≡ b → cond b (refused (r .number) (r .place)) (firstBrokenOr l s) ≡ ok x
+        → (firstBrokenOr l s ≡ ok x → Passed l s x) → Passed (r ∷ l) s x
     go true e q ih = let z : _≡_ {A = ℕ} 0 1 = cc in absurd (omega arith)
     go false e q ih = let k = ih q in record { unbroken = (e, k .unbroken); next = k .next }
 

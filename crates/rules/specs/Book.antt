@@ -80,7 +80,9 @@ useRecords (ofStructure l bs) = (12 ∷ lowFirst 4 (l .number)) ∷ []
 
 -- ---- definitions
 abbrev pub attributeRecords : Attribute → List Record
-attributeRecords a = headRecord 6 (a .name) (flags false (a .final) (a .extended) (a .mandatory)) (numberOr (a .base)) ∷ useRecords (a .use-of)
+attributeRecords a =
+    headRecord 6 (a .name) (flags false (a .final) (a .extended) (a .mandatory)) (numberOr (a .base))
+    ∷ useRecords (a .use-of)
 
 abbrev pub attributesRecords : List Attribute → List Record
 attributesRecords [] = []

@@ -15,8 +15,8 @@ pub use Rattle.rules.specs.Names.{Sort, topic, class, struct, domain, so
 pub use Rattle.rules.specs.Units.{isGiven as isFound}
 
 -- ---- bases
--- a domain, class or structure as its descendants know it: its record number, its full name behind the model's (the topic around it, if there
--- is one, and its own name), and its type
+-- a domain, class or structure as its descendants know it: its record number, its full name behind the model's (the
+-- topic around it, if there is one, and its own name), and its type
 pub record Link : Type 0 where
   pub number : ℕ
   pub around : Option (List ℕ)
@@ -44,8 +44,9 @@ pub record Attribute : Type 0 where
   pub use-of : Use
 
 -- ---- definitions
--- home and around: the record number and the name of the topic around it, if there is one; type and mandatory are a domain's; own and
--- inherited, in text order and the nearer first, are the attributes of a class or structure; bases: from the nearest on
+-- home and around: the record number and the name of the topic around it, if there is one; type and mandatory are a
+-- domain's; own and inherited, in text order and the nearer first, are the attributes of a class or structure;
+-- bases: from the nearest on
 pub record Def : Type 0 where
   pub sort : Sort
   pub name : Name
@@ -82,7 +83,8 @@ pub data Decl : Type 0 where
   def : Def → Decl
   endTopic : Name → Decl
 
--- the state between units: a topic is declared at its head, a class or structure at its END; until then it is the open one
+-- the state between units: a topic is declared at its head, a class or structure at its END; until
+-- then it is the open one
 pub record State : Type 0 where
   pub model : Name
   pub strings : Strings
@@ -133,4 +135,5 @@ inTopicOf s n (some d) = cond (isSort topic (d .sort)) (atHome s (some (d .numbe
 abbrev pub resolve : State → Reference → Option Def
 resolve s (G.bare n) = atHand s (n .bytes)
 resolve s (G.inModel m n) = cond (same (m .bytes) (s .model .bytes)) (atHome s none (n .bytes)) none
-resolve s (G.inTopic m t n) = cond (same (m .bytes) (s .model .bytes)) (inTopicOf s (n .bytes) (atHome s none (t .bytes))) none
+resolve s (G.inTopic m t n) =
+    cond (same (m .bytes) (s .model .bytes)) (inTopicOf s (n .bytes) (atHome s none (t .bytes))) none

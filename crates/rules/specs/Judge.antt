@@ -1,5 +1,5 @@
--- Document 01, "Names", "Types and bases" and "Refusals in order", 4 (attribute count) and 7 to 18: the rules of each unit in the order of
--- their numbers, and the state after a unit that breaks none.
+-- Document 01, "Names", "Types and bases" and "Refusals in order", 4 (attribute count) and 7 to 18: the rules of each
+-- unit in the order of their numbers, and the state after a unit that breaks none.
 use mathlib.Core.Bool.{Bool, true, false, cond, not, _&&_, _||_}
 use mathlib.Core.Option.{Option, none, some}
 use mathlib.Core.List.{List, [], _∷_, _++_}
@@ -17,7 +17,10 @@ use Rattle.rules.specs.Grammar.{Reference, WrittenType, Written}
 use Rattle.rules.specs.Units as U
 use Rattle.rules.specs.Units.{Strings, isGiven}
 use Rattle.rules.specs.Types.{Ty, text, range, numeric, structure, enum, kindOf, fits}
-use Rattle.rules.specs.Declarations.{Link, Use, inline, ofDomain, ofStructure, tyOf, Attribute, Sort, topic, class, domain, isSort, Def, linkOf, attributesOf, attributeAt, isFound, nameCount, Decl, model, def, endTopic, State, numberIn, topicName, atHand, resolve}
+use Rattle.rules.specs.Declarations.{Link, Use, inline, ofDomain, ofStructure, tyOf, Attribute, Sort, topic}
+use Rattle.rules.specs.Declarations.{class, domain, isSort, Def, linkOf, attributesOf, attributeAt, isFound}
+use Rattle.rules.specs.Declarations.{nameCount, Decl, model, def, endTopic, State, numberIn, topicName, atHand}
+use Rattle.rules.specs.Declarations.{resolve}
 use Rattle.rules.specs.Declarations as D
 use Rattle.rules.specs.Book.{records}
 
@@ -39,7 +42,8 @@ abbrev pub firstBrokenOr : List Rule → State → Judged
 firstBrokenOr [] s = ok s
 firstBrokenOr (r ∷ l) s = let x = firstBrokenOr l s in cond (r .broken) (refused (r .number) (r .place)) x
 
--- ---- what stands for a base that is not there: not FINAL, not mandatory, without attributes, of a type into which nothing merges
+-- ---- what stands for a base that is not there: not FINAL, not mandatory, without attributes, of a type
+-- into which nothing merges
 abbrev pub noName : Name
 noName = record { offset = 0; bytes = [] }
 
@@ -64,7 +68,15 @@ orNoDef none = noDef
 orNoDef (some d) = d
 
 abbrev pub noAttribute : Attribute
-noAttribute = record { name = noName; number = 0; final = false; extended = false; mandatory = false; base = none; use-of = inline structure }
+noAttribute = record {
+  name = noName;
+  number = 0;
+  final = false;
+  extended = false;
+  mandatory = false;
+  base = none;
+  use-of = inline structure;
+}
 
 abbrev pub orNoAttribute : Option Attribute → Attribute
 orNoAttribute none = noAttribute
@@ -118,7 +130,8 @@ mergedInto structure e = enum e
 -- the type that is written, over a base's; a reference is for attributes alone
 abbrev pub meant : WrittenType → Ty → Ty
 meant (G.text m n) b = text m (lengthIn n)
-meant (G.range x y) b = range (record { decimals = decimalsOf (x .bytes); low = valueOf (x .bytes); high = valueOf (y .bytes) })
+meant (G.range x y) b =
+    range (record { decimals = decimalsOf (x .bytes); low = valueOf (x .bytes); high = valueOf (y .bytes) })
 meant G.numeric b = numeric
 meant (G.enum e) b = mergedInto b e
 meant (G.named r) b = structure
@@ -173,7 +186,9 @@ abbrev pub typeRules : Bool → ℕ → Option WrittenType → List Rule
 typeRules based p none = []
 typeRules based p (some (G.text m none)) = []
 typeRules based p (some (G.text m (some y))) = rule 14 (y .place) (eqb (digits (y .bytes) 0) 0) ∷ []
-typeRules based p (some (G.range x y)) = rule 14 (x .place) (not (eqb (decimalsOf (x .bytes)) (decimalsOf (y .bytes))) || ltZ (valueOf (y .bytes)) (valueOf (x .bytes))) ∷ []
+typeRules based p (some (G.range x y)) =
+    rule 14 (x .place)
+    (not (eqb (decimalsOf (x .bytes)) (decimalsOf (y .bytes))) || ltZ (valueOf (y .bytes)) (valueOf (x .bytes))) ∷ []
 typeRules based p (some G.numeric) = []
 typeRules based p (some (G.enum e)) = rule 15 p (isLeaf e && not based) ∷ []
 typeRules based p (some (G.named r)) = []
@@ -184,7 +199,13 @@ kindRule p based t b = rule 16 p (based && not (eqb (kindOf t) (kindOf b)))
 
 -- ---- the state after a unit
 abbrev pub declare : State → Decl → State
-declare s d = record { model = s .model; strings = s .strings; decls = s .decls ++ (d ∷ []); topic = s .topic; open-class = none }
+declare s d = record {
+  model = s .model;
+  strings = s .strings;
+  decls = s .decls ++ (d ∷ []);
+  topic = s .topic;
+  open-class = none;
+}
 
 abbrev pub opened : State → Def → State
 opened s c = record { model = s .model; strings = s .strings; decls = s .decls; topic = s .topic; open-class = some c }
@@ -222,7 +243,7 @@ abbrev pub afterTopic : State → Name → State
 afterTopic s n = inTopic (declare s (def (newTopic s n))) (some (newTopic s n))
 
 -- ---- classes and structures: c is the sort, r the reference after EXTENDS, base what it leads to
--- a class extends a class, a structure a structure
+-- "Types and bases": only what is of the same sort
 abbrev pub mayExtend : Sort → Sort → Bool
 mayExtend c b = isSort c b
 
@@ -286,12 +307,14 @@ domainTo16 s n p r w base =
 
 -- 17
 abbrev pub domain17 : Written → Option Def → Rule
-domain17 w base = rule 17 (w .place) (isFound base && not (fits (domainType (w .type) (orNoDef base .type)) (orNoDef base .type)))
+domain17 w base =
+    rule 17 (w .place) (isFound base && not (fits (domainType (w .type) (orNoDef base .type)) (orNoDef base .type)))
 
 unfoldable pub domainRules : State → Name → List (List ℕ) → Option Reference → Written → Option Def → List Rule
 domainRules s n p r w base = domainTo16 s n p r w base ++ (domain17 w base ∷ [])
 
--- ---- attributes: c is the open class, base the nearest inherited attribute of that name, target what a reference leads to
+-- ---- attributes: c is the open class, base the nearest inherited attribute of that name, target
+-- what a reference leads to
 abbrev pub isDomain : Use → Bool
 isDomain (inline t) = false
 isDomain (ofDomain l bs) = true
@@ -301,7 +324,7 @@ abbrev pub baseOfAttribute : Option Attribute → Option ℕ
 baseOfAttribute none = none
 baseOfAttribute (some a) = some (a .number)
 
--- MANDATORY holds if written, if the named domain has it, or if the base has it
+-- "Types and bases": MANDATORY is written here, or taken over from what is named or extended
 unfoldable pub newAttribute : State → Name → List (List ℕ) → Written → Option Attribute → Option Def → Attribute
 newAttribute s n p w base target = record {
   name = n;
@@ -333,7 +356,8 @@ withAttribute c a = record {
 abbrev pub mayType : Sort → Bool
 mayType b = isSort domain b || isSort D.struct b
 
--- 4 and 9 to 16; where an attribute is inherited and not EXTENDED, 9 comes first, so behind it an inherited one is the base
+-- 4 and 9 to 16; where an attribute is inherited and not EXTENDED, 9 comes first, so behind it an
+-- inherited one is the base
 unfoldable pub attributeTo16 : State → Def → Name → List (List ℕ) → Written → Option Attribute → Option Def → List Rule
 attributeTo16 s c n p w base target =
     let u = newAttribute s n p w base target .use-of in
@@ -362,7 +386,8 @@ descends (ofStructure l bs) (inline t) = false
 descends (ofStructure l bs) (ofDomain k cs) = false
 descends (ofStructure l bs) (ofStructure k cs) = isAmong (k .number) (l ∷ bs)
 
--- 17, unless a descendant is named, whose steps were judged where they were declared; 18, if another domain or structure is named
+-- 17, unless a descendant is named, whose steps were judged where they were declared; 18, if another
+-- domain or structure is named
 abbrev pub attribute17 : ℕ → Bool → Bool → Use → Use → Rule
 attribute17 p based names u b = rule 17 p (based && (not (names && descends u b) && not (fits (tyOf u) (tyOf b))))
 
@@ -375,7 +400,8 @@ attribute17To18 p based names u b = attribute17 p based names u b ∷ attribute1
 unfoldable pub attributeRules : State → Def → Name → List (List ℕ) → Written → Option Attribute → Option Def → List Rule
 attributeRules s c n p w base target =
     attributeTo16 s c n p w base target
-    ++ attribute17To18 (w .place) (isFound base) (isGiven (referenceIn (w .type))) (newAttribute s n p w base target .use-of) (orNoAttribute base .use-of)
+    ++ attribute17To18 (w .place) (isFound base) (isGiven (referenceIn (w .type)))
+    (newAttribute s n p w base target .use-of) (orNoAttribute base .use-of)
 
 -- the nearest inherited attribute of a name
 abbrev pub inheritedAs : Def → Name → Option Attribute
@@ -388,7 +414,8 @@ memberRules s n p w (some c) = attributeRules s c n p w (inheritedAs c n) (resol
 
 abbrev pub afterMember : State → Name → List (List ℕ) → Written → Option Def → State
 afterMember s n p w none = s
-afterMember s n p w (some c) = opened s (withAttribute c (newAttribute s n p w (inheritedAs c n) (resolved s (referenceIn (w .type)))))
+afterMember s n p w (some c) =
+    opened s (withAttribute c (newAttribute s n p w (inheritedAs c n) (resolved s (referenceIn (w .type)))))
 
 -- ---- END of what is open: the class, else the topic, else the model
 abbrev pub openName : State → Option Def → Option Def → Name

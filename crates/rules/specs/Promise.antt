@@ -1,5 +1,5 @@
--- Document 01, "What a reader may rely on": what is promised of checking a text, as a relation between the text, what is given beside it, the
--- answer, and the buffer at the end.
+-- Document 01, "What a reader may rely on": what is promised of checking a text, as a relation between the text, what
+-- is given beside it, the answer, and the buffer at the end.
 use mathlib.Core.Path.{_≡_}
 use mathlib.Core.List.{List}
 use Prim.Native.Nat.{ℕ}

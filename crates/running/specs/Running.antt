@@ -19,13 +19,14 @@ use Rattle.state.specs.Parts.{Ample}
 use Rattle.state.specs.declared.Judged.{Judged}
 use Rattle.state.specs.declared.Judged.the-variants.{Fine, Refused as Broken}
 use Rattle.state.specs.Keeping.{Kept}
-use Rattle.running.specs.declared.Answer.{Answer}
-use Rattle.running.specs.declared.Answer.the-variants.{Accepted, Refused}
+use Rattle.answers.specs.declared.Answer.{Answer}
+use Rattle.answers.specs.declared.Answer.the-variants.{Accepted, Refused}
 use Rattle.running.specs.declared.Stage.{Stage}
 use Rattle.running.specs.declared.Turn.{Turn}
 use Rattle.running.specs.declared.Turn.the-variants.{On, End}
 
--- w numbers laid out so suffice for a text of l bytes: every definition and attribute takes a byte of the text, and its bytes of the book
+-- w numbers laid out so suffice for a text of l bytes: every definition and attribute takes a byte of the text,
+-- and its bytes of the book
 abbrev pub Suffice : ℕ → Layout → ℕ → Type 0
 Suffice l y w =
     (st : code.State) → st .listing .layout ≡ y → st .listing .count + st .listing .total ≤ l
@@ -46,13 +47,16 @@ pub record Runs (t : List ℕ) (m : ℕ) (g : Stage) (o w hs : List ℕ) : Type 
 
 -- the outcome is a book, which stands at the front of the buffer, or a refusal
 abbrev pub Ended : List ℕ → ℕ → Answer → List ℕ → Type 0
-Ended t m (Accepted n k) o = (s : State) × (C.run t (C.lent m) ≡ C.kept s) × (n ≡ length (B.book s)) × (k ≡ B.definitions (B.records s)) × (n ≤ length o) × (take n o ≡ B.book s)
+Ended t m (Accepted n k) o =
+    (s : State) × (C.run t (C.lent m) ≡ C.kept s) × (n ≡ length (B.book s)) × (k ≡ B.definitions (B.records s))
+    × (n ≤ length o) × (take n o ≡ B.book s)
 Ended t m (Refused n p) o = C.answerOf (C.run t (C.lent m)) ≡ C.refusing n p
 
 -- after a unit: the next one, further on, or the end
 abbrev pub Turned : List ℕ → ℕ → Stage → Turn → List ℕ → List ℕ → List ℕ → Type 0
 Turned t m g (On h) o w hs =
-    Runs t m h o w hs × (g .next .place < h .next .place) × (h .next .place ≤ length t) × (h .state .listing .layout ≡ g .state .listing .layout)
+    Runs t m h o w hs × (g .next .place < h .next .place) × (h .next .place ≤ length t)
+    × (h .state .listing .layout ≡ g .state .listing .layout)
 Turned t m g (End a) o w hs = Ended t m a o
 
 -- judging's answer, where the next unit stands, and its first symbol

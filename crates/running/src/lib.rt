@@ -1,4 +1,6 @@
-// The loop over the units: each is read and judged, until one is refused or the text ends.
+// The loop over the units: each is read and judged, until one is refused or the text ends; and a text checked with what
+// is lent.
+use answers::Answer;
 use state::Judged;
 use state::Layout;
 use state::State;
@@ -7,19 +9,15 @@ use symbols::Symbol;
 use units::Step;
 use units::Where;
 ghost use mathlib.Core.Path.{_≡_};
-ghost use Prim.Native.Nat.{ℕ, _≤_};
+ghost use Prim.Native.Nat.{ℕ, _≤_, min};
 ghost use lib.ListN.{length, replicate};
 ghost use Rattle.rules.specs.Check.{isOver};
 ghost use Rattle.members.specs.Members.{Hand};
 ghost use Rattle.units.specs.Steps.{placeOf};
 ghost use Rattle.state.specs.Parts.{chainsIn, Loan};
+ghost use Rattle.answers.specs.Answers.{answerOf};
 ghost use Rattle.running.specs.Running.{Suffice, Runs, Ended, Turned, after as Running·after};
-
-// The book's length and the count of its definitions, or the number and the place of a refusal.
-pub enum Answer {
-    Accepted { length: usize, definitions: usize },
-    Refused { number: u8, place: usize },
-}
+ghost use Rattle.running.specs.Trying.{Tried};
 
 // Between two units: what is declared, where the next unit stands, and its first symbol.
 pub struct Stage {
@@ -83,10 +81,8 @@ fn step(
         Step::Unread { number, place } => Turn::End(Answer::Refused { number, place }),
         Step::Read { unit, at: w, next } => {
             if is_over(at) {
-                return Turn::End(Answer::Accepted {
-                    length: st.extent.used,
-                    definitions: st.extent.definitions,
-                });
+                let a = answers::accepted(st.extent);
+                return Turn::End(a);
             }
             let j = judge::judge(text, book, work, hand, scratch, tables, st, unit);
             after(j, w, next)
@@ -129,4 +125,33 @@ pub fn run(
             }
         }
     }
+}
+
+fn least(a: usize, b: usize) -> usize
+    ensures { λ r. ⌜ (r ≡ min a b) × (r ≤ a) × (r ≤ b) ⌝ }
+{
+    if a < b { a } else { b }
+}
+
+// The text is checked with the arrays that are lent, of which the chains are zero, and with the first `most` bytes of
+// the buffer.
+pub fn check_with(
+    text: &[u8],
+    book: &mut [u8],
+    most: usize,
+    work: &mut [u16],
+    hand: &mut [u32],
+    scratch: &mut [u8],
+    tables: &mut [u32],
+    layout: Layout,
+) -> Answer
+    requires { ⌜ Loan (length (now text)) most (length (now scratch)) (length (now tables)) ⌝ }
+    requires { ⌜ Suffice (length (now text)) layout (length (now work)) × Hand (now hand) ⌝ }
+    requires { ⌜ ((n : ℕ) × (chainsIn layout (now work) ≡ replicate n 0)) ⌝ }
+    ensures { λ r. ⌜ Tried (now (text .entry)) (length (now (book .entry))) most (answerOf r) (now (book .exit)) ⌝ }
+{
+    let m = least(book.len(), most);
+    let a = run(text, &mut book[..m], work, hand, scratch, tables, layout);
+    answers::finish(book, a);
+    a
 }

@@ -15,7 +15,6 @@ use Rattle.rules.specs.Judge.{Judged, ok, refused, judge}
 use Rattle.rules.specs.Check.{unitPlace, lent, capacity, room}
 use Rattle.enumerations.specs.Standing.{InText}
 use Rattle.names.specs.Index.{homeNumber}
-use Rattle.names.specs.References.{bytesOf}
 use Rattle.readers.specs.Reads.{nameCut}
 use Rattle.state.specs.declared.State as code
 use Rattle.state.specs.declared.Judged as code-judged
@@ -26,10 +25,10 @@ use Rattle.state.proofs.KeepLaws.{definitions-few}
 
 -- ---- names
 pub calls-cut : (t : List ℕ) (n : R.Name) → InText t n → Calls t (nameCut n) n
-calls-cut t n h = record { inside = h .fits; named = ap (λ (b : List ℕ). record { offset = n .offset; bytes = b }) (h .there) }
-
-pub bytes-cut : (t : List ℕ) (n : R.Name) → InText t n → bytesOf t (nameCut n) ≡ n .bytes
-bytes-cut t n h = h .there
+calls-cut t n h = record {
+  inside = h .fits;
+  named = ap (λ (b : List ℕ). record { offset = n .offset; bytes = b }) (h .there);
+}
 
 -- ---- numbers
 module _ (t : List ℕ) (s : State) (st : code.State) (o x z y hs : List ℕ) (k : Keeps t s st o x z y hs) where
@@ -52,7 +51,8 @@ module _ (t : List ℕ) (s : State) (st : code.State) (o x z y hs : List ℕ) (k
       home none h = omega arith
       home (some d) h = h .2
 
-      rows : (c : Option Def) → OpenIs t s st x hs c → 6 * st .listing .count + 11 * st .listing .total ≤ st .extent .used
+      rows : (c : Option Def) → OpenIs t s st x hs c
+          → 6 * st .listing .count + 11 * st .listing .total ≤ st .extent .used
       rows none h = h .2
       rows (some c) h = let w = h .1 in omega arith
 
@@ -68,20 +68,29 @@ module _ (m p : ℕ) (s : State) (h : m ≤ 65535) where
   room-within w = rw (whole, le-ltb m (length (book s)) w)
 
 -- ---- the answer: a rule of 4 and 7 to 18, 19, or the next state
-module _ (t : List ℕ) (s : State) (v : U.Unit) (o : List ℕ) (st : code.State) (r : code-judged.Judged) (o' x z y hs : List ℕ) where
-  answer : (j : Judged) → verdict s v o ≡ j → JudgedAs t j st r o' x z y hs → JudgedAs t (verdict s v o) st r o' x z y hs
+module _ (t : List ℕ) (s : State) (v : U.Unit) (o : List ℕ) (st : code.State)
+    (r : code-judged.Judged) (o' x z y hs : List ℕ) where
+  answer : (j : Judged) → verdict s v o ≡ j → JudgedAs t j st r o' x z y hs
+      → JudgedAs t (verdict s v o) st r o' x z y hs
   answer j e h = subst (λ (i : Judged). JudgedAs t i st r o' x z y hs) (sym e) h
 
-  pub judged-refused : (n p : ℕ) → judge s v ≡ refused n p → r ≡ Refused n p → JudgedAs t (verdict s v o) st r o' x z y hs
+  pub judged-refused : (n p : ℕ) → judge s v ≡ refused n p → r ≡ Refused n p
+      → JudgedAs t (verdict s v o) st r o' x z y hs
   judged-refused n p e h = answer (refused n p) (ap (room (lent (length o)) (unitPlace v)) e) h
 
-  pub judged-over : (s' : State) → judge s v ≡ ok s' → length o ≤ 65535 → length o < length (book s') → r ≡ Refused 19 (unitPlace v) → JudgedAs t (verdict s v o) st r o' x z y hs
-  judged-over s' e m w h = answer (refused 19 (unitPlace v)) (ap (room (lent (length o)) (unitPlace v)) e ∙ room-over (length o) (unitPlace v) s' m w) h
+  pub judged-over : (s' : State) → judge s v ≡ ok s' → length o ≤ 65535 → length o < length (book s')
+      → r ≡ Refused 19 (unitPlace v) → JudgedAs t (verdict s v o) st r o' x z y hs
+  judged-over s' e m w h = answer (refused 19 (unitPlace v))
+      (ap (room (lent (length o)) (unitPlace v)) e ∙ room-over (length o) (unitPlace v) s' m w) h
 
-  pub judged-fine : (s' : State) (st' : code.State) → judge s v ≡ ok s' → length o ≤ 65535 → st' .extent .used ≤ length o → r ≡ Fine st' → Keeps t s' st' o' x z y hs → Grows st st' → JudgedAs t (verdict s v o) st r o' x z y hs
+  pub judged-fine : (s' : State) (st' : code.State) → judge s v ≡ ok s' → length o ≤ 65535 → st' .extent .used ≤ length
+      o → r ≡ Fine st' → Keeps t s' st' o' x z y hs → Grows st st' → JudgedAs t (verdict s v o) st r o' x z y hs
   judged-fine s' st' e m w h k g =
       let u = k .used in
-      answer (ok s') (ap (room (lent (length o)) (unitPlace v)) e ∙ room-within (length o) (unitPlace v) s' m (omega arith)) (st', h, k, g)
+      answer (ok s') (ap (room (lent (length o)) (unitPlace v)) e
+      ∙ room-within (length o) (unitPlace v) s' m (omega arith)) (st', h, k, g)
 
-  pub judged-ok : (s' : State) → judge s v ≡ ok s' → length o ≤ 65535 → length (book s') ≤ length o → JudgedAs t (ok s') st r o' x z y hs → JudgedAs t (verdict s v o) st r o' x z y hs
-  judged-ok s' e m w h = answer (ok s') (ap (room (lent (length o)) (unitPlace v)) e ∙ room-within (length o) (unitPlace v) s' m w) h
+  pub judged-ok : (s' : State) → judge s v ≡ ok s' → length o ≤ 65535 → length (book s') ≤ length o
+      → JudgedAs t (ok s') st r o' x z y hs → JudgedAs t (verdict s v o) st r o' x z y hs
+  judged-ok s' e m w h =
+      answer (ok s') (ap (room (lent (length o)) (unitPlace v)) e ∙ room-within (length o) (unitPlace v) s' m w) h

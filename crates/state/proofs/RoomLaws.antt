@@ -44,7 +44,8 @@ module _ (st : State) (w : List ℕ) (h : Ample st (length w)) where
       let e = part-long (l .chains) (l .end) w (omega arith) in omega arith
 
 -- a layout with room for what a state has
-pub laid-out : (st : State) (y : Layout) (n : ℕ) → st .listing .layout ≡ y → y .index + (st .listing .count + 3) * definitionWidth ≤ y .rows → y .rows + (st .listing .total + 2) * attributeWidth ≤ y .chains
+pub laid-out : (st : State) (y : Layout) (n : ℕ) → st .listing .layout ≡ y → y .index + (st .listing .count + 3)
+    * definitionWidth ≤ y .rows → y .rows + (st .listing .total + 2) * attributeWidth ≤ y .chains
     → y .chains + (keys + keys + st .listing .count + 3) ≤ y .end → y .end ≤ n → Ample st n
 laid-out st y n e a b c d =
     let i = ap (λ (l : Layout). l .index) e in
@@ -61,10 +62,13 @@ zeros-part : (a e n : ℕ) → e ≤ n → take (e - a) (drop a (zeros n)) ≡ z
 zeros-part a e n h =
     let r : length (zeros n) ≡ n = length-replicate n 0 in
     let l : length (take (e - a) (drop a (zeros n))) ≡ e - a = part-long a e (zeros n) (omega arith) in
-    ext-getD 0 (take (e - a) (drop a (zeros n))) (zeros (e - a)) (l ∙ sym (length-replicate (e - a) 0)) (λ i k. at i (omega arith))
+    ext-getD 0 (take (e - a) (drop a (zeros n))) (zeros (e - a))
+    (l ∙ sym (length-replicate (e - a) 0)) (λ i k. at i (omega arith))
   where
     at : (i : ℕ) → i < e - a → getD (take (e - a) (drop a (zeros n))) i 0 ≡ getD (zeros (e - a)) i 0
-    at i k = getD-take (e - a) (drop a (zeros n)) i 0 k ∙ getD-drop a (zeros n) i 0 ∙ getD-replicate n (a + i) 0 0 (omega arith) ∙ sym (getD-replicate (e - a) i 0 0 k)
+    at i k =
+        getD-take (e - a) (drop a (zeros n)) i 0 k ∙ getD-drop a (zeros n) i 0
+        ∙ getD-replicate n (a + i) 0 0 (omega arith) ∙ sym (getD-replicate (e - a) i 0 0 k)
 
 pub chains-zero : (l : Layout) (n : ℕ) → l .end ≤ n → chainsIn l (replicate n 0) ≡ replicate (l .end - l .chains) 0
 unfolding chainsIn

@@ -38,7 +38,8 @@ pub record Tells (t : List ℕ) (ks : List Def) (ms : List Attribute) (p : ℕ) 
   pub own : d .own ≡ []
   pub few : nameCount (attributesOf d) ≤ 256
 
-module _ (t b : List ℕ) (ks : List Def) (ms : List Attribute) (p : ℕ) (d : Def) (w : NewDefinition) (h : Tells t ks ms p d w) (st : Stands b (w .place) (heading (d .sort) d)) where
+module _ (t b : List ℕ) (ks : List Def) (ms : List Attribute) (p : ℕ) (d : Def) (w : NewDefinition)
+    (h : Tells t ks ms p d w) (st : Stands b (w .place) (heading (d .sort) d)) where
   says : Says t d (definitionRow w)
   says = record {
     named = in-text-named t (d .name) (h .in-text);
@@ -77,4 +78,12 @@ module _ (t b : List ℕ) (ks : List Def) (ms : List Attribute) (p : ℕ) (d : D
 
   -- a class that opens
   pub open-row : OpenRow t b ks ms p d (definitionRow w)
-  open-row = record { says = says; based = based; within = let e = h .first in omega arith; own = no-more; unlike = no-own; few = h .few; stands = st }
+  open-row = record {
+    says = says;
+    based = based;
+    within = let e = h .first in omega arith;
+    own = no-more;
+    unlike = no-own;
+    few = h .few;
+    stands = st;
+  }

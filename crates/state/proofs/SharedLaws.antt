@@ -8,7 +8,7 @@ use native.Mathlib.Omega.{arith}
 use lib.ListN.{length}
 use lib.Dec.{ltb}
 use borrow.Author.Tests.{lt-ltb, eq-eqb, ne-eqb}
-use Rattle.types.proofs.RulingLaws.{Positive}
+use Rattle.ground.proofs.RulingLaws.{Positive}
 use Rattle.rules.specs.Names as R
 use Rattle.rules.specs.Grammar as G
 use Rattle.rules.specs.Declarations.{Def, Sort, sortNumber, isFound, State, resolve}
@@ -29,8 +29,8 @@ use Rattle.parts.specs.declared.Extends.the-variants.{Nothing, Base}
 use Rattle.parts.specs.Forms.{flagsOf, referenceOf, extendsOf}
 use Rattle.rules.specs.All.{AnyIs}
 use Rattle.wellformed.specs.Fairness.{FairReference}
-use Rattle.types.specs.Rulings.{rulingOf}
-use Rattle.types.specs.declared.Ruling.{Ruling}
+use Rattle.ground.specs.Rulings.{rulingOf}
+use Rattle.ground.specs.declared.Ruling.{Ruling}
 use Rattle.state.proofs.JudgeLaws.{calls-cut}
 
 -- ---- positions
@@ -42,12 +42,17 @@ entry-found l (suc i) h = let (a, e) = there l i (omega arith) in rw (e, lt-ltb 
 name-cut : (t : List ℕ) (n : R.Name) → InText t n → nameOf t (nameCut n) ≡ n
 name-cut t n h = calls-cut t n h .named
 
-pub reference-cut : (t : List ℕ) (b : G.Reference) (r : Reference) → r ≡ referenceOf b → FairReference t b → N.referenceOf t r ≡ b
+pub reference-cut : (t : List ℕ) (b : G.Reference) (r : Reference) → r ≡ referenceOf b
+    → FairReference t b → N.referenceOf t r ≡ b
 reference-cut t (G.bare n) r e f = rw e (ap (λ (a : R.Name). G.bare a) (name-cut t n f))
 reference-cut t (G.inModel m n) r e f = let u = name-cut t m (f .0) in let v = name-cut t n (f .1) in rw e (rw (u, v))
-reference-cut t (G.inTopic m p n) r e f = let u = name-cut t m (f .0) in let v = name-cut t p (f .1) in let w = name-cut t n (f .2) in rw e (rw (u, v, w))
+reference-cut t (G.inTopic m p n) r e f =
+    let u = name-cut t m (f .0) in
+    let v = name-cut t p (f .1) in
+    let w = name-cut t n (f .2) in rw e (rw (u, v, w))
 
-pub reference-inside : (t : List ℕ) (b : G.Reference) (r : Reference) → r ≡ referenceOf b → FairReference t b → AllInside t r
+pub reference-inside : (t : List ℕ) (b : G.Reference) (r : Reference) → r ≡ referenceOf b
+    → FairReference t b → AllInside t r
 reference-inside t (G.bare n) r e f = rw e (f .fits)
 reference-inside t (G.inModel m n) r e f = rw e (f .0 .fits, f .1 .fits)
 reference-inside t (G.inTopic m p n) r e f = rw e (f .0 .fits, f .1 .fits, f .2 .fits)
@@ -64,42 +69,53 @@ first-of (G.inTopic m p n) = refl
 
 -- ---- 10 to 12
 module _ (c : Sort) (b : G.Reference) (d : Def) (place : ℕ) (q : place ≡ firstPlace b) where
-  of-sort : ¬ (sortNumber c ≡ sortNumber (d .sort)) → record { number = 11; place = place } ≡ rulingOf (extendsRules c (some b) (some d))
+  of-sort : ¬ (sortNumber c ≡ sortNumber (d .sort))
+      → record { number = 11; place = place } ≡ rulingOf (extendsRules c (some b) (some d))
   unfolding extendsRules
   of-sort u = rw (q, ne-eqb (sortNumber c) (sortNumber (d .sort)) u)
 
-  of-final : sortNumber c ≡ sortNumber (d .sort) → d .final ≡ true → record { number = 12; place = place } ≡ rulingOf (extendsRules c (some b) (some d))
+  of-final : sortNumber c ≡ sortNumber (d .sort) → d .final ≡ true
+      → record { number = 12; place = place } ≡ rulingOf (extendsRules c (some b) (some d))
   unfolding extendsRules
   of-final u f = rw (q, eq-eqb (sortNumber c) (sortNumber (d .sort)) u, f)
 
-  of-fine : sortNumber c ≡ sortNumber (d .sort) → d .final ≡ false → record { number = 0; place = 0 } ≡ rulingOf (extendsRules c (some b) (some d))
+  of-fine : sortNumber c ≡ sortNumber (d .sort) → d .final ≡ false
+      → record { number = 0; place = 0 } ≡ rulingOf (extendsRules c (some b) (some d))
   unfolding extendsRules
   of-fine u f = rw (eq-eqb (sortNumber c) (sortNumber (d .sort)) u, f)
 
-module _ (t : List ℕ) (ks : List Def) (x : List ℕ) (count : ℕ) (k : Known t ks x count) (c : Sort) (b : G.Reference) (p place : ℕ) (w : p ≤ count) (q : place ≡ firstPlace b) where
+module _ (t : List ℕ) (ks : List Def) (x : List ℕ) (count : ℕ) (k : Known t ks x count) (c : Sort) (b : G.Reference)
+    (p place : ℕ) (w : p ≤ count) (q : place ≡ firstPlace b) where
   pub ruling-none : p ≡ 0 → record { number = 10; place = place } ≡ rulingOf (extendsRules c (some b) (entry ks p))
   unfolding extendsRules
   ruling-none z = rw (z, q)
 
-  module _ (z : ¬ (p ≡ 0)) (f : ℕ) (ef : (d : Def) → Says t d (row definitionWidth x p) → f ≡ sortNumber (d .sort)) (sort : ℕ) (es : sort ≡ sortNumber c) where
+  module _ (z : ¬ (p ≡ 0)) (f : ℕ) (ef : (d : Def) → Says t d (row definitionWidth x p) → f ≡ sortNumber (d .sort))
+      (sort : ℕ) (es : sort ≡ sortNumber c) where
     behind : (d : Def) × (entry ks p ≡ some d)
     behind = let a = k .all in entry-there ks p (omega arith) (omega arith)
 
-    at : (r : Ruling) → ((d : Def) → Says t d (row definitionWidth x p) → f ≡ sortNumber (d .sort) → r ≡ rulingOf (extendsRules c (some b) (some d))) → r ≡ rulingOf (extendsRules c (some b) (entry ks p))
+    at : (r : Ruling) → ((d : Def) → Says t d (row definitionWidth x p) → f ≡ sortNumber (d .sort)
+        → r ≡ rulingOf (extendsRules c (some b) (some d))) → r ≡ rulingOf (extendsRules c (some b) (entry ks p))
     at r h =
         let (d, e) = behind in
         let y = k .says p d e in
         h d y (ef d y) ∙ ap (λ (o : Option Def). rulingOf (extendsRules c (some b) o)) (sym e)
 
-    pub ruling-sort : ¬ (f ≡ sort) → record { number = 11; place = place } ≡ rulingOf (extendsRules c (some b) (entry ks p))
-    ruling-sort u = at (record { number = 11; place = place }) (λ d y g. of-sort c b d place q (λ v. u (g ∙ sym v ∙ sym es)))
+    pub ruling-sort : ¬ (f ≡ sort)
+        → record { number = 11; place = place } ≡ rulingOf (extendsRules c (some b) (entry ks p))
+    ruling-sort u = at (record { number = 11; place = place })
+        (λ d y g. of-sort c b d place q (λ v. u (g ∙ sym v ∙ sym es)))
 
     module _ (u : f ≡ sort) (v : Bool) (ev : (d : Def) → Says t d (row definitionWidth x p) → v ≡ d .final) where
-      pub ruling-final : v ≡ true → record { number = 12; place = place } ≡ rulingOf (extendsRules c (some b) (entry ks p))
-      ruling-final h = at (record { number = 12; place = place }) (λ d y g. of-final c b d place q (sym es ∙ sym u ∙ g) (sym (ev d y) ∙ h))
+      pub ruling-final : v ≡ true → record { number = 12; place = place }
+          ≡ rulingOf (extendsRules c (some b) (entry ks p))
+      ruling-final h = at (record { number = 12; place = place })
+          (λ d y g. of-final c b d place q (sym es ∙ sym u ∙ g) (sym (ev d y) ∙ h))
 
       pub ruling-fine : v ≡ false → record { number = 0; place = 0 } ≡ rulingOf (extendsRules c (some b) (entry ks p))
-      ruling-fine h = at (record { number = 0; place = 0 }) (λ d y g. of-fine c b d place q (sym es ∙ sym u ∙ g) (sym (ev d y) ∙ h))
+      ruling-fine h = at (record { number = 0; place = 0 })
+          (λ d y g. of-fine c b d place q (sym es ∙ sym u ∙ g) (sym (ev d y) ∙ h))
 
 -- all have a number
 pub extends-positive : (c : Sort) (b : Option G.Reference) (o : Option Def) → Positive (extendsRules c b o)
@@ -107,7 +123,8 @@ unfolding extendsRules
 extends-positive c b o = (omega arith, (omega arith, (omega arith, tt)))
 
 -- ---- EXTENDS
-pub extends-inside : (t : List ℕ) (b : Option G.Reference) (e : Extends) (r : Reference) → e ≡ Base r → e ≡ extendsOf b → AnyIs (FairReference t) b → AllInside t r
+pub extends-inside : (t : List ℕ) (b : Option G.Reference) (e : Extends) (r : Reference) → e ≡ Base r → e ≡ extendsOf b
+    → AnyIs (FairReference t) b → AllInside t r
 extends-inside t none e r p q f = let z : _≡_ {A = ℕ} 0 1 = cc in absurd (omega arith)
 extends-inside t (some b) e r p q f = let u : r ≡ referenceOf b = cc in reference-inside t b r u f
 
@@ -116,12 +133,16 @@ module _ (s : State) (c : Sort) where
   unfolding extendsRules
   nothing-ruled = refl
 
-  pub extends-nothing : (b : Option G.Reference) (e : Extends) → e ≡ Nothing → e ≡ extendsOf b → (record { number = 0; place = 0 } ≡ rulingOf (extendsRules c b (resolved s b))) × (none ≡ resolved s b)
+  pub extends-nothing : (b : Option G.Reference) (e : Extends) → e ≡ Nothing → e ≡ extendsOf b
+      → (record { number = 0; place = 0 } ≡ rulingOf (extendsRules c b (resolved s b))) × (none ≡ resolved s b)
   extends-nothing none e p q = (nothing-ruled, refl)
   extends-nothing (some b) e p q = let z : _≡_ {A = ℕ} 0 1 = cc in absurd (omega arith)
 
-  pub extends-base : (t : List ℕ) (b : Option G.Reference) (e : Extends) (r : Reference) → e ≡ Base r → e ≡ extendsOf b → AnyIs (FairReference t) b → (o : Option Def) → ((q : G.Reference) → r ≡ referenceOf q → FairReference t q → o ≡ resolve s q)
-      → (place : ℕ) → ((q : G.Reference) → r ≡ referenceOf q → place ≡ firstPlace q) → (u : Ruling) → ((q : G.Reference) → place ≡ firstPlace q → u ≡ rulingOf (extendsRules c (some q) o))
+  pub extends-base : (t : List ℕ) (b : Option G.Reference) (e : Extends) (r : Reference) → e ≡ Base r → e ≡ extendsOf b
+      → AnyIs (FairReference t) b → (o : Option Def)
+      → ((q : G.Reference) → r ≡ referenceOf q → FairReference t q → o ≡ resolve s q)
+      → (place : ℕ) → ((q : G.Reference) → r ≡ referenceOf q → place ≡ firstPlace q) → (u : Ruling)
+      → ((q : G.Reference) → place ≡ firstPlace q → u ≡ rulingOf (extendsRules c (some q) o))
       → (u ≡ rulingOf (extendsRules c b (resolved s b))) × (o ≡ resolved s b)
   extends-base t none e r p q f o ho place hp u hu = let z : _≡_ {A = ℕ} 0 1 = cc in absurd (omega arith)
   extends-base t (some b) e r p q f o ho place hp u hu =
@@ -134,8 +155,11 @@ module _ (t : List ℕ) (ks : List Def) (x : List ℕ) (count : ℕ) (k : Known 
   pub number-none : p ≡ 0 → noBase ≡ baseNumber (basesOf (entry ks p))
   number-none z = rw z
 
-  pub number-some : ¬ (p ≡ 0) → (m : ℕ) → ((d : Def) → Says t d (row definitionWidth x p) → m ≡ d .number) → m ≡ baseNumber (basesOf (entry ks p))
-  number-some z m em = let a = k .all in let (d, e) = entry-there ks p (omega arith) (omega arith) in rw e (em d (k .says p d e))
+  pub number-some : ¬ (p ≡ 0) → (m : ℕ) → ((d : Def) → Says t d (row definitionWidth x p) → m ≡ d .number)
+      → m ≡ baseNumber (basesOf (entry ks p))
+  number-some z m em =
+      let a = k .all in
+      let (d, e) = entry-there ks p (omega arith) (omega arith) in rw e (em d (k .says p d e))
 
 -- ---- properties
 module _ (l : List (List ℕ)) (p : Properties) (e : p ≡ flagsOf l) (r : Bool) where
@@ -145,8 +169,10 @@ module _ (l : List (List ℕ)) (p : Properties) (e : p ≡ flagsOf l) (r : Bool)
   pub mixed-twice : p .twice ≡ true → r ≡ true → r ≡ (hasTwice l || (isAbstract l && isFinal l))
   mixed-twice h g = mixed (rw (h, g))
 
-  pub mixed-abstract : p .twice ≡ false → p .«is_abstract» ≡ true → r ≡ p .«is_final» → r ≡ (hasTwice l || (isAbstract l && isFinal l))
+  pub mixed-abstract : p .twice ≡ false → p .«is_abstract» ≡ true → r ≡ p .«is_final»
+      → r ≡ (hasTwice l || (isAbstract l && isFinal l))
   mixed-abstract h a g = mixed (rw (h, a) g)
 
-  pub mixed-other : p .twice ≡ false → p .«is_abstract» ≡ false → r ≡ false → r ≡ (hasTwice l || (isAbstract l && isFinal l))
+  pub mixed-other : p .twice ≡ false → p .«is_abstract» ≡ false → r ≡ false
+      → r ≡ (hasTwice l || (isAbstract l && isFinal l))
   mixed-other h a g = mixed (rw (h, a) g)

@@ -34,18 +34,26 @@ pub record Calls (t : List ℕ) (m : Name) (n : R.Name) : Type 0 where
 
 abbrev pub TopicIs : List ℕ → Option Def → code.State → Type 0
 TopicIs t none st = st .context .home ≡ 0
-TopicIs t (some d) st = (st .context .home ≡ d .number + 1) × Calls t (st .context .topic) (d .name) × (st .context .home ≤ st .extent .records)
+TopicIs t (some d) st =
+    (st .context .home ≡ d .number + 1) × Calls t (st .context .topic) (d .name)
+    × (st .context .home ≤ st .extent .records)
 
--- no class is open: the attributes in hand are those of the definition `held`, if it is one; or the class c is, in the row behind the last
+-- no class is open: the attributes in hand are those of the definition `held`, if it is one; or the class c is, in
+-- the row behind the last
 abbrev pub OpenIs : List ℕ → State → code.State → List ℕ → List ℕ → Option Def → Type 0
 OpenIs t s st x hs none =
-    (st .context .open ≡ false) × (st .context .held ≤ st .listing .count) × (topicSize * st .listing .count + headSize * st .listing .total ≤ st .extent .used) × InHand (attributesIn s) hs (st .context .«in_hand») (entry (known (s .decls)) (st .context .held))
+    (st .context .open ≡ false) × (st .context .held ≤ st .listing .count)
+    × (topicSize * st .listing .count + headSize * st .listing .total ≤ st .extent .used)
+    × InHand (attributesIn s) hs (st .context .«in_hand») (entry (known (s .decls)) (st .context .held))
 OpenIs t s st x hs (some c) =
-    (st .context .open ≡ true) × (topicSize * st .listing .count + headSize * st .listing .total + topicSize ≤ st .extent .used) × Opened (attributesIn s) hs (st .context .«in_hand») c
-    × OpenRow t (book s) (known (s .decls)) (attributesIn s) (st .listing .count + 1) c (row definitionWidth x (st .listing .count + 1))
+    (st .context .open ≡ true)
+    × (topicSize * st .listing .count + headSize * st .listing .total + topicSize ≤ st .extent .used)
+    × Opened (attributesIn s) hs (st .context .«in_hand») c
+    × OpenRow t (book s) (known (s .decls)) (attributesIn s) (st .listing .count + 1) c
+    (row definitionWidth x (st .listing .count + 1))
 
--- the text t; the state s; what the code has of it: the book at the front of o, rows of definitions x, chains z, rows of attributes y, and the
--- attributes of the open class in the hand hs
+-- the text t; the state s; what the code has of it: the book at the front of o, rows of definitions x, chains z, rows
+-- of attributes y, and the attributes of the open class in the hand hs
 pub record Keeps (t : List ℕ) (s : State) (st : code.State) (o x z y hs : List ℕ) : Type 0 where
   pub used : st .extent .used ≡ length (book s)
   pub within : st .extent .used ≤ length o
@@ -74,7 +82,8 @@ pub record Grows (st st′ : code.State) : Type 0 where
   pub layout-stays : st′ .listing .layout ≡ st .listing .layout
 
 -- the answer of judging, and what the code then holds
-abbrev pub JudgedAs : List ℕ → J.Judged → code.State → code-judged.Judged → List ℕ → List ℕ → List ℕ → List ℕ → List ℕ → Type 0
+abbrev pub JudgedAs : List ℕ → J.Judged → code.State → code-judged.Judged → List ℕ → List ℕ
+    → List ℕ → List ℕ → List ℕ → Type 0
 JudgedAs t (J.ok s) st r o x z y hs = (st′ : code.State) × (r ≡ Fine st′) × Keeps t s st′ o x z y hs × Grows st st′
 JudgedAs t (J.refused n p) st r o x z y hs = r ≡ Refused n p
 

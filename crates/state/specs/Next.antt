@@ -40,7 +40,11 @@ begunBy st n = record {
 
 -- a topic or a domain
 abbrev pub declaredBy : State → ℕ → ℕ → ℕ → State
-declaredBy st b r d = record { extent = longer (st .extent) b r d; listing = oneDefinition (st .listing); context = st .context }
+declaredBy st b r d = record {
+  extent = longer (st .extent) b r d;
+  listing = oneDefinition (st .listing);
+  context = st .context;
+}
 
 -- in the topic n, by its number as a home
 abbrev pub inTopicBy : State → Name → ℕ → State

@@ -3,9 +3,9 @@ pub mod work;
 
 use ground::Name;
 use ground::Reference;
+use ground::Ruling;
 use parts::Extends;
 use parts::Properties;
-use types::Ruling;
 ghost use mathlib.Core.Path.{_≡_};
 ghost use mathlib.Core.Bool.{false, _&&_, _||_};
 ghost use mathlib.Core.Option.{Option, some};
@@ -23,12 +23,12 @@ ghost use Rattle.names.specs.References.{bytesOf, Inside, AllInside};
 ghost use Rattle.parts.specs.Forms.{flagsOf, referenceOf, extendsOf};
 ghost use Rattle.rules.specs.All.{AnyIs};
 ghost use Rattle.wellformed.specs.Fairness.{FairReference};
-ghost use Rattle.types.specs.Rulings.{rulingOf};
+ghost use Rattle.ground.specs.Rulings.{rulingOf};
 ghost use Rattle.rules.specs.Check.{nothing as Check·nothing};
 ghost use Rattle.state.specs.declared.Judged.the-variants.{Fine, Refused};
 ghost use Rattle.state.specs.Keeping.{Keeps, Kept};
 ghost use Rattle.book.specs.Sizes.{modelSize, headSize, classEndSize};
-ghost use Rattle.state.specs.Parts.{Ample};
+ghost use Rattle.state.specs.Parts.{Roomy, Ample};
 ghost use Rattle.state.specs.Next.{longer as Next·longer, oneDefinition, oneAttribute, holding as Next·holding};
 ghost use Rattle.state.specs.Next.{grownBy, begunBy, declaredBy, inTopicBy, openedBy, memberBy, closedBy};
 
@@ -321,18 +321,18 @@ impl State {
     }
 }
 
-// Whether a new name is taken.
-pub fn is_taken(text: &[u8], work: &[u16], st: State, name: Name) -> bool
-    requires { ⌜ Inside (now text) name × Ample st (length (now work)) ⌝ }
-    ensures { λ r. ⌜ ((s : D.State) (o hs : List ℕ) → Kept (now (text .entry)) s st o (now (work .entry)) hs
+// Whether a new name is taken, by the listing and the home of a state.
+pub fn is_taken(text: &[u8], work: &[u16], listing: Listing, home: usize, name: Name) -> bool
+    requires { ⌜ Inside (now text) name × Roomy listing (length (now work)) ⌝ }
+    ensures { λ r. ⌜ ((st : State) (s : D.State) (o hs : List ℕ) → st .listing ≡ listing → st .context .home ≡ home
+        → Kept (now (text .entry)) s st o (now (work .entry)) hs
         → r ≡ isFound (atHand s (bytesOf (now (text .entry)) name))) ⌝ }
 {
-    let i = st.listing.layout.index;
-    let r = st.listing.layout.rows;
-    let c = st.listing.layout.chains;
-    let e = st.listing.layout.end;
-    let home = st.context.home;
-    0 < names::find_bare(text, &work[i..r], &work[c..e], st.listing.count, home, name)
+    let i = listing.layout.index;
+    let r = listing.layout.rows;
+    let c = listing.layout.chains;
+    let e = listing.layout.end;
+    0 < names::find_bare(text, &work[i..r], &work[c..e], listing.count, home, name)
 }
 
 // What a reference names: its position, 0 for nothing.

@@ -10,21 +10,24 @@ use lib.ListN.{length, take, drop, getD, drop-of-length-le}
 use lib.Seq.{drop-cons}
 use borrow.Author.Tests.{eqb-true}
 use Rattle.rules.specs.Bytes.{part, is, isLetter, isDigit, isWordByte, isSeparator, span}
-use Rattle.rules.specs.Symbols.{Symbol, no-symbol, fault, mark, dots, symbol, isMarkByte, unsignedLength, quote, aWord, aNumber, aString, symbolOf, beyond, symbolAt}
+use Rattle.rules.specs.Symbols.{Symbol, no-symbol, fault, mark, dots, symbol, isMarkByte, unsignedLength, quote, aWord}
+use Rattle.rules.specs.Symbols.{aNumber, aString, symbolOf, beyond, symbolAt}
 use Rattle.rules.proofs.Tests.{split, or-split, or-fails, not-is, is-false, not-both}
 use Rattle.symbols.specs.Cut.{made, cut}
-use Rattle.symbols.specs.declared.Class.the-variants.{Letter, Digit, Sign, Quote, Comment, Punctuation, Separator, Other}
+use Rattle.symbols.specs.declared.Class.the-variants.{Letter, Digit, Sign, Quote, Comment, Punctuation, Separator}
+use Rattle.symbols.specs.declared.Class.the-variants.{Other}
 use Rattle.symbols.specs.declared.Class.{Class}
-use Rattle.symbols.specs.declared.Pass.{Pass}
-use Rattle.symbols.specs.declared.Pass.the-variants.{To, Open, None}
+use Rattle.scans.specs.declared.Pass.{Pass}
+use Rattle.scans.specs.declared.Pass.the-variants.{To, Open, None}
 use Rattle.ground.specs.Parts.{runEnd}
-use Rattle.symbols.specs.Scans.{classOf, signedCut, markCut, commentAt}
+use Rattle.scans.specs.Scans.{commentAt}
+use Rattle.symbols.specs.Begins.{classOf, signedCut, markCut}
 use Rattle.ground.proofs.TableLaws.{test}
 use Rattle.symbols.proofs.ClassLaws.{begins, beginsNone, class-first, isBetween, class-between}
 use Rattle.rules.proofs.PartLaws.{length-part}
-use Rattle.ground.proofs.ScanLaws.{next-byte}
-use Rattle.symbols.proofs.GapLaws.{onward, gap-separator, gap-comment, gap-none}
-use Rattle.symbols.proofs.NumberLaws.{stands}
+use Rattle.ground.proofs.ScanLaws.{next-byte, run-go}
+use Rattle.symbols.proofs.GapLaws.{onward, gap-run, gap-comment, gap-none}
+use Rattle.scans.proofs.EscapeLaws.{stands}
 
 pub symbol-end : (t : List ℕ) (i : ℕ) → length t ≤ i → cut (symbolAt t i) ≡ made 0 5 i 0
 unfolding symbolAt symbolOf
@@ -35,7 +38,8 @@ cut-cond true y z = refl
 cut-cond false y z = refl
 
 -- a byte that begins no word, no number and no string
-fails : (b : ℕ) → begins b ≡ false → (isLetter b ≡ false) × (isDigit b ≡ false) × ((is "+" b || is "-" b) ≡ false) × (is "\"" b ≡ false)
+fails : (b : ℕ) → begins b ≡ false
+    → (isLetter b ≡ false) × (isDigit b ≡ false) × ((is "+" b || is "-" b) ≡ false) × (is "\"" b ≡ false)
 fails b e =
     let (l, r) = or-fails {x = isLetter b} e in
     let (d, s) = or-fails {x = isDigit b} r in
@@ -52,7 +56,8 @@ mark-no-dot b e =
 -- ---- the symbol of b ∷ s, by b
 module _ (k : ℕ) (s : List ℕ) where
   abbrev signed : ℕ → Symbol
-  signed b = cond (isDigit (getD s 0 0)) (aNumber k (take (suc (unsignedLength s)) (b ∷ s))) (symbol (fault no-symbol) k [])
+  signed b =
+      cond (isDigit (getD s 0 0)) (aNumber k (take (suc (unsignedLength s)) (b ∷ s))) (symbol (fault no-symbol) k [])
 
   of-sign : (b : ℕ) → (b ≡ 43) ⊎ (b ≡ 45) → symbolOf k (b ∷ s) ≡ signed b
   unfolding symbolOf
@@ -66,7 +71,8 @@ module _ (k : ℕ) (s : List ℕ) where
   abbrev dotted : ℕ → Symbol
   dotted b = cond (is "." (getD s 0 0)) (symbol dots k (take 2 (b ∷ s))) (symbol (mark b) k (b ∷ []))
 
-  of-rest : (b : ℕ) → begins b ≡ false → symbolOf k (b ∷ s) ≡ cond (isMarkByte b) (symbol (mark b) k (b ∷ [])) (cond (is "." b) (dotted b) (symbol (fault no-symbol) k []))
+  of-rest : (b : ℕ) → begins b ≡ false → symbolOf k (b ∷ s)
+      ≡ cond (isMarkByte b) (symbol (mark b) k (b ∷ [])) (cond (is "." b) (dotted b) (symbol (fault no-symbol) k []))
   unfolding symbolOf
   of-rest b e = let (l, d, g, q) = fails b e in rw (l, d, g, q)
 
@@ -102,7 +108,8 @@ module _ (t : List ℕ) (i : ℕ) (h : i < length t) (l : getD t i 0 < 256) wher
       let e : (is "+" b || is "-" b) ≡ true = split {x = not (isDigit b)} (class-first b Sign l c) .1 in
       ap cut (here Sign c refl)
       ∙ rw (← next-byte t i, add-one i, n, drop-cons t i 0 h)
-      (ap cut (of-sign i (drop (suc i) t) b (at (or-split {x = is "+" b} e))) ∙ cut-cond (isDigit (getD (drop (suc i) t) 0 0)) _ _)
+      (ap cut (of-sign i (drop (suc i) t) b (at (or-split {x = is "+" b} e)))
+      ∙ cut-cond (isDigit (getD (drop (suc i) t) 0 0)) _ _)
     where
       at : (is "+" b ≡ true) ⊎ (is "-" b ≡ true) → (b ≡ 43) ⊎ (b ≡ 45)
       at (inl p) = inl (eqb-true _ _ p)
@@ -110,7 +117,8 @@ module _ (t : List ℕ) (i : ℕ) (h : i < length t) (l : getD t i 0 < 256) wher
 
   pub symbol-quote : classOf b ≡ Quote → symbolAt t i ≡ aString i (drop i t) (quote (drop (i + 1) t) 0 0)
   symbol-quote c =
-      here Quote c refl ∙ rw (add-one i, drop-cons t i 0 h) (of-quote i (drop (suc i) t) b (eqb-true b 34 (class-first b Quote l c)))
+      here Quote c refl
+      ∙ rw (add-one i, drop-cons t i 0 h) (of-quote i (drop (suc i) t) b (eqb-true b 34 (class-first b Quote l c)))
 
   dot-cut : cut (dotted i (drop (suc i) t) b) ≡ cond (is "." (getD t (i + 1) 0)) (made 4 5 i 2) (made b 5 i 1)
   dot-cut =
@@ -142,9 +150,11 @@ module _ (t : List ℕ) (i : ℕ) (h : i < length t) (l : getD t i 0 < 256) wher
   symbol-none c = ap cut (here Other c refl) ∙ none-cut (class-first b Other l c)
 
   -- a separator or a comment
-  pub symbol-apart : classOf b ≡ Separator → symbolAt t i ≡ symbolAt t (i + 1)
+  pub symbol-apart : classOf b ≡ Separator → symbolAt t i ≡ symbolAt t (runEnd isSeparator t (i + 1))
   unfolding symbolAt
-  symbol-apart c = ap (beyond t) (gap-separator t i h (class-first b Separator l c))
+  symbol-apart c =
+      ap (beyond t) (gap-run t (drop i t) i refl)
+      ∙ ap (symbolAt t) (run-go isSeparator t i h (class-first b Separator l c))
 
   pub symbol-behind : (p : Pass) → classOf b ≡ Comment → commentAt t i ≡ p → symbolAt t i ≡ beyond t (onward t i p)
   unfolding symbolAt
@@ -160,4 +170,5 @@ module _ (t : List ℕ) (i : ℕ) (h : i < length t) (l : getD t i 0 < 256) wher
   symbol-open c e = ap cut (symbol-behind Open c e)
 
   pub symbol-slash : classOf b ≡ Comment → commentAt t i ≡ None → cut (symbolAt t i) ≡ made 5 2 i 0
-  symbol-slash c e = ap cut (symbol-behind None c e) ∙ none-cut (split {x = not (isSeparator b)} (class-first b Comment l c) .1)
+  symbol-slash c e =
+      ap cut (symbol-behind None c e) ∙ none-cut (split {x = not (isSeparator b)} (class-first b Comment l c) .1)

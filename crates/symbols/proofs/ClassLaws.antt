@@ -12,8 +12,9 @@ use Rattle.rules.specs.Bytes.{is, isLetter, isDigit, isSeparator}
 use Rattle.rules.specs.Symbols.{isMarkByte}
 use Rattle.rules.proofs.Tests.{split, or-fails, not-is}
 use Rattle.symbols.specs.declared.Class.{Class}
-use Rattle.symbols.specs.declared.Class.the-variants.{Letter, Digit, Sign, Quote, Comment, Punctuation, Separator, Other}
-use Rattle.symbols.specs.Scans.{classOf}
+use Rattle.symbols.specs.declared.Class.the-variants.{Letter, Digit, Sign, Quote, Comment, Punctuation, Separator}
+use Rattle.symbols.specs.declared.Class.the-variants.{Other}
+use Rattle.symbols.specs.Begins.{classOf}
 use Rattle.ground.proofs.TableLaws.{every, on, Beside, isKeyOf, beside}
 
 -- ---- classes as numbers
@@ -28,7 +29,8 @@ rank Separator = 6
 rank Other = 7
 
 abbrev ranked : ℕ → Class
-ranked n = cond (eqb n 0) Letter (cond (eqb n 1) Digit (cond (eqb n 2) Sign (cond (eqb n 3) Quote (cond (eqb n 4) Comment (cond (eqb n 5) Punctuation (cond (eqb n 6) Separator Other))))))
+ranked n = cond (eqb n 0) Letter (cond (eqb n 1) Digit (cond (eqb n 2) Sign
+    (cond (eqb n 3) Quote (cond (eqb n 4) Comment (cond (eqb n 5) Punctuation (cond (eqb n 6) Separator Other))))))
 
 ranked-rank : (k : Class) → ranked (rank k) ≡ k
 ranked-rank Letter = refl
@@ -47,7 +49,8 @@ abbrev pub has : List (List ℕ) → Class → ℕ → Bool
 has l k b = isKeyOf b l || eqb (rank k) (rank (classOf b))
 
 -- the bytes of a range that are no keys have one class
-pub class-is : (l : List (List ℕ)) (k : Class) (lo n : ℕ) → every (has l k) lo n ≡ true → (b : ℕ) → Beside l b → lo ≤ b → b < lo + n → k ≡ classOf b
+pub class-is : (l : List (List ℕ)) (k : Class) (lo n : ℕ) → every (has l k) lo n ≡ true → (b : ℕ) → Beside l b
+    → lo ≤ b → b < lo + n → k ≡ classOf b
 class-is l k lo n t b r h j =
     let p : has l k b ≡ true = on (has l k) lo n t b h j in
     same-rank k b (rw (beside b l r) at p)
@@ -60,9 +63,11 @@ keysHave k (x ∷ ks) = let r = keysHave k ks in eqb (rank k) (rank (classOf x))
 pub class-key : (k : Class) (ks : List ℕ) (b : ℕ) → keysHave k ks ≡ true → OneOf ks b → k ≡ classOf b
 class-key k [] b t o = absurd o
 class-key k (x ∷ []) b t o = rw o (same-rank k x (split {x = eqb (rank k) (rank (classOf x))} t .0))
-class-key k (x ∷ y ∷ ks) b t o = at (split {x = eqb (rank k) (rank (classOf x))} t) o (λ u v. class-key k (y ∷ ks) b u v)
+class-key k (x ∷ y ∷ ks) b t o = at (split {x = eqb (rank k) (rank (classOf x))} t) o
+    (λ u v. class-key k (y ∷ ks) b u v)
   where
-    at : (eqb (rank k) (rank (classOf x)) ≡ true) × (keysHave k (y ∷ ks) ≡ true) → (b ≡ x) ⊎ OneOf (y ∷ ks) b → (keysHave k (y ∷ ks) ≡ true → OneOf (y ∷ ks) b → k ≡ classOf b) → k ≡ classOf b
+    at : (eqb (rank k) (rank (classOf x)) ≡ true) × (keysHave k (y ∷ ks) ≡ true) → (b ≡ x) ⊎ OneOf (y ∷ ks) b
+        → (keysHave k (y ∷ ks) ≡ true → OneOf (y ∷ ks) b → k ≡ classOf b) → k ≡ classOf b
     at s (inl e) go = rw e (same-rank k x (s .0))
     at s (inr r) go = go (s .1) r
 
@@ -100,10 +105,13 @@ isBetween Separator = true
 isBetween Other = false
 
 -- no other class has the first byte of a separator or a comment
-pub class-between : (b : ℕ) (k : Class) → b < 256 → classOf b ≡ k → isBetween k ≡ false → (isSeparator b ≡ false) × (is "!" b ≡ false) × (is "/" b ≡ false)
+pub class-between : (b : ℕ) (k : Class) → b < 256 → classOf b ≡ k → isBetween k ≡ false
+    → (isSeparator b ≡ false) × (is "!" b ≡ false) × (is "/" b ≡ false)
 unfolding classOf
 class-between b k h e f =
-    let t : (isBetween k || not (isSeparator b || (is "!" b || is "/" b))) ≡ true = rw e at (on (λ x. isBetween (classOf x) || not (isSeparator x || (is "!" x || is "/" x))) 0 256 refl b (omega arith) (omega arith)) in
+    let t : (isBetween k || not (isSeparator b || (is "!" b || is "/" b)))
+    ≡ true = rw e at (on (λ x. isBetween (classOf x) || not (isSeparator x || (is "!" x || is "/" x))) 0 256 refl b
+    (omega arith) (omega arith)) in
     let (s, r) = or-fails {x = isSeparator b} (not-is (rw f at t)) in
     let (x, y) = or-fails {x = is "!" b} r in
     (s, x, y)

@@ -1,5 +1,6 @@
--- For the floors above: what holds of every symbol of a text, and the tests of the rules as tests of a symbol's code (a mark is its byte).
--- The place and the end of `symbolAt t i` lie in the text by `next-lies` of the rules; they are those of its cut as they stand.
+-- For the floors above: what holds of every symbol of a text, and the tests of the rules as tests of a symbol's code (a
+-- mark is its byte). The place and the end of `symbolAt t i` lie in the text by `next-lies` of the rules; they are
+-- those of its cut as they stand.
 use mathlib.Core.Path.{_≡_, refl, sym, ap, _∙_}
 use mathlib.Core.Logic.{_⊎_, inl, inr}
 use mathlib.Core.Bool.{Bool, true, false, cond, _&&_, _||_}
@@ -11,7 +12,10 @@ use lib.Dec.{eqb, leb, ltb}
 use borrow.Author.Tests.{ltb-false, leb-true, eqb-true, eq-eqb, ne-eqb}
 use Rattle.rules.specs.Bytes.{same, isOneOf, is, from, isLetter, isDigit, isWordByte, span}
 use Rattle.rules.specs.Reserved.{forms, table}
-use Rattle.rules.specs.Symbols.{Fault, Kind, word, name, number, quoted, dots, stop, mark, fault, Symbol, symbol, tag, Gap, upTo, open-at, apart, gap, Quote, closed, bad, endless, quote, unsignedLength, digitCount, wordKind, numberKind, aWord, aNumber, aString, isMarkByte, symbolOf, beyond, symbolAt}
+use Rattle.rules.specs.Symbols.{Fault, Kind, word, name, number, quoted, dots, stop, mark, fault, Symbol, symbol, tag}
+use Rattle.rules.specs.Symbols.{Gap, upTo, open-at, apart, gap, Quote, closed, bad, endless, quote, unsignedLength}
+use Rattle.rules.specs.Symbols.{digitCount, wordKind, numberKind, aWord, aNumber, aString, isMarkByte, symbolOf, beyond}
+use Rattle.rules.specs.Symbols.{symbolAt}
 use Rattle.rules.proofs.Tests.{never, alike, or-split, split}
 use Rattle.rules.proofs.ByteLaws.{same-eq, same-refl}
 use Rattle.rules.proofs.SymbolLaws.{either}
@@ -44,7 +48,8 @@ word-sound : (b : ℕ) (s : List ℕ) → isLetter b ≡ true → span isWordByt
 word-sound b s l q =
     either (λ k. Sound k w) (ltb 255 (length w)) (λ _. tt)
     (λ e. either (λ k. Sound k w) (isOneOf w forms) (λ f. f)
-    (λ f. either (λ k. Sound k w) (isOneOf w table) (λ _. tt) (λ g. (ltb-false 255 (length w) e, let r = eq-eqb (span isWordByte s) (length s) q in rw (l, r, e, f, g)))))
+    (λ f. either (λ k. Sound k w) (isOneOf w table) (λ _. tt)
+    (λ g. (ltb-false 255 (length w) e, let r = eq-eqb (span isWordByte s) (length s) q in rw (l, r, e, f, g)))))
   where
     w : List ℕ
     w = b ∷ s
@@ -56,7 +61,9 @@ mark-sound : (b : ℕ) → isMarkByte b ≡ true → (40 ≤ b) × (b ≤ 61)
 mark-sound b e = one (or-split {x = from "(" "*" b} e)
   where
     range : (c d : ℕ) → 40 ≤ c → d ≤ 61 → (leb c b && leb b d) ≡ true → (40 ≤ b) × (b ≤ 61)
-    range c d h l p = let (x, y) = split {x = leb c b} p in (omega (arith, leb-true c b x), omega (arith, leb-true b d y))
+    range c d h l p =
+        let (x, y) = split {x = leb c b} p in
+        (omega (arith, leb-true c b x), omega (arith, leb-true b d y))
 
     three : (from ":" ";" b ≡ true) ⊎ (is "=" b ≡ true) → (40 ≤ b) × (b ≤ 61)
     three (inl p) = range 58 59 (omega arith) (omega arith) p
@@ -93,13 +100,16 @@ module _ (t : List ℕ) (k : ℕ) where
   of-cut [] e = record { stands = refl; sound = tt }
   of-cut (b ∷ s) e =
       let marked : (40 ≤ b) × (b ≤ 61) → Cut t (symbol (mark b) k (b ∷ [])) = λ h. rw e at (first-cut (mark b) 1 h) in
-      either (Cut t) (isLetter b) (λ l. rw e at (word-cut (suc (span isWordByte s)) (rw e (word-sound b (take (span isWordByte s) s) l (span-run isWordByte s)))))
+      either (Cut t) (isLetter b) (λ l. rw e at
+      (word-cut (suc (span isWordByte s)) (rw e (word-sound b (take (span isWordByte s) s) l (span-run isWordByte s)))))
       (λ _. either (Cut t) (isDigit b) (λ _. rw e at (number-cut (unsignedLength (b ∷ s))))
-      (λ _. either (Cut t) ((is "+" b || is "-" b) && isDigit (getD s 0 0)) (λ _. rw e at (number-cut (suc (unsignedLength s))))
+      (λ _. either (Cut t) ((is "+" b || is "-" b) && isDigit (getD s 0 0))
+      (λ _. rw e at (number-cut (suc (unsignedLength s))))
       (λ _. either (Cut t) (is "\"" b) (λ _. rw e at (string-cut (quote s 0 0)))
       (λ _. either (Cut t) (isMarkByte b) (λ m. marked (mark-sound b m))
       (λ _. either (Cut t) (is "." b)
-      (λ p. either (Cut t) (is "." (getD s 0 0)) (λ _. rw e at (first-cut dots 2 tt)) (λ _. let q = eqb-true b 46 p in marked (omega arith, omega arith)))
+      (λ p. either (Cut t) (is "." (getD s 0 0)) (λ _. rw e at (first-cut dots 2 tt))
+      (λ _. let q = eqb-true b 46 p in marked (omega arith, omega arith)))
       (λ _. empty-cut _ _))))))
 
 beyond-cut : (t : List ℕ) (g : Gap) → Cut t (beyond t g)
@@ -123,7 +133,8 @@ mark-of m h l dots b = neither 4 (7 + m) 4 m (λ e. omega arith) (λ e. omega ar
 mark-of m h l stop b = neither 5 (7 + m) 0 m (λ e. omega arith) (λ e. omega arith)
 mark-of m h l (fault f) b = neither 6 (7 + m) 5 m (λ e. omega arith) (λ e. omega arith)
 mark-of m h l (mark x) b =
-    alike (λ p. let e = eqb-true (7 + x) (7 + m) p in eq-eqb x m (omega arith)) (λ p. let e = eqb-true x m p in eq-eqb (7 + x) (7 + m) (omega arith))
+    alike (λ p. let e = eqb-true (7 + x) (7 + m) p in eq-eqb x m (omega arith))
+    (λ p. let e = eqb-true x m p in eq-eqb (7 + x) (7 + m) (omega arith))
 
 -- name 1, number 2, quoted 3, dots 4
 pub kind-of : (n : ℕ) → 0 < n → n < 5 → (k : Kind) (b : List ℕ) → Sound k b → eqb (tag k) n ≡ eqb (codeOf k b) n
@@ -162,9 +173,11 @@ position-same b w (v ∷ l) h e =
     go (rw q at h) (omega arith)))
 
 -- a word of the forms is 64 and its position
-pub word-of : (w : List ℕ) (k : Kind) (b : List ℕ) → Sound k b → (eqb (tag k) 0 && same b w) ≡ eqb (codeOf k b) (64 + position w forms)
+pub word-of : (w : List ℕ) (k : Kind) (b : List ℕ) → Sound k b
+    → (eqb (tag k) 0 && same b w) ≡ eqb (codeOf k b) (64 + position w forms)
 word-of w word b s =
-    alike (λ p. eq-eqb (64 + position b forms) (64 + position w forms) (ap (λ (x : List ℕ). 64 + position x forms) (same-eq b w p)))
+    alike (λ p.
+    eq-eqb (64 + position b forms) (64 + position w forms) (ap (λ (x : List ℕ). 64 + position x forms) (same-eq b w p)))
     (λ p. let e = eqb-true (64 + position b forms) (64 + position w forms) p in position-same b w forms s (omega arith))
 word-of w name b s = sym (ne-eqb 1 (64 + position w forms) (λ e. omega arith))
 word-of w number b s = sym (ne-eqb 2 (64 + position w forms) (λ e. omega arith))
@@ -172,4 +185,5 @@ word-of w quoted b s = sym (ne-eqb 3 (64 + position w forms) (λ e. omega arith)
 word-of w dots b s = sym (ne-eqb 4 (64 + position w forms) (λ e. omega arith))
 word-of w stop b s = sym (ne-eqb 0 (64 + position w forms) (λ e. omega arith))
 word-of w (fault f) b s = sym (ne-eqb 5 (64 + position w forms) (λ e. omega arith))
-word-of w (mark x) b s = rw (ne-eqb (7 + x) 0 (λ e. omega arith)) (sym (ne-eqb x (64 + position w forms) (λ e. omega arith)))
+word-of w (mark x) b s =
+    rw (ne-eqb (7 + x) 0 (λ e. omega arith)) (sym (ne-eqb x (64 + position w forms) (λ e. omega arith)))

@@ -6,15 +6,15 @@ use Prim.Native.Nat.{ℕ, suc, _+_, _≤_, _<_}
 use native.Mathlib.Nat.{add-zero}
 use native.Mathlib.Numerals.{add-one}
 use native.Mathlib.Omega.{arith}
-use lib.ListN.{length, drop, getD, drop-of-length-le}
+use lib.ListN.{length, drop, getD}
 use lib.Seq.{drop-cons}
 use Rattle.rules.specs.Bytes.{is, isLineEnd, isSeparator, span}
 use Rattle.rules.specs.Symbols.{apart, line, closing, opening, inside, Gap, upTo, open-at, gap}
 use Rattle.rules.proofs.Tests.{never, or-r}
 use Rattle.rules.proofs.SymbolLaws.{either}
-use Rattle.symbols.specs.declared.Pass.{Pass}
-use Rattle.symbols.specs.declared.Pass.the-variants.{To, Open, None}
-use Rattle.symbols.specs.Scans.{notLineEnd, twoAt, closeOf, commentAt}
+use Rattle.scans.specs.declared.Pass.{Pass}
+use Rattle.scans.specs.declared.Pass.the-variants.{To, Open, None}
+use Rattle.scans.specs.Scans.{notLineEnd, twoAt, closeOf, commentAt}
 use Rattle.ground.proofs.TableLaws.{test, second}
 use Rattle.ground.proofs.ScanLaws.{drop-tail, next-byte}
 
@@ -24,7 +24,16 @@ onward t o (To j) = gap (drop j t) apart j
 onward t o Open = open-at o
 onward t o None = upTo o
 
-gap-line : (t s : List ℕ) (k : ℕ) → drop k t ≡ s → gap s line k ≡ gap (drop (k + span notLineEnd s) t) apart (k + span notLineEnd s)
+pub gap-run : (t s : List ℕ) (k : ℕ) → drop k t ≡ s
+    → gap s apart k ≡ gap (drop (k + span isSeparator s) t) apart (k + span isSeparator s)
+gap-run t [] k e = rw (add-zero k, e)
+gap-run t (b ∷ s) k e =
+    let m : k + suc (span isSeparator s) ≡ suc k + span isSeparator s = omega arith in
+    let go = gap-run t s (suc k) (drop-tail t k e) in
+    test (isSeparator b) (λ f. rw (f, m) go) (λ f. rw (f, add-zero k, e, f))
+
+gap-line : (t s : List ℕ) (k : ℕ) → drop k t ≡ s
+    → gap s line k ≡ gap (drop (k + span notLineEnd s) t) apart (k + span notLineEnd s)
 gap-line t [] k e = rw (add-zero k, e)
 gap-line t (b ∷ s) k e =
     let m : k + suc (span notLineEnd s) ≡ suc k + span notLineEnd s = omega arith in
@@ -33,7 +42,8 @@ gap-line t (b ∷ s) k e =
     (λ f. let g : isSeparator b ≡ true = or-r (is " " b) (or-r (is "\t" b) f) in rw (f, add-zero k, e, g))
     (λ f. rw (f, m) go)
 
-gap-closing : (t s : List ℕ) (k : ℕ) → drop k t ≡ s → is "/" (getD s 0 0) ≡ true → gap s closing k ≡ gap (drop (suc k) t) apart (suc k)
+gap-closing : (t s : List ℕ) (k : ℕ) → drop k t ≡ s → is "/" (getD s 0 0) ≡ true
+    → gap s closing k ≡ gap (drop (suc k) t) apart (suc k)
 gap-closing t [] k e p = never p
 gap-closing t (b ∷ s) k e p = rw (drop-tail t k e)
 
@@ -41,18 +51,17 @@ gap-inside : (t s : List ℕ) (o k : ℕ) → drop k t ≡ s → gap s (inside o
 gap-inside t [] o k e = refl
 gap-inside t (b ∷ s) o k e =
     let go = gap-inside t s o (suc k) (drop-tail t k e) in
-    test (is "*" b && is "/" (getD s 0 0)) (λ f. rw f (gap-closing t s (suc k) (drop-tail t k e) (second (is "*" b) f))) (λ f. rw f go)
+    test (is "*" b && is "/" (getD s 0 0))
+    (λ f. rw f (gap-closing t s (suc k) (drop-tail t k e) (second (is "*" b) f))) (λ f. rw f go)
 
-gap-opening : (t s : List ℕ) (o k : ℕ) → drop k t ≡ s → is "*" (getD s 0 0) ≡ true → gap s (opening o) k ≡ onward t o (closeOf (drop (suc k) t) (suc k))
+gap-opening : (t s : List ℕ) (o k : ℕ) → drop k t ≡ s → is "*" (getD s 0 0) ≡ true
+    → gap s (opening o) k ≡ onward t o (closeOf (drop (suc k) t) (suc k))
 gap-opening t [] o k e p = never p
 gap-opening t (b ∷ s) o k e p = rw (drop-tail t k e) (gap-inside t s o (suc k) (drop-tail t k e))
 
 module _ (t : List ℕ) (i : ℕ) (h : i < length t) where
   abbrev b : ℕ
   b = getD t i 0
-
-  pub gap-separator : isSeparator b ≡ true → gap (drop i t) apart i ≡ gap (drop (i + 1) t) apart (i + 1)
-  gap-separator f = rw (drop-cons t i 0 h, f, add-one i)
 
   abbrev Passes : Type 0
   Passes = gap (drop i t) apart i ≡ onward t i (commentAt t i)
@@ -62,29 +71,15 @@ module _ (t : List ℕ) (i : ℕ) (h : i < length t) where
   gap-comment f =
       let two : i + 2 ≡ suc (suc i) = omega arith in
       let e = drop-cons t i 0 h in
-      test {A = Passes} (twoAt t i 33 33) (λ g. rw (e, next-byte t i, f, g, add-one i) (gap-line t (drop (suc i) t) (suc i) refl))
+      test {A = Passes} (twoAt t i 33 33)
+      (λ g. rw (e, next-byte t i, f, g, add-one i) (gap-line t (drop (suc i) t) (suc i) refl))
       (λ g. test {A = Passes} (twoAt t i 47 42)
-      (λ k. rw (e, next-byte t i, f, g, k, two) (gap-opening t (drop (suc i) t) i (suc i) refl (rw (next-byte t i) (second (is "/" b) k))))
+      (λ k. rw (e, next-byte t i, f, g, k, two)
+      (gap-opening t (drop (suc i) t) i (suc i) refl (rw (next-byte t i) (second (is "/" b) k))))
       (λ k. rw (e, next-byte t i, f, g, k)))
 
   pub gap-none : isSeparator b ≡ false → is "!" b ≡ false → is "/" b ≡ false → gap (drop i t) apart i ≡ upTo i
   gap-none f g k = rw (drop-cons t i 0 h, f, g, k)
-
-pub gap-done : (t : List ℕ) (i : ℕ) → length t ≤ i → gap (drop i t) apart i ≡ upTo i
-gap-done t i h = rw (drop-of-length-le t h)
-
--- ---- the first `*/`
-module _ (t : List ℕ) (i : ℕ) where
-  pub close-go : i < length t → twoAt t i 42 47 ≡ false → closeOf (drop i t) i ≡ closeOf (drop (i + 1) t) (i + 1)
-  close-go h e = rw (add-one i, drop-cons t i 0 h, next-byte t i, e)
-
-  pub close-stop : i < length t → twoAt t i 42 47 ≡ true → closeOf (drop i t) i ≡ To (i + 2)
-  close-stop h e =
-      let n : i + 2 ≡ suc (suc i) = omega arith in
-      rw (n, drop-cons t i 0 h, next-byte t i, e)
-
-  pub close-done : length t ≤ i → closeOf (drop i t) i ≡ Open
-  close-done h = rw (drop-of-length-le t h)
 
 -- ---- a comment runs forward
 abbrev Ahead : ℕ → Pass → Type 0
@@ -94,7 +89,8 @@ Ahead i None = Unit {0}
 
 close-ahead : (o : ℕ) (s : List ℕ) (k : ℕ) → o ≤ k → Ahead o (closeOf s k)
 close-ahead o [] k h = tt
-close-ahead o (b ∷ s) k h = either (Ahead o) (is "*" b && is "/" (getD s 0 0)) (λ _. omega arith) (λ _. close-ahead o s (suc k) (omega arith))
+close-ahead o (b ∷ s) k h =
+    either (Ahead o) (is "*" b && is "/" (getD s 0 0)) (λ _. omega arith) (λ _. close-ahead o s (suc k) (omega arith))
 
 ahead : (t : List ℕ) (i : ℕ) → Ahead i (commentAt t i)
 unfolding commentAt

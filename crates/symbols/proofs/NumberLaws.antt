@@ -6,19 +6,21 @@ use Prim.Native.Nat.{ℕ, suc, _+_, _-_, _≤_, _<_}
 use native.Mathlib.Nat.{zero-add}
 use native.Mathlib.Numerals.{add-one}
 use native.Mathlib.Omega.{arith}
-use lib.ListN.{length, take, drop, getD, length-drop, List·getD-eq-default}
+use lib.ListN.{length, take, drop, getD, length-drop}
 use lib.Seq.{drop-cons, drop-drop, getD-drop, take-add}
 use lib.Dec.{ltb}
-use borrow.Author.Tests.{eqb-true, ltb-true, ltb-false}
+use borrow.Author.Tests.{eqb-true}
 use Rattle.rules.specs.Bytes.{part, is, isDigit, span}
 use Rattle.rules.specs.Symbols.{unsignedLength, digitCount, aNumber}
 use Rattle.rules.proofs.Tests.{split, not-both}
 use Rattle.symbols.specs.Cut.{cut}
 use Rattle.ground.specs.Parts.{runEnd}
-use Rattle.symbols.specs.Scans.{fractionEnd, numberCut}
+use Rattle.scans.specs.Scans.{fractionEnd}
+use Rattle.symbols.specs.Begins.{numberCut}
 use Rattle.ground.proofs.TableLaws.{test}
 use Rattle.rules.proofs.PartLaws.{length-part}
 use Rattle.ground.proofs.ScanLaws.{span-le}
+use Rattle.scans.proofs.EscapeLaws.{stands}
 
 count-append : (x y : List ℕ) → digitCount (x ++ y) ≡ digitCount x + digitCount y
 count-append [] y = sym (omega arith)
@@ -27,10 +29,6 @@ count-append (b ∷ x) y = let go = count-append x y in test (isDigit b) (λ e. 
 count-run : (s : List ℕ) → digitCount (take (span isDigit s) s) ≡ span isDigit s
 count-run [] = refl
 count-run (b ∷ s) = let go = count-run s in test (isDigit b) (λ e. rw (e, e, go)) (λ e. rw e)
-
--- a byte that is not 0 stands in the text
-pub stands : (t : List ℕ) (i : ℕ) → ¬ (getD t i 0 ≡ 0) → i < length t
-stands t i h = test (ltb i (length t)) (λ e. ltb-true _ _ e) (λ e. absurd (h (List·getD-eq-default t 0 (ltb-false _ _ e))))
 
 -- the number's bytes, as the code has them
 pub number-cut : (at n d : ℕ) (b : List ℕ) → length b ≡ n → digitCount b ≡ d → cut (aNumber at b) ≡ numberCut at n d
@@ -46,18 +44,25 @@ module _ (t : List ℕ) (at sign : ℕ) where
   unsigned : unsignedLength (drop (at + sign) t) ≡ fractionEnd t (runEnd isDigit t (at + sign)) - (at + sign)
   unsigned =
       let m : at + sign + suc digits ≡ at + sign + digits + 1 = omega arith in
-      rw (getD-drop (at + sign) t digits 0, getD-drop (at + sign) t (suc digits) 0, drop-drop (suc digits) (at + sign) t, m)
+      rw (
+        getD-drop (at + sign) t digits 0,
+        getD-drop (at + sign) t (suc digits) 0,
+        drop-drop (suc digits) (at + sign) t,
+        m,
+      )
       (test (dotAt (at + sign + digits)) (λ e. rw e (omega arith)) (λ e. rw e (omega arith)))
 
   -- the digits of what is behind the sign
-  count : digitCount (part t at sign) ≡ 0 → (u : ℕ) → digitCount (part t at (sign + u)) ≡ digitCount (part t (at + sign) u)
+  count : digitCount (part t at sign) ≡ 0 → (u : ℕ)
+      → digitCount (part t at (sign + u)) ≡ digitCount (part t (at + sign) u)
   count z u = rw (take-add sign u (drop at t), count-append, drop-drop sign at t, z, zero-add)
 
   -- behind a dot at e
   abbrev behind : ℕ → ℕ
   behind e = span isDigit (drop (suc e) t)
 
-  count-dotted : (e : ℕ) → at + sign + digits ≡ e → dotAt e ≡ true → digitCount (part t (at + sign) (digits + suc (behind e))) ≡ digits + behind e
+  count-dotted : (e : ℕ) → at + sign + digits ≡ e → dotAt e ≡ true
+      → digitCount (part t (at + sign) (digits + suc (behind e))) ≡ digits + behind e
   count-dotted e q d =
       let b : getD t e 0 ≡ 46 = eqb-true (getD t e 0) 46 (split {x = is "." (getD t e 0)} d .0) in
       let h : e < length t = stands t e (λ z. omega arith) in
@@ -72,7 +77,8 @@ module _ (t : List ℕ) (at sign : ℕ) where
         count-run (drop (suc e) t),
       )
 
-  module _ (h : at + sign ≤ length t) (z : digitCount (part t at sign) ≡ 0) (e f : ℕ) (p : e ≡ runEnd isDigit t (at + sign)) (q : f ≡ fractionEnd t e) where
+  module _ (h : at + sign ≤ length t) (z : digitCount (part t at sign) ≡ 0) (e f : ℕ)
+      (p : e ≡ runEnd isDigit t (at + sign)) (q : f ≡ fractionEnd t e) where
     abbrev Cut : ℕ → Type 0
     Cut n = cut (aNumber at (part t at (sign + unsignedLength (drop (at + sign) t)))) ≡ numberCut at (f - at) n
 
@@ -80,9 +86,11 @@ module _ (t : List ℕ) (at sign : ℕ) where
     fits n l g c =
         let u : unsignedLength (drop (at + sign) t) ≡ f - (at + sign) = unsigned ∙ rw (← p, ← q) in
         let m : sign + (f - (at + sign)) ≡ f - at = omega arith in
-        rw u (number-cut at (f - at) n (part t at (sign + (f - (at + sign)))) (length-part t at _ (omega arith) ∙ m) (count z (f - (at + sign)) ∙ c))
+        rw u (number-cut at (f - at) n (part t at (sign + (f - (at + sign)))) (length-part t at _ (omega arith) ∙ m)
+        (count z (f - (at + sign)) ∙ c))
 
-    pub number-whole : f ≤ e → cut (aNumber at (part t at (sign + unsignedLength (drop (at + sign) t)))) ≡ numberCut at (e - at) (e - (at + sign))
+    pub number-whole : f ≤ e → cut (aNumber at (part t at (sign + unsignedLength (drop (at + sign) t))))
+        ≡ numberCut at (e - at) (e - (at + sign))
     number-whole g =
         test (dotAt e)
         (λ d.
@@ -92,7 +100,8 @@ module _ (t : List ℕ) (at sign : ℕ) where
         let x : f ≡ e = q ∙ rw d in
         let y : f - (at + sign) ≡ digits = omega arith in
         rw (← x)
-        (fits (f - (at + sign)) (omega (arith, span-le isDigit (drop (at + sign) t), length-drop (at + sign) t)) (omega arith) (rw y (count-run (drop (at + sign) t)))))
+        (fits (f - (at + sign)) (omega (arith, span-le isDigit (drop (at + sign) t), length-drop (at + sign) t))
+        (omega arith) (rw y (count-run (drop (at + sign) t)))))
 
     pub number-dotted : e < f → Cut (f - (at + sign) - 1)
     number-dotted g =
@@ -104,7 +113,8 @@ module _ (t : List ℕ) (at sign : ℕ) where
         let y : f - (at + sign) ≡ digits + suc (behind e) = omega arith in
         let b : getD t (e + 1) 0 ≡ 0 → isDigit (getD t (e + 1) 0) ≡ false = λ o. rw o in
         let k : e + 1 < length t = stands t (e + 1) (λ o. not-both (split {x = is "." (getD t e 0)} d .1) (b o)) in
-        fits (f - (at + sign) - 1) (omega (arith, span-le isDigit (drop (suc e) t), length-drop (suc e) t)) (omega arith)
+        fits (f - (at + sign) - 1) (omega (arith, span-le isDigit (drop (suc e) t), length-drop (suc e) t))
+        (omega arith)
         (rw y (count-dotted e (sym p) d ∙ omega arith)))
         (λ d.
         let x : f ≡ e = q ∙ rw d in

@@ -1,24 +1,21 @@
 -- Strings, step by step.
 use mathlib.Core.Path.{_≡_, refl, _∙_}
-use mathlib.Core.Bool.{Bool, true, false, cond, _&&_, _||_}
+use mathlib.Core.Bool.{Bool, true, false, cond}
 use mathlib.Core.List.{List, [], _∷_}
 use Prim.Native.Nat.{ℕ, zero, suc, _+_, _-_, _≤_, _<_}
 use native.Mathlib.Nat.{add-zero}
 use native.Mathlib.Numerals.{add-one}
 use native.Mathlib.Omega.{arith}
-use lib.ListN.{length, drop, getD, length-drop, List·getD-eq-default, drop-of-length-le}
-use lib.Seq.{drop-cons, drop-drop, getD-drop, length-take-le}
+use lib.ListN.{length, drop, getD, length-drop, drop-of-length-le}
+use lib.Seq.{drop-cons, drop-drop, length-take-le}
 use lib.Dec.{eqb, ltb}
 use borrow.Author.Tests.{ne-eqb}
-use Rattle.rules.specs.Bytes.{is, isHexadecimal}
+use Rattle.rules.specs.Bytes.{is}
 use Rattle.rules.specs.Symbols.{Quote, closed, bad, escape, quote, aString}
-use Rattle.rules.proofs.Tests.{fail-r, not-both}
-use Rattle.rules.proofs.SymbolLaws.{either}
 use Rattle.symbols.specs.declared.Symbol.{Symbol}
 use Rattle.symbols.specs.Cut.{made, cut}
-use Rattle.symbols.specs.Scans.{hexAt, stepAt}
-use Rattle.ground.proofs.TableLaws.{second}
-use Rattle.symbols.proofs.NumberLaws.{stands}
+use Rattle.scans.specs.Scans.{stepAt}
+use Rattle.scans.proofs.EscapeLaws.{escape-le}
 
 quote-pass : (s : List ℕ) (n k : ℕ) → n ≤ length s → quote s n k ≡ quote (drop n s) 0 (k + n)
 quote-pass [] zero k h = refl
@@ -28,22 +25,6 @@ quote-pass (b ∷ s) (suc n) k h =
     let m : k + suc n ≡ suc k + n = omega arith in
     let go = quote-pass s n (suc k) (omega arith) in
     rw m go
-
--- what belongs to a backslash stands in the text
-pub escape-le : (s : List ℕ) → escape s ≤ length s
-escape-le [] = omega arith
-escape-le (b ∷ s) =
-    either (λ n. n ≤ suc (length s)) (is "\"" b || is "\\" b) (λ _. omega arith)
-    (λ _. either (λ n. n ≤ suc (length s)) (hex b s) (λ p. five p) (λ _. omega arith))
-  where
-    hex : ℕ → List ℕ → Bool
-    hex b s = is "u" b && (isHexadecimal (getD s 0 0) && (isHexadecimal (getD s 1 0) && (isHexadecimal (getD s 2 0) && isHexadecimal (getD s 3 0))))
-
-    five : hex b s ≡ true → 5 ≤ suc (length s)
-    five p =
-        let q : isHexadecimal (getD s 3 0) ≡ true = second (isHexadecimal (getD s 2 0)) (second (isHexadecimal (getD s 1 0)) (second (isHexadecimal (getD s 0 0)) (second (is "u" b) p))) in
-        let f : getD s 3 0 ≡ 0 → isHexadecimal (getD s 3 0) ≡ false = λ o. rw o in
-        omega (arith, stands s 3 (λ o. not-both q (f o)))
 
 -- ---- a step of the scan, over its tests: a byte below 32, a backslash, that begins no form
 abbrev stepBy : Bool → Bool → Bool → ℕ → ℕ
@@ -59,7 +40,8 @@ module _ {A : Type 0} (b x y : A) (n : ℕ) where
   no-step false true false e = absurd (omega arith)
   no-step false false none e = absurd (omega arith)
 
-  a-step : (f : ℕ → A) → x ≡ f (1 + n) → y ≡ f 1 → (low back none : Bool) → 0 < stepBy low back none n → by low back none ≡ f (stepBy low back none n)
+  a-step : (f : ℕ → A) → x ≡ f (1 + n) → y ≡ f 1 → (low back none : Bool) → 0 < stepBy low back none n
+      → by low back none ≡ f (stepBy low back none n)
   a-step f p q true back none h = absurd (omega arith)
   a-step f p q false true true h = absurd (omega arith)
   a-step f p q false true false h = p
@@ -75,7 +57,8 @@ pub step-in : (t : List ℕ) (i : ℕ) → i < length t → i + stepAt t i ≤ l
 unfolding stepAt
 step-in t i h =
     let l : escape (drop (i + 1) t) ≤ length t - (i + 1) = rw (length-drop (i + 1) t) at (escape-le (drop (i + 1) t)) in
-    let m = step-fits (length t - i) (escape (drop (i + 1) t)) (omega arith) (omega arith) (ltb (getD t i 0) 32) (is "\\" (getD t i 0)) (eqb (escape (drop (i + 1) t)) 0) in
+    let m = step-fits (length t - i) (escape (drop (i + 1) t)) (omega arith) (omega arith) (ltb (getD t i 0) 32)
+    (is "\\" (getD t i 0)) (eqb (escape (drop (i + 1) t)) 0) in
     omega arith
 
 module _ (t : List ℕ) (i k : ℕ) (h : i < length t) where
@@ -86,7 +69,8 @@ module _ (t : List ℕ) (i k : ℕ) (h : i < length t) where
   unfolding stepAt
   quote-bad e z =
       rw (drop-cons t i 0 h, ne-eqb _ _ e)
-      (no-step (bad k) _ _ (escape (drop (suc i) t)) (ltb (getD t i 0) 32) (is "\\" (getD t i 0)) (eqb (escape (drop (suc i) t)) 0) (rw (add-one i) at z))
+      (no-step (bad k) _ _ (escape (drop (suc i) t)) (ltb (getD t i 0) 32) (is "\\" (getD t i 0))
+      (eqb (escape (drop (suc i) t)) 0) (rw (add-one i) at z))
 
   abbrev from : ℕ → Quote
   from n = quote (drop (i + n) t) 0 (k + n)
@@ -102,17 +86,24 @@ module _ (t : List ℕ) (i k : ℕ) (h : i < length t) where
   unfolding stepAt
   quote-step e z =
       rw (drop-cons t i 0 h, ne-eqb _ _ e, add-one i)
-      (a-step (bad k) _ _ (escape (drop (suc i) t)) from escaped (rw (add-one k, add-one i)) (ltb (getD t i 0) 32) (is "\\" (getD t i 0)) (eqb (escape (drop (suc i) t)) 0) (rw (add-one i) at z))
+      (a-step (bad k) _ _ (escape (drop (suc i) t)) from escaped (rw (add-one k, add-one i)) (ltb (getD t i 0) 32)
+      (is "\\" (getD t i 0)) (eqb (escape (drop (suc i) t)) 0) (rw (add-one i) at z))
 
 -- ---- strings as symbols: the bytes from the opening quote at `at` up to i are passed
-module _ (t : List ℕ) (at i : ℕ) (h : at < i) (q : quote (drop (at + 1) t) 0 0 ≡ quote (drop i t) 0 (i - (at + 1))) where
+module _ (t : List ℕ) (at i : ℕ) (h : at < i)
+    (q : quote (drop (at + 1) t) 0 0 ≡ quote (drop i t) 0 (i - (at + 1))) where
   abbrev Is : Symbol → Type 0
   Is y = cut (aString at (drop at t) (quote (drop (at + 1) t) 0 0)) ≡ y
 
   pub string-closed : i < length t → getD t i 0 ≡ 34 → Is (made 3 5 at (i + 1 - at))
   string-closed l e =
       let n : suc (suc (i - (at + 1))) ≡ i + 1 - at = omega arith in
-      rw (q, quote-closed t i (i - (at + 1)) l e, length-take-le (suc (suc (i - (at + 1)))) (drop at t) (rw length-drop (omega arith)), n)
+      rw (
+        q,
+        quote-closed t i (i - (at + 1)) l e,
+        length-take-le (suc (suc (i - (at + 1)))) (drop at t) (rw length-drop (omega arith)),
+        n,
+      )
 
   pub string-bad : i < length t → ¬ (getD t i 0 ≡ 34) → stepAt t i ≡ 0 → Is (made 5 2 i 0)
   string-bad l e z =
@@ -122,31 +113,8 @@ module _ (t : List ℕ) (at i : ℕ) (h : at < i) (q : quote (drop (at + 1) t) 0
   pub string-open : length t ≤ i → Is (made 5 3 at 0)
   string-open l = rw (q, drop-of-length-le t l)
 
-  pub string-on : i < length t → ¬ (getD t i 0 ≡ 34) → 0 < stepAt t i → quote (drop (at + 1) t) 0 0 ≡ quote (drop (i + stepAt t i) t) 0 (i + stepAt t i - (at + 1))
+  pub string-on : i < length t → ¬ (getD t i 0 ≡ 34) → 0 < stepAt t i
+      → quote (drop (at + 1) t) 0 0 ≡ quote (drop (i + stepAt t i) t) 0 (i + stepAt t i - (at + 1))
   string-on l e z =
       let n : i - (at + 1) + stepAt t i ≡ i + stepAt t i - (at + 1) = omega arith in
       q ∙ rw n at (quote-step t i (i - (at + 1)) l e z)
-
--- ---- what belongs to a backslash, by the bytes behind it
-abbrev escapeBy : ℕ → Bool → Bool → Bool → Bool → ℕ
-escapeBy b o p q r = cond (is "\"" b || is "\\" b) 1 (cond (is "u" b && (o && (p && (q && r)))) 5 0)
-
-pub escape-at : (t : List ℕ) (i : ℕ) → escape (drop i t) ≡ escapeBy (getD t i 0) (hexAt t (i + 1)) (hexAt t (i + 2)) (hexAt t (i + 3)) (hexAt t (i + 4))
-escape-at t i = rw (getD-drop i t 0 0, getD-drop i t 1 0, getD-drop i t 2 0, getD-drop i t 3 0, getD-drop i t 4 0, add-zero i)
-
-four : (o p q r : Bool) → escapeBy 117 o p q r ≡ cond ((o && p) && (q && r)) 5 0
-four true true q r = refl
-four true false q r = refl
-four false p q r = refl
-
-pub unicode-at : (t : List ℕ) (i : ℕ) → getD t i 0 ≡ 117 → escape (drop i t) ≡ cond ((hexAt t (i + 1) && hexAt t (i + 1 + 1)) && (hexAt t (i + 3) && hexAt t (i + 3 + 1))) 5 0
-unicode-at t i e =
-    let m : i + 1 + 1 ≡ i + 2 = omega arith in
-    let n : i + 3 + 1 ≡ i + 4 = omega arith in
-    rw (m, n, escape-at t i, e) (four (hexAt t (i + 1)) (hexAt t (i + 2)) (hexAt t (i + 3)) (hexAt t (i + 4)))
-
-pub unicode-short : (t : List ℕ) (i : ℕ) → getD t i 0 ≡ 117 → length t ≤ i + 4 → escape (drop i t) ≡ 0
-unicode-short t i e h =
-    let o : hexAt t (i + 4) ≡ false = rw (List·getD-eq-default t 0 h) in
-    let n : (hexAt t (i + 1) && (hexAt t (i + 2) && (hexAt t (i + 3) && hexAt t (i + 4)))) ≡ false = fail-r (hexAt t (i + 1)) (fail-r (hexAt t (i + 2)) (fail-r (hexAt t (i + 3)) o)) in
-    rw (escape-at t i, e, n)

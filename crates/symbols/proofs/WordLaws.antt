@@ -13,17 +13,21 @@ use Rattle.rules.proofs.PartLaws.{length-part}
 use Rattle.words.specs.Words.{position, wordCode}
 use Rattle.symbols.specs.Cut.{made, cut}
 
-cut-reserved : (x y : Bool) (k : ℕ) (b : List ℕ) → cond x (64 + position b forms) (cond y 46 1) ≡ 46 → cut (symbol (cond x word (cond y (fault reserved) name)) k b) ≡ made 5 6 k (length b)
+cut-reserved : (x y : Bool) (k : ℕ) (b : List ℕ) → cond x (64 + position b forms) (cond y 46 1) ≡ 46
+    → cut (symbol (cond x word (cond y (fault reserved) name)) k b) ≡ made 5 6 k (length b)
 cut-reserved true y k b e = absurd (omega arith)
 cut-reserved false true k b e = refl
 cut-reserved false false k b e = absurd (omega arith)
 
-cut-other : (x y : Bool) (k : ℕ) (b : List ℕ) → ¬ (cond x (64 + position b forms) (cond y 46 1) ≡ 46) → cut (symbol (cond x word (cond y (fault reserved) name)) k b) ≡ made (cond x (64 + position b forms) (cond y 46 1)) 5 k (length b)
+cut-other : (x y : Bool) (k : ℕ) (b : List ℕ) → ¬ (cond x (64 + position b forms) (cond y 46 1) ≡ 46)
+    → cut (symbol (cond x word (cond y (fault reserved) name)) k b)
+    ≡ made (cond x (64 + position b forms) (cond y 46 1)) 5 k (length b)
 cut-other true y k b e = refl
 cut-other false true k b e = absurd (e refl)
 cut-other false false k b e = refl
 
-short : (b : List ℕ) → length b ≤ 255 → wordKind b ≡ cond (isOneOf b forms) word (cond (isOneOf b table) (fault reserved) name)
+short : (b : List ℕ) → length b ≤ 255
+    → wordKind b ≡ cond (isOneOf b forms) word (cond (isOneOf b table) (fault reserved) name)
 short b h = rw (le-ltb 255 (length b) h)
 
 module _ (t : List ℕ) (k n : ℕ) (l : k + n ≤ length t) where
@@ -41,8 +45,13 @@ module _ (t : List ℕ) (k n : ℕ) (l : k + n ≤ length t) where
 
   pub word-reserved : n ≤ 255 → wordCode (part t k n) ≡ 46 → cut (aWord k (part t k n)) ≡ made 5 6 k n
   unfolding wordCode
-  word-reserved h e = ap (λ x. cut (symbol x k b)) (short b (omega (arith, size))) ∙ cut-reserved (isOneOf b forms) (isOneOf b table) k b e ∙ ap (made 5 6 k) size
+  word-reserved h e =
+      ap (λ x. cut (symbol x k b)) (short b (omega (arith, size)))
+      ∙ cut-reserved (isOneOf b forms) (isOneOf b table) k b e ∙ ap (made 5 6 k) size
 
-  pub word-other : n ≤ 255 → ¬ (wordCode (part t k n) ≡ 46) → cut (aWord k (part t k n)) ≡ made (wordCode (part t k n)) 5 k n
+  pub word-other : n ≤ 255 → ¬ (wordCode (part t k n) ≡ 46)
+      → cut (aWord k (part t k n)) ≡ made (wordCode (part t k n)) 5 k n
   unfolding wordCode
-  word-other h e = ap (λ x. cut (symbol x k b)) (short b (omega (arith, size))) ∙ cut-other (isOneOf b forms) (isOneOf b table) k b e ∙ ap (made (wordCode b) 5 k) size
+  word-other h e =
+      ap (λ x. cut (symbol x k b)) (short b (omega (arith, size))) ∙ cut-other (isOneOf b forms) (isOneOf b table) k b e
+      ∙ ap (made (wordCode b) 5 k) size

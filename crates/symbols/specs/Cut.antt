@@ -7,7 +7,8 @@ use lib.ListN.{length}
 use Rattle.rules.specs.Bytes.{isOneOf}
 use Rattle.rules.specs.Reserved.{forms}
 use Rattle.rules.specs.Readers.{faultOf}
-use Rattle.rules.specs.Symbols.{numberOf, Kind, word, name, number, quoted, dots, stop, mark, fault, digitCount, isNameText}
+use Rattle.rules.specs.Symbols.{numberOf, Kind, word, name, number, quoted, dots, stop, mark, fault, digitCount}
+use Rattle.rules.specs.Symbols.{isNameText}
 use Rattle.rules.specs.Symbols as rules
 use Rattle.words.specs.Words.{position}
 use Rattle.symbols.specs.declared.Symbol.{Symbol}

@@ -1,2 +1,2 @@
 pub mod Cut
-pub mod Scans
+pub mod Begins

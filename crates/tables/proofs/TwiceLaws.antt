@@ -16,7 +16,8 @@ use Rattle.book.specs.declared.Found.the-variants.{At, Nothing}
 use Rattle.enumerations.specs.Lists.{isElement, isOpening, pastInner, written, sameNames, findFrom}
 use Rattle.enumerations.specs.Standing.{plain, DeepIn, Deep, partOf, endOf, InsideBy, ListAt, InsideAt}
 use Rattle.tables.specs.Doubling.{checkedOf, PastIn, foundOf}
-use Rattle.enumerations.proofs.StandLaws.{nextOf, next-gt, end-gt, list-elements, past-inside, same-names, found, find-elements}
+use Rattle.enumerations.proofs.StandLaws.{nextOf, next-gt, end-gt, list-elements, past-inside, same-names, found}
+use Rattle.enumerations.proofs.StandLaws.{find-elements}
 use Rattle.tables.specs.declared.twice.Checked.{Checked}
 use Rattle.tables.specs.declared.twice.Checked.the-variants.{Twice, Past}
 use Rattle.book.specs.Sizes.{elementSize, listSize}
@@ -47,12 +48,23 @@ module _ (t s : List ℕ) where
 
   pub walked-start : (k : ℕ) (e : Enum) (p : ℕ) → ListAt t s e p → Deep k e → Walked k e p p
   walked-start k e p h d =
-      record { rest = e; seen = []; stands = h; deep = d; ends = refl; same-twice = refl; fresh = λ n z. refl; old = λ n z. never z }
+      record {
+        rest = e;
+        seen = [];
+        stands = h;
+        deep = d;
+        ends = refl;
+        same-twice = refl;
+        fresh = λ n z. refl;
+        old = λ n z. never z;
+      }
 
-  pub walked-end : (k : ℕ) (e : Enum) (p q : ℕ) → Walked k e p q → isElement s q ≡ false → (q < length s) × (Past (q + 1) ≡ checkedOf (twice e []) (endOf e p))
+  pub walked-end : (k : ℕ) (e : Enum) (p q : ℕ) → Walked k e p q → isElement s q ≡ false
+      → (q < length s) × (Past (q + 1) ≡ checkedOf (twice e []) (endOf e p))
   walked-end k e p q W h = go (W .rest) (W .stands) (W .ends) (W .same-twice)
     where
-      go : (r : Enum) → ListAt t s r q → endOf e p ≡ endOf r q → twice e [] ≡ twice r (W .seen) → (q < length s) × (Past (q + 1) ≡ checkedOf (twice e []) (endOf e p))
+      go : (r : Enum) → ListAt t s r q → endOf e p ≡ endOf r q → twice e [] ≡ twice r (W .seen)
+          → (q < length s) × (Past (q + 1) ≡ checkedOf (twice e []) (endOf e p))
       go (end f) l u v = (l .0, rw (u, v))
       go (elem n i r) l u v = not-both (l .0 .there) h
 
@@ -94,7 +106,8 @@ module _ (t s : List ℕ) where
               deep-in = d .0;
               deep = d .1;
               ends = u;
-              search = rw (a .0 .name) (find-elements t s n (a .0 .in-text) e p (list-elements t s e p l) (length s + 1) (omega arith));
+              search = rw (a .0 .name)
+                  (find-elements t s n (a .0 .in-text) e p (list-elements t s e p l) (length s + 1) (omega arith));
               same-twice = v;
               fresh = w;
               old = W .old;
@@ -119,7 +132,8 @@ module _ (t s : List ℕ) where
       pub not-seen : f ≡ q + elementSize → isOneOf (H .n .bytes) (H .seen) ≡ false
       not-seen h = is-false (λ z. let o = H .old (H .n .bytes) z in omega (arith, found-is))
 
-      pub doubled-here : ¬ (f ≡ q + elementSize) → (m : Part) → m ≡ written s q → Twice (m .start) ≡ checkedOf (twice e []) (endOf e p)
+      pub doubled-here : ¬ (f ≡ q + elementSize) → (m : Part) → m ≡ written s q
+          → Twice (m .start) ≡ checkedOf (twice e []) (endOf e p)
       doubled-here h m em =
           let a : m .start ≡ H .n .offset = ap (λ (y : Part). y .start) (em ∙ H .name) in
           rw (H .same-twice, was-seen h, a)
@@ -138,14 +152,18 @@ module _ (t s : List ℕ) where
               deep = H .deep;
               ends = H .ends;
               same-twice = passed ∙ rw z;
-              fresh = λ m y. let g : (same m (H .n .bytes) ≡ false) × (isOneOf m (H .seen) ≡ false) = or-fails y in H .fresh m (g .1) ∙ rw (g .0);
+              fresh = λ m y. let g : (same m (H .n .bytes) ≡ false) × (isOneOf m (H .seen) ≡ false) = or-fails y in
+                  H .fresh m (g .1) ∙ rw (g .0);
               old = λ m y. go m (isOneOf m (H .seen)) refl (same m (H .n .bytes)) refl y;
             }
           where
-            go : (m : List ℕ) (c : Bool) → isOneOf m (H .seen) ≡ c → (d : Bool) → same m (H .n .bytes) ≡ d → (same m (H .n .bytes) || isOneOf m (H .seen)) ≡ true →
-                found t s m e p ≤ nextOf (H .i) q
+            go : (m : List ℕ) (c : Bool) → isOneOf m (H .seen) ≡ c → (d : Bool) → same m (H .n .bytes) ≡ d
+                → (same m (H .n .bytes) || isOneOf m (H .seen)) ≡ true
+                → found t s m e p ≤ nextOf (H .i) q
             go m true a d b y = omega (arith, H .old m a, next-gt (H .i) q)
-            go m false a true b y = let w : found t s m e p ≡ q + elementSize = H .fresh m a ∙ rw b in omega (arith, next-gt (H .i) q)
+            go m false a true b y =
+                let w : found t s m e p ≡ q + elementSize = H .fresh m a ∙ rw b in
+                omega (arith, next-gt (H .i) q)
             go m false a false b y = not-both y (rw (a, b))
 
         pub passed-plain : isOpening s (q + elementSize) ≡ false → Walked k e p (q + elementSize)
@@ -170,7 +188,8 @@ module _ (t s : List ℕ) where
         pub inner-list : isOpening s (q + elementSize) ≡ true → Inner
         inner-list o = go (plain (H .i)) refl (H .inside) (H .deep-in)
           where
-            go : (c : Bool) → plain (H .i) ≡ c → InsideBy c s (final (H .i)) (q + elementSize) (ListAt t s (H .i) (q + elementSize + listSize)) → DeepIn c k (Deep (k - 1) (H .i)) → Inner
+            go : (c : Bool) → plain (H .i) ≡ c → InsideBy c s (final (H .i)) (q + elementSize)
+                (ListAt t s (H .i) (q + elementSize + listSize)) → DeepIn c k (Deep (k - 1) (H .i)) → Inner
             go true a b d = not-both o b
             go false a b d =
                 record {
@@ -179,9 +198,12 @@ module _ (t s : List ℕ) where
                   room = d .0;
                   deep = d .1;
                   doubled = λ o z. passed ∙ rw z;
-                  goes = λ z. let w : nextOf (H .i) q ≡ endOf (H .i) (q + elementSize + listSize) = rw a in rw w at (further z);
+                  goes = λ z. let w : nextOf (H .i) q ≡ endOf (H .i) (q + elementSize + listSize) = rw a in
+                      rw w at (further z);
                   past = sym (past-inside t s (H .i) (q + elementSize) (H .inside) ∙ rw a);
-                  within = let w : nextOf (H .i) q ≡ endOf (H .i) (q + elementSize + listSize) = rw a in omega (arith, end-gt (H .r) (nextOf (H .i) q), H .ends);
+                  within =
+                      let w : nextOf (H .i) q ≡ endOf (H .i) (q + elementSize + listSize) = rw a in
+                      omega (arith, end-gt (H .r) (nextOf (H .i) q), H .ends);
                 }
 
   pub walked-at : (k : ℕ) (e : Enum) (p : ℕ) {q r : ℕ} → q ≡ r → Walked k e p r → Walked k e p q

@@ -27,4 +27,5 @@ foundOf (some p) = At p
 
 -- a list's answer is its first doubled element, or where it ends; then its elements have joined those of the table
 abbrev pub CheckedAs : List ℕ → List ℕ → Grid → List Entry → Enum → ℕ → List ℕ → Checked → Type 0
-CheckedAs t s g es e list z r = (r ≡ checkedOf (twice e []) (endOf e list)) × (twice e [] ≡ none → Grown t s g es z list (endOf e list))
+CheckedAs t s g es e list z r =
+    (r ≡ checkedOf (twice e []) (endOf e list)) × (twice e [] ≡ none → Grown t s g es z list (endOf e list))

@@ -21,7 +21,9 @@ pub record Entry : Type 0 where
 -- past the name of the element n of the list l, of those entered the last
 abbrev pub seekIn : List ℕ → List ℕ → ℕ → Part → List Entry → ℕ
 seekIn t s l n [] = nowhere
-seekIn t s l n (e ∷ es) = let r = seekIn t s l n es in cond (eqb (e .list) l && sameNames t n (written s (e .at))) (e .at + elementSize) r
+seekIn t s l n (e ∷ es) =
+    let r = seekIn t s l n es in
+    cond (eqb (e .list) l && sameNames t n (written s (e .at))) (e .at + elementSize) r
 
 -- whether an element of the list l is entered
 abbrev pub isEntered : ℕ → List Entry → Bool
@@ -67,7 +69,8 @@ Link false g z x e c = c x
 -- from x on goes the chain of the key k, the last entered first
 abbrev pub Chain : List ℕ → List ℕ → Grid → List ℕ → ℕ → ℕ → List Entry → Type 0
 Chain t s g z k x [] = x ≡ 0
-Chain t s g z k x (e ∷ es) = Link (eqb (keyOf t (g .keys) (e .list) (written s (e .at))) k) g z x e (λ y. Chain t s g z k y es)
+Chain t s g z k x (e ∷ es) =
+    Link (eqb (keyOf t (g .keys) (e .list) (written s (e .at))) k) g z x e (λ y. Chain t s g z k y es)
 
 -- an element may be entered
 pub record Next (s : List ℕ) (g : Grid) (l p : ℕ) : Type 0 where

@@ -1,6 +1,4 @@
-pub mod RulingLaws
 pub mod TypeLaws
-pub mod PlaceLaws
-pub mod ValueLaws
+pub mod MeaningLaws
 pub mod LayLaws
 pub mod RuleLaws

@@ -23,11 +23,12 @@ use Rattle.parts.specs.declared.types.Meant.{Meant}
 use Rattle.parts.specs.Forms.{anyOf}
 use Rattle.rules.specs.All.{AnyIs}
 use Rattle.wellformed.specs.Fairness.{Begins}
-use Rattle.types.specs.declared.Ruling.{Ruling}
-use Rattle.types.specs.Rulings.{rulingOf, rulingIf, elementRuling, typeRuling}
-use Rattle.types.specs.Values.{Scratched, Ordered}
-use Rattle.types.specs.Fitting.{isListed}
-use Rattle.types.proofs.ValueLaws.{never}
+use Rattle.ground.specs.declared.Ruling.{Ruling}
+use Rattle.ground.specs.Rulings.{rulingOf}
+use Rattle.types.specs.Rulings.{rulingIf, elementRuling, typeRuling}
+use Rattle.types.specs.Writing.{Scratched, Ordered}
+use Rattle.types.specs.Meaning.{isListed}
+use Rattle.rules.proofs.Tests.{never}
 
 -- ---- 9
 found-ruling : (o : Option ℕ) → elementRuling (foundOf o) ≡ rulingOf (doubled o ∷ [])
@@ -35,23 +36,25 @@ found-ruling none = refl
 found-ruling (some p) = refl
 
 -- of an enumeration
-pub element-listed : {m : Meant} (t x : List ℕ) (f : Found) → isListed m ≡ true → ((e : Enum) → Stands t x e 0 → f ≡ foundOf (twice e [])) →
-    (w : Option WrittenType) → m ≡ anyOf w → Scratched t x w → elementRuling f ≡ rulingOf (elementRule w ∷ [])
-element-listed {m} t x f h q none e s = never (sym (rw e at h))
-element-listed {m} t x f h q (some (G.text k none)) e s = never (sym (rw e at h))
-element-listed {m} t x f h q (some (G.text k (some y))) e s = never (sym (rw e at h))
-element-listed {m} t x f h q (some (G.range a b)) e s = never (sym (rw e at h))
-element-listed {m} t x f h q (some G.numeric) e s = never (sym (rw e at h))
+pub element-listed : {m : Meant} (t x : List ℕ) (f : Found) → isListed m ≡ true
+    → ((e : Enum) → Stands t x e 0 → f ≡ foundOf (twice e []))
+    → (w : Option WrittenType) → m ≡ anyOf w → Scratched t x w → elementRuling f ≡ rulingOf (elementRule w ∷ [])
+element-listed {m} t x f h q none e s = never (rw e at h)
+element-listed {m} t x f h q (some (G.text k none)) e s = never (rw e at h)
+element-listed {m} t x f h q (some (G.text k (some y))) e s = never (rw e at h)
+element-listed {m} t x f h q (some (G.range a b)) e s = never (rw e at h)
+element-listed {m} t x f h q (some G.numeric) e s = never (rw e at h)
 element-listed {m} t x f h q (some (G.enum g)) e s = ap elementRuling (q g s) ∙ found-ruling (twice g [])
-element-listed {m} t x f h q (some (G.named r)) e s = never (sym (rw e at h))
+element-listed {m} t x f h q (some (G.named r)) e s = never (rw e at h)
 
 -- of another type
-pub element-other : {m : Meant} → isListed m ≡ false → (w : Option WrittenType) → m ≡ anyOf w → rulingIf 9 0 false ≡ rulingOf (elementRule w ∷ [])
+pub element-other : {m : Meant} → isListed m ≡ false → (w : Option WrittenType) → m ≡ anyOf w
+    → rulingIf 9 0 false ≡ rulingOf (elementRule w ∷ [])
 element-other {m} h none e = refl
 element-other {m} h (some (G.text k n)) e = refl
 element-other {m} h (some (G.range a b)) e = refl
 element-other {m} h (some G.numeric) e = refl
-element-other {m} h (some (G.enum g)) e = never (rw e at h)
+element-other {m} h (some (G.enum g)) e = never (sym (rw e at h))
 element-other {m} h (some (G.named r)) e = refl
 
 -- ---- 14 and 15
@@ -60,7 +63,8 @@ leaf-bytes (end f) = refl
 leaf-bytes (elem n i r) =
     ne-eqb (length (listBytes (elem n i r))) 3 (λ z. omega arith)
 
-rules-are : (p : ℕ) (based : Bool) (w : Option WrittenType) → AnyIs (Begins p) w → typeRuling (anyOf w) p based ≡ rulingOf (typeRules based p w)
+rules-are : (p : ℕ) (based : Bool) (w : Option WrittenType) → AnyIs (Begins p) w
+    → typeRuling (anyOf w) p based ≡ rulingOf (typeRules based p w)
 rules-are p based none g = refl
 rules-are p based (some (G.text m none)) g = refl
 rules-are p based (some (G.text m (some y))) g = refl
@@ -69,7 +73,8 @@ rules-are p based (some G.numeric) g = refl
 rules-are p based (some (G.enum e)) g = rw (leaf-bytes e)
 rules-are p based (some (G.named r)) g = refl
 
-pub type-ruled : {m : Meant} (p : ℕ) (based : Bool) (w : Option WrittenType) → m ≡ anyOf w → AnyIs (Begins p) w → typeRuling m p based ≡ rulingOf (typeRules based p w)
+pub type-ruled : {m : Meant} (p : ℕ) (based : Bool) (w : Option WrittenType) → m ≡ anyOf w → AnyIs (Begins p) w
+    → typeRuling m p based ≡ rulingOf (typeRules based p w)
 type-ruled {m} p based w e g = rw e (rules-are p based w g)
 
 -- where 14 is kept
@@ -81,10 +86,12 @@ ordered : (based : Bool) (p : ℕ) (w : Option WrittenType) → rulingOf (typeRu
 ordered based p none h = tt
 ordered based p (some (G.text m n)) h = tt
 ordered based p (some (G.range x y)) h =
-    in-order (x .bytes) (y .bytes) (kept (x .place) (not (eqb (decimalsOf (x .bytes)) (decimalsOf (y .bytes))) || ltZ (valueOf (y .bytes)) (valueOf (x .bytes))) h)
+    in-order (x .bytes) (y .bytes) (kept (x .place)
+    (not (eqb (decimalsOf (x .bytes)) (decimalsOf (y .bytes))) || ltZ (valueOf (y .bytes)) (valueOf (x .bytes))) h)
 ordered based p (some G.numeric) h = tt
 ordered based p (some (G.enum e)) h = tt
 ordered based p (some (G.named r)) h = tt
 
-pub ordered-of : (based : Bool) (p : ℕ) (w : Option WrittenType) (q : Ruling) → q ≡ rulingOf (typeRules based p w) → q .number ≡ 0 → Ordered w
+pub ordered-of : (based : Bool) (p : ℕ) (w : Option WrittenType) (q : Ruling)
+    → q ≡ rulingOf (typeRules based p w) → q .number ≡ 0 → Ordered w
 ordered-of based p w q e z = ordered based p w (ap (λ (x : Ruling). x .number) (sym e) ∙ z)

@@ -1,4 +1,4 @@
--- Types by value, and what is written over a base's type.
+-- What is written over a base's type.
 use mathlib.Core.Path.{_≡_, refl, _∙_}
 use mathlib.Core.Bool.{Bool, true, false, cond, _&&_}
 use mathlib.Core.Option.{Option, none, some}
@@ -19,27 +19,16 @@ use Rattle.wellformed.specs.Fairness.{FairType}
 use Rattle.wellformed.proofs.UseLaws.{fits-self}
 use Rattle.elements.specs.Noted.{listBytes}
 use Rattle.enumerations.specs.Standing.{Named, Deep, Stands}
-use Rattle.types.specs.Rulings.{rulingOf}
-use Rattle.types.specs.Values.{Valued, Typed, Sized, FairOrNone, Scratched, Once, plainFits, mergeFits}
-use Rattle.types.specs.declared.Typing.{Typing}
+use Rattle.ground.specs.Rulings.{rulingOf}
+use Rattle.fitting.specs.Values.{Valued, Sized, FairOrNone}
+use Rattle.fitting.specs.declared.Typing.{Typing}
+use Rattle.fitting.proofs.ValueLaws.{sized-base}
+use Rattle.types.specs.Writing.{Scratched, Once, plainFits, mergeFits}
 use Rattle.book.specs.Sizes.{headSize}
 
--- ---- values
-pub typed-valued : (t b : List ℕ) (x : Ty) (c : Typing) → Typed t b x c → Valued x c
-typed-valued t b (text m n) c h = h
-typed-valued t b (range r) c h = h
-typed-valued t b numeric c h = h
-typed-valued t b (enum e) c h = (h .0, h .1)
-typed-valued t b structure c h = h
-
-pub sized-base : (t : List ℕ) (x : Ty) (c : Typing) → FairOrNone t x → Valued x c → Sized c
-sized-base t (text m n) c f h = rw h tt
-sized-base t (range r) c f h = rw h (f .0, f .1, f .2)
-sized-base t numeric c f h = rw h tt
-sized-base t (enum e) c f h = rw (h .1) tt
-sized-base t structure c f h = rw h tt
-
-pub sized-meant : (t : List ℕ) (w : Option WrittenType) (b : Ty) (c : Typing) → AnyIs (FairType t) w → FairOrNone t b → Valued (domainType w b) c → Sized c
+-- ---- what is written
+pub sized-meant : (t : List ℕ) (w : Option WrittenType) (b : Ty) (c : Typing) → AnyIs (FairType t) w → FairOrNone t b
+    → Valued (domainType w b) c → Sized c
 sized-meant t none b c f g h = sized-base t b c g h
 sized-meant t (some (G.text m n)) b c f g h = rw h tt
 sized-meant t (some (G.range x y)) b c f g h = rw h (f .0 .0, f .0 .1, f .1 .1)
@@ -51,7 +40,6 @@ sized-meant t (some (G.enum e)) (enum b) c f g h = rw (h .1) tt
 sized-meant t (some (G.enum e)) structure c f g h = rw (h .1) tt
 sized-meant t (some (G.named r)) b c f g h = rw h tt
 
--- ---- what is written
 scratched-enum : (t o p : List ℕ) (e : Enum) → Named t e → Deep 7 e → p ≡ splice o 0 (listBytes e) → Stands t p e 0
 scratched-enum t o p e n d h = record { more = drop (0 + length (listBytes e)) o; here = h; named = n; deep = d }
 
@@ -92,8 +80,9 @@ no-kind : {A : Type 0} (m : Bool) → _≡_ {A = ℕ} 4 (cond m 2 1) → A
 no-kind true e = absurd (omega arith)
 no-kind false e = absurd (omega arith)
 
-pub fits-split : (t : List ℕ) (w : Option WrittenType) (b : Ty) → FairOrNone t b → referenceIn w ≡ none → kindOf (domainType w b) ≡ kindOf b →
-    fits (domainType w b) b ≡ (plainFits w b && mergeFits w b)
+pub fits-split : (t : List ℕ) (w : Option WrittenType) (b : Ty) → FairOrNone t b → referenceIn w ≡ none
+    → kindOf (domainType w b) ≡ kindOf b
+    → fits (domainType w b) b ≡ (plainFits w b && mergeFits w b)
 fits-split t none b f r k = self-fits t b f
 fits-split t (some (G.text m n)) b f r k = both _
 fits-split t (some (G.range x y)) b f r k = both _
@@ -106,13 +95,17 @@ fits-split t (some (G.enum e)) structure f r k = absurd (omega arith)
 fits-split t (some (G.named x)) b f r k = let z : _≡_ {A = ℕ} 0 1 = cc in absurd (omega arith)
 
 -- ---- a type's records, and then the head before them, written behind the book B
-pub laid-book : (o o₁ o₂ B h l : List ℕ) (u : ℕ) → take u o ≡ B → u ≡ length B → u + headSize + length l ≤ length o → length h ≡ headSize → o₁ ≡ splice o (u + headSize) l → o₂ ≡ splice o₁ u h →
-    take (u + headSize + length l) o₂ ≡ B ++ (h ++ l)
+pub laid-book : (o o₁ o₂ B h l : List ℕ) (u : ℕ) → take u o ≡ B → u ≡ length B → u + headSize + length l ≤ length o
+    → length h ≡ headSize → o₁ ≡ splice o (u + headSize) l → o₂ ≡ splice o₁ u h
+    → take (u + headSize + length l) o₂ ≡ B ++ (h ++ l)
 laid-book o o₁ o₂ B h l u b e f g p q =
     let d : List ℕ = drop (u + headSize + length l) o in
     let n : length (take (u + headSize) o) ≡ u + headSize = length-take-le (u + headSize) o (omega arith) in
     let p' : o₁ ≡ take (u + headSize) o ++ (l ++ d) = p ∙ append-assoc (take (u + headSize) o) l d in
-    let front : take u o₁ ≡ B = rw p' (take-append-le u (take (u + headSize) o) (l ++ d) (omega arith) ∙ take-take u (u + headSize) o (omega arith)) ∙ b in
-    let back : drop (u + length h) o₁ ≡ l ++ d = rw (g, p') (drop-at (take (u + headSize) o) (l ++ d) (u + headSize) n) in
+    let front : take u o₁ ≡ B =
+    rw p' (take-append-le u (take (u + headSize) o) (l ++ d) (omega arith) ∙ take-take u (u + headSize) o (omega arith))
+    ∙ b in
+    let back : drop (u + length h) o₁
+    ≡ l ++ d = rw (g, p') (drop-at (take (u + headSize) o) (l ++ d) (u + headSize) n) in
     let whole : o₂ ≡ (B ++ (h ++ l)) ++ d = q ∙ rw (front, back) (simp append-assoc) in
     rw whole (take-at (B ++ (h ++ l)) d (u + headSize + length l) (simp length-append (omega arith)))

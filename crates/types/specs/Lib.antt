@@ -1,4 +1,3 @@
 pub mod Rulings
-pub mod Values
-pub mod Places
-pub mod Fitting
+pub mod Writing
+pub mod Meaning

@@ -1,28 +1,17 @@
--- The first rule that is broken, as the code hands it on.
+-- The rules of what is written, as the code judges them.
 use mathlib.Core.Bool.{Bool, true, false, cond, not, _&&_, _||_}
-use mathlib.Core.List.{List, [], _∷_}
 use Prim.Native.Nat.{ℕ}
-use lib.Dec.{eqb, ltb}
+use lib.Dec.{eqb}
 use lib.Signed.{ltZ}
-use Rattle.rules.specs.Judge.{Rule, Judged, refused}
+use Rattle.ground.specs.declared.Ruling.{Ruling}
 use Rattle.book.specs.declared.Found.{Found}
 use Rattle.book.specs.declared.Found.the-variants.{At, Nothing}
 use Rattle.parts.specs.declared.types.Meant.{Meant}
 use Rattle.parts.specs.declared.types.Meant.the-variants.{Alone, Text, Limited, Range, Numeric, Enumeration, Named}
-use Rattle.types.specs.declared.Ruling.{Ruling}
-
--- 0 and 0 where none is
-abbrev pub rulingOf : List Rule → Ruling
-rulingOf [] = record { number = 0; place = 0 }
-rulingOf (r ∷ l) = let x = rulingOf l in cond (r .broken) (record { number = r .number; place = r .place }) x
 
 abbrev pub rulingIf : ℕ → ℕ → Bool → Ruling
 rulingIf n p b = cond b (record { number = n; place = p }) (record { number = 0; place = 0 })
 
-abbrev pub judgedBy : Ruling → Judged → Judged
-judgedBy r j = cond (ltb 0 (r .number)) (refused (r .number) (r .place)) j
-
--- ---- of what is written
 -- 9 of the elements, by the place of a doubled one
 abbrev pub elementRuling : Found → Ruling
 elementRuling (At p) = rulingIf 9 p true

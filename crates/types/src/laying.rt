@@ -1,9 +1,9 @@
 // The records of a type, written where they fit and counted in any case.
-use crate::Typing;
-use crate::fitting::is_enumeration;
-use crate::fitting::place_of;
 use enumerations::Size;
 use enumerations::size_of;
+use fitting::Typing;
+use fitting::is_enumeration;
+use fitting::place_of;
 use ground::put_if;
 use merging::Laid;
 ghost use mathlib.Core.Path.{_≡_};
@@ -18,8 +18,8 @@ ghost use Rattle.ground.specs.Parts.{part, splice};
 ghost use Rattle.enumerations.specs.Standing.{Stands};
 ghost use Rattle.enumerations.specs.Records.{records};
 ghost use Rattle.merging.specs.Merging.{LaidAs};
-ghost use Rattle.types.specs.Values.{Valued, Typed, Sized};
-ghost use Rattle.types.specs.Fitting.{plainRecords};
+ghost use Rattle.fitting.specs.Values.{Valued, Typed, Sized};
+ghost use Rattle.types.specs.Meaning.{plainRecords};
 
 fn put_record(out: &mut [u8], at: usize, src: &[u8]) -> Laid
     requires { ⌜ (at ≤ 65546) × (length (now src) ≤ 262144) ⌝ }

@@ -1,14 +1,12 @@
 // Types over a base, by value: what is meant, 9 of elements, 14 to 17, and the records of a type.
-pub mod fitting;
 pub mod laying;
-pub mod reading;
 
-use crate::fitting::fits;
-use crate::fitting::is_enumeration;
-use crate::fitting::place_of;
-use crate::fitting::sort_of;
-use crate::reading::typing_at;
 use book::Found;
+use fitting::Typing;
+use fitting::fits;
+use fitting::is_enumeration;
+use fitting::place_of;
+use ground::Ruling;
 use merging::Laid;
 use numbers::Number;
 use parts::types::Meant;
@@ -23,50 +21,25 @@ ghost use lib.Signed.{ltZ};
 ghost use Rattle.rules.specs.Grammar.{WrittenType};
 ghost use Rattle.rules.specs.Types.{Ty, kindOf};
 ghost use Rattle.rules.specs.Types.{fits as Types·fits};
-ghost use Rattle.rules.specs.Book.{Record, typeRecords};
-ghost use Rattle.rules.specs.Judge.{domainType, isNumeric, elementRule, typeRules, referenceIn};
-ghost use Rattle.book.specs.Places.{Stands};
+ghost use Rattle.rules.specs.Book.{typeRecords};
+ghost use Rattle.rules.specs.Judge.{domainType, elementRule, typeRules, referenceIn};
 ghost use Rattle.parts.specs.Forms.{anyOf};
 ghost use Rattle.tables.specs.Tables.{TableFor, TablesFor};
 ghost use Rattle.merging.specs.Merging.{LaidAs};
 ghost use Rattle.rules.specs.All.{AnyIs};
-ghost use Rattle.wellformed.specs.Fairness.{Begins, Fair};
-ghost use Rattle.types.specs.Rulings.{rulingOf, rulingIf};
-ghost use Rattle.types.specs.Values.{Valued, Typed, Sized, FairOrNone, Scratched, Once, Ordered, plainFits};
-ghost use Rattle.types.specs.Values.{mergeFits};
-ghost use Rattle.types.specs.Fitting.{isAlone, isListed};
+ghost use Rattle.wellformed.specs.Fairness.{Begins};
+ghost use Rattle.ground.specs.Rulings.{rulingOf};
+ghost use Rattle.fitting.specs.Values.{Valued, Typed, Sized, FairOrNone};
+ghost use Rattle.types.specs.Rulings.{rulingIf};
+ghost use Rattle.types.specs.Writing.{Scratched, Once, Ordered, plainFits, mergeFits};
+ghost use Rattle.types.specs.Meaning.{isAlone, isListed};
 ghost use Rattle.book.specs.Sizes.{headSize};
-
-// A rule that is broken, and its place; 0 for none.
-pub struct Ruling {
-    pub number: u8,
-    pub place: usize,
-}
-
-// A text type by the kind of its record, 0 for no length; an enumeration by the place of its records in the book.
-pub enum Typing {
-    Text { kind: u8, length: u64 },
-    Range { decimals: u64, low: i64, high: i64 },
-    Numeric,
-    Enumeration { place: usize },
-    Structure,
-}
 
 // A type over its base's, if it has a base; else the base's is a structure.
 pub struct Over {
     pub based: bool,
     pub own: Typing,
     pub base: Typing,
-}
-
-// The type whose records stand behind the head at a place.
-pub fn type_behind(book: &[u8], head: usize) -> Typing
-    requires { ⌜ head < 65536 ⌝ }
-    ensures { λ r. ⌜ ((t : List ℕ) (h : Record) (x : Ty) → length h ≡ headSize → Fair t x
-        → Stands (now (book .entry)) head (h ∷ typeRecords x)
-        → Typed t (now (book .entry)) x r) ⌝ }
-{
-    typing_at(book, head + book::HEAD_SIZE)
 }
 
 // The type that is written, over a base's.
@@ -86,12 +59,6 @@ pub fn meant(m: Meant, base: Typing) -> Typing
         Meant::Enumeration { .. } => Typing::Enumeration { place: 0 },
         Meant::Named(_) => Typing::Structure,
     }
-}
-
-pub fn is_numeric(x: Typing) -> bool
-    ensures { λ r. ⌜ ((y : Ty) → Valued y x → r ≡ isNumeric y) ⌝ }
-{
-    fitting::is_numeric(x)
 }
 
 // ---- rules
@@ -193,13 +160,6 @@ pub fn type_ruling(m: Meant, place: usize, based: bool) -> Ruling
         Meant::Enumeration { bytes } => broken_if(15, place, is_lone(bytes, based)),
         Meant::Named(_) => broken_if(0, 0, false),
     }
-}
-
-// 16.
-pub fn differ(own: Typing, base: Typing) -> bool
-    ensures { λ r. ⌜ ((x b : Ty) → Valued x own → Valued b base → r ≡ not (eqb (kindOf x) (kindOf b))) ⌝ }
-{
-    sort_of(own) != sort_of(base)
 }
 
 // 17 of what is written, but for an enumeration; of the base's kind.

@@ -4,30 +4,28 @@ use mathlib.Core.Logic.{⊎-elim}
 use mathlib.Core.Bool.{Bool, true, false, cond, not, _&&_, _||_}
 use mathlib.Core.Option.{Option, none, some}
 use mathlib.Core.List.{List, [], _∷_}
-use Prim.Native.Nat.{ℕ, _≤_}
+use Prim.Native.Nat.{ℕ}
 use Prim.Native.Char.{code}
 use native.Mathlib.Omega.{arith}
-use lib.ListN.{length}
 use lib.Dec.{eqb}
 use borrow.Author.Tests.{eqb-true, ne-eqb}
 use Rattle.rules.specs.Bytes.{ascii, same, isOneOf}
 use Rattle.rules.specs.Symbols as rules
-use Rattle.rules.specs.Symbols.{Fault, numberOf, word, name, stop, symbolAt, endOf, isKind, isMark, isWord, isOneWord}
+use Rattle.rules.specs.Symbols.{Fault, numberOf, word, name, symbolAt, endOf, isKind, isMark, isWord, isOneWord}
 use Rattle.rules.specs.Readers.{Result, done, refused, Reader, andThen, _>>=_, faultOf, expect, ifNext}
 use Rattle.rules.specs.Grammar as G
 use Rattle.rules.specs.Grammar.{properties, extends, written, typeOf, typeOrReference}
 use Rattle.rules.specs.Units as U
-use Rattle.rules.specs.Units.{step, headerUnit, modelUnit, topicUnit, classUnit, isGiven, domainUnit, attributeUnit, endUnit, wordStep, bodyEnd, bodyUnit, memberUnit, lastStep, unitAt}
+use Rattle.rules.specs.Units.{step, headerUnit, modelUnit, topicUnit, classUnit, isGiven, domainUnit, attributeUnit}
+use Rattle.rules.specs.Units.{endUnit, wordStep, bodyEnd, bodyUnit, memberUnit, lastStep, unitAt}
 use Rattle.rules.proofs.Tests.{split, or-split}
-use Rattle.rules.proofs.SymbolLaws.{either}
-use Rattle.rules.proofs.ForwardLaws.{Ends, Stepped, unit-steps}
 use Rattle.symbols.specs.declared.Symbol.{Symbol}
 use Rattle.symbols.specs.Cut.{cut}
 use Rattle.ground.specs.declared.Name.{Name}
-use Rattle.readers.specs.Reads.{faultAt, Stands, Cuts, Held, passed, named, Gives, Reads}
+use Rattle.readers.specs.Reads.{faultAt, Cuts, passed, named, Gives, Reads}
 use Rattle.readers.proofs.CodeLaws.{Test, is-name, is-number, is-quoted, is-stop, is-mark, is-word, is-one-word}
-use Rattle.readers.proofs.ReadLaws.{Passes, onward, bind, stay, mapped, if-true, if-false, expected, taken, is-yes, is-no, a-name}
-use Rattle.readers.proofs.StandLaws.{at-stands, stands-lies}
+use Rattle.readers.proofs.ReadLaws.{Passes, onward, bind, stay, mapped, if-true, if-false, expected, taken, is-yes}
+use Rattle.readers.proofs.ReadLaws.{is-no, a-name}
 use Rattle.parts.specs.declared.Properties.{Properties}
 use Rattle.parts.specs.declared.Extends.{Extends}
 use Rattle.parts.specs.declared.types.Written.{Written}
@@ -39,7 +37,8 @@ use Rattle.units.specs.declared.Unit as C
 use Rattle.units.specs.declared.Unit.the-variants.{Header, Model, Topic, Class, Domain, Attribute, Close, Mark}
 use Rattle.units.specs.declared.Step.{Step}
 use Rattle.units.specs.declared.Step.the-variants.{Read, Unread}
-use Rattle.units.specs.Steps.{aroundOf, runOf, behindOf, whereOf, placeOf, endMark, language, anything, IsAny, StepIs, Steps, endedOf}
+use Rattle.units.specs.Steps.{aroundOf, runOf, behindOf, whereOf, placeOf, endMark, language, anything, IsAny}
+use Rattle.units.specs.Steps.{StepIs, Steps, endedOf}
 
 -- ---- one part after another
 abbrev Faults : List ℕ → Symbol → Step → Type 0
@@ -49,41 +48,51 @@ through : {t : List ℕ} {y n : Symbol} {r : Step} → Passes t y n → Faults t
 through h g f k c = g f k (h f k c)
 
 module _ {t o p : List ℕ} {r : Step} where
-  then-steps : {A : Type 0} {Q : A → Type 0} {n : Symbol} (m : Result A) (K : A → Reader U.Step) → Gives t m Q n → ((a : A) → Q a → Steps t o p (K a) n r) → Faults t n r →
-      StepIs t o p (andThen t m K) r
+  then-steps : {A : Type 0} {Q : A → Type 0} {n : Symbol} (m : Result A) (K : A → Reader U.Step) → Gives t m Q n
+      → ((a : A) → Q a → Steps t o p (K a) n r) → Faults t n r
+      → StepIs t o p (andThen t m K) r
   then-steps (done a z) K g k h = k a (g .value) .steps z (g .next)
   then-steps (refused f i) K g k h = h f i (g .next)
 
-  on : {A : Type 0} {Q : A → Type 0} {R : Reader A} {K : A → Reader U.Step} {y n : Symbol} → Reads t R Q y n → ((a : A) → Q a → Steps t o p (K a) n r) → Faults t n r →
-      Steps t o p (R >>= K) y r
+  on : {A : Type 0} {Q : A → Type 0} {R : Reader A} {K : A → Reader U.Step} {y n : Symbol} → Reads t R Q y n
+      → ((a : A) → Q a → Steps t o p (K a) n r) → Faults t n r
+      → Steps t o p (R >>= K) y r
   on {R} {K} g k h = record { steps = λ z c. then-steps (R t z) K (g .reads z c) k h; faults = through (g .passes) h }
 
-  when : {y : Symbol} (q : rules.Symbol → Bool) (a b : Reader U.Step) → ((z : rules.Symbol) → Cuts t z y → q z ≡ true) → Steps t o p a y r → Steps t o p (ifNext q a b) y r
+  when : {y : Symbol} (q : rules.Symbol → Bool) (a b : Reader U.Step) → ((z : rules.Symbol) → Cuts t z y → q z ≡ true)
+      → Steps t o p a y r → Steps t o p (ifNext q a b) y r
   when q a b h g = record { steps = λ z c. rw (h z c) (g .steps z c); faults = g .faults }
 
-  unless : {y : Symbol} (q : rules.Symbol → Bool) (a b : Reader U.Step) → ((z : rules.Symbol) → Cuts t z y → q z ≡ false) → Steps t o p b y r → Steps t o p (ifNext q a b) y r
+  unless : {y : Symbol} (q : rules.Symbol → Bool) (a b : Reader U.Step)
+      → ((z : rules.Symbol) → Cuts t z y → q z ≡ false) → Steps t o p b y r → Steps t o p (ifNext q a b) y r
   unless q a b h g = record { steps = λ z c. rw (h z c) (g .steps z c); faults = g .faults }
 
 -- ---- the last symbol
-fault-ended : {t : List ℕ} {y : Symbol} {r : Step} (k : ℕ) (u : C.Unit) (w : Where) → (k ≡ 5 → ⊥) → r ≡ endedOf t y k u w → Faults t y r
-fault-ended {t} k u w s e f i c = e ∙ ap (λ (x : Symbol). endedOf t x k u w) (c .cuts) ∙ rw (ne-eqb 5 k (λ h. s (sym h)))
+fault-ended : {t : List ℕ} {y : Symbol} {r : Step} (k : ℕ) (u : C.Unit) (w : Where) → (k ≡ 5 → ⊥)
+    → r ≡ endedOf t y k u w → Faults t y r
+fault-ended {t} k u w s e f i c =
+    e ∙ ap (λ (x : Symbol). endedOf t x k u w) (c .cuts) ∙ rw (ne-eqb 5 k (λ h. s (sym h)))
 
 module _ {t o p : List ℕ} {r : Step} where
-  pub ends : {y : Symbol} {q : rules.Symbol → Bool} {k : ℕ} (u : C.Unit) (x : Option U.Unit) (w : U.Where) {v : Where} → whereOf w ≡ v → Test q k → r ≡ endedOf t y k u v →
-      IsAny o p x u → Steps t o p (expect q >>= λ e. step x w e) y r
+  pub ends : {y : Symbol} {q : rules.Symbol → Bool} {k : ℕ} (u : C.Unit) (x : Option U.Unit) (w : U.Where) {v : Where}
+      → whereOf w ≡ v → Test q k → r ≡ endedOf t y k u v
+      → IsAny o p x u → Steps t o p (expect q >>= λ e. step x w e) y r
   ends {y} {q} {k} u x w {v} j h e i =
       record {
-        steps = λ z c. subst (StepIs t o p ((expect q >>= λ e. step x w e) t z)) (sym (placed ∙ ap (λ (s : Symbol). endedOf t s k u (whereOf w)) (c .cuts))) (at z (h .test z (c .stands .coded)));
+        steps = λ z c. subst (StepIs t o p ((expect q >>= λ e. step x w e) t z)) (sym (placed
+            ∙ ap (λ (s : Symbol). endedOf t s k u (whereOf w)) (c .cuts))) (at z (h .test z (c .stands .coded)));
         faults = fault-ended k u v (h .sound) e;
       }
     where
       placed : r ≡ endedOf t y k u (whereOf w)
       placed = e ∙ ap (λ (s : Where). endedOf t y k u s) (sym j)
 
-      at : (z : rules.Symbol) → q z ≡ eqb (cut z .code) k → StepIs t o p ((expect q >>= λ e. step x w e) t z) (endedOf t (cut z) k u (whereOf w))
+      at : (z : rules.Symbol) → q z ≡ eqb (cut z .code) k
+          → StepIs t o p ((expect q >>= λ e. step x w e) t z) (endedOf t (cut z) k u (whereOf w))
       at z f = rw f (go (eqb (cut z .code) k))
         where
-          go : (b : Bool) → StepIs t o p (andThen t (cond b (done z (symbolAt t (endOf z))) (refused (faultOf (z .kind)) (z .place))) (λ e. step x w e))
+          go : (b : Bool) → StepIs t o p (andThen t
+              (cond b (done z (symbolAt t (endOf z))) (refused (faultOf (z .kind)) (z .place))) (λ e. step x w e))
               (cond b (Read u (whereOf w) (cut (symbolAt t (endOf z)))) (Unread (cut z .refusal) (cut z .place)))
           go true = (u, refl, i)
           go false = refl
@@ -120,23 +129,29 @@ given-extends none = refl
 given-extends (some a) = refl
 
 -- CLASS or STRUCTURE
-class-test : {t : List ℕ} {y : Symbol} (x : Bool) → (eqb (y .code) 69 || eqb (y .code) 70) ≡ x → (z : rules.Symbol) → Cuts t z y →
-    isOneWord (ascii "CLASS" ∷ ascii "STRUCTURE" ∷ []) z ≡ x
-class-test x e z c = is-one-word (ascii "CLASS") (ascii "STRUCTURE") 69 70 refl refl z (c .stands .coded) ∙ (rw (c .cuts) at e)
+class-test : {t : List ℕ} {y : Symbol} (x : Bool) → (eqb (y .code) 69 || eqb (y .code) 70) ≡ x
+    → (z : rules.Symbol) → Cuts t z y
+    → isOneWord (ascii "CLASS" ∷ ascii "STRUCTURE" ∷ []) z ≡ x
+class-test x e z c =
+    is-one-word (ascii "CLASS") (ascii "STRUCTURE") 69 70 refl refl z (c .stands .coded) ∙ (rw (c .cuts) at e)
 
-class-word : {t : List ℕ} {y : Symbol} → (eqb (y .code) 69 || eqb (y .code) 70) ≡ true → (z : rules.Symbol) → Cuts t z y →
-    isOneWord (ascii "CLASS" ∷ ascii "STRUCTURE" ∷ []) z ≡ true
+class-word : {t : List ℕ} {y : Symbol} → (eqb (y .code) 69 || eqb (y .code) 70) ≡ true → (z : rules.Symbol) → Cuts t z y
+    → isOneWord (ascii "CLASS" ∷ ascii "STRUCTURE" ∷ []) z ≡ true
 class-word h z c = class-test true h z c
 
 class-sound : (y : Symbol) → (eqb (y .code) 69 || eqb (y .code) 70) ≡ true → y .code ≡ 5 → ⊥
 class-sound y h e =
-    ⊎-elim (λ k. let q = eqb-true (y .code) 69 k in omega arith) (λ k. let q = eqb-true (y .code) 70 k in omega arith) (or-split h)
+    ⊎-elim (λ k. let q = eqb-true (y .code) 69 k in omega arith)
+    (λ k. let q = eqb-true (y .code) 70 k in omega arith) (or-split h)
 
-structure-flag : {t : List ℕ} {y : Symbol} → (eqb (y .code) 69 || eqb (y .code) 70) ≡ true → (w : rules.Symbol) → Cuts t w y →
-    same (w .bytes) (ascii "STRUCTURE") ≡ eqb (y .code) 70
+structure-flag : {t : List ℕ} {y : Symbol} → (eqb (y .code) 69 || eqb (y .code) 70) ≡ true
+    → (w : rules.Symbol) → Cuts t w y
+    → same (w .bytes) (ascii "STRUCTURE") ≡ eqb (y .code) 70
 structure-flag {t} {y} h w c =
-    let k : (isKind word w ≡ true) × (isOneOf (w .bytes) (ascii "CLASS" ∷ ascii "STRUCTURE" ∷ []) ≡ true) = split (class-word h w c) in
-    let q : (isKind word w && same (w .bytes) (ascii "STRUCTURE")) ≡ eqb (cut w .code) 70 = is-word (ascii "STRUCTURE") 70 refl .test w (c .stands .coded) in
+    let k : (isKind word w ≡ true)
+    × (isOneOf (w .bytes) (ascii "CLASS" ∷ ascii "STRUCTURE" ∷ []) ≡ true) = split (class-word h w c) in
+    let q : (isKind word w && same (w .bytes) (ascii "STRUCTURE"))
+    ≡ eqb (cut w .code) 70 = is-word (ascii "STRUCTURE") 70 refl .test w (c .stands .coded) in
     (rw (k .0) at q) ∙ ap (λ (x : Symbol). eqb (x .code) 70) (sym (c .cuts))
 
 semi : Test (isMark ";") 59
@@ -147,33 +162,41 @@ equals = is-mark "=" (omega arith) (omega arith)
 
 -- ---- heads
 module _ {t : List ℕ} (o : List ℕ) {y : Symbol} {r : Step} where
-  pub header-steps : {v e : Symbol} {i : Name} → v ≡ passed t y 64 → e ≡ passed t v 2 → i ≡ named v → r ≡ endedOf t e 59 (Header i) AfterHeader → Steps t o o headerUnit y r
+  pub header-steps : {v e : Symbol} {i : Name} → v ≡ passed t y 64 → e ≡ passed t v 2 → i ≡ named v
+      → r ≡ endedOf t e 59 (Header i) AfterHeader → Steps t o o headerUnit y r
   unfolding headerUnit
   header-steps {v} {e} {i} e₁ e₂ f g =
       let second = expected is-number e₂ in
       let last = fault-ended 59 (Header i) AfterHeader (omega arith) g in
-      on (expected (is-word (ascii "INTERLIS") 64 refl) e₁) (λ _ _. on second (λ a q. ends (Header i) (some (U.header a)) U.afterHeader refl semi g (ap Header (f ∙ ap named q))) last)
+      on (expected (is-word (ascii "INTERLIS") 64 refl) e₁) (λ _ _. on second
+      (λ a q. ends (Header i) (some (U.header a)) U.afterHeader refl semi g (ap Header (f ∙ ap named q))) last)
       (through (second .passes) last)
 
-  pub topic-steps : {n e : Symbol} {i : Name} → n ≡ passed t y 68 → e ≡ passed t n 1 → i ≡ named n → r ≡ endedOf t e 61 (Topic i) (Body true false) → Steps t o o topicUnit y r
+  pub topic-steps : {n e : Symbol} {i : Name} → n ≡ passed t y 68 → e ≡ passed t n 1 → i ≡ named n
+      → r ≡ endedOf t e 61 (Topic i) (Body true false) → Steps t o o topicUnit y r
   unfolding topicUnit
   topic-steps {n} {e} {i} e₁ e₂ f g =
       let second = a-name e₂ in
       let last = fault-ended 61 (Topic i) (Body true false) (omega arith) g in
-      on (expected (is-word (ascii "TOPIC") 68 refl) e₁) (λ _ _. on second (λ a q. ends (Topic i) (some (U.topic a)) (U.body U.in-topic U.no-run) refl equals g (ap Topic (f ∙ q))) last)
+      on (expected (is-word (ascii "TOPIC") 68 refl) e₁) (λ _ _. on second
+      (λ a q. ends (Topic i) (some (U.topic a)) (U.body U.in-topic U.no-run) refl equals g (ap Topic (f ∙ q))) last)
       (through (second .passes) last)
 
-  pub close-steps : (last : Bool) {n e : Symbol} {i : Name} (w : Where) → n ≡ passed t y 77 → e ≡ passed t n 1 → i ≡ named n → r ≡ endedOf t e (cond last 46 59) (Close i) w →
-      Steps t o o (endUnit (endMark last) (placeOf w)) y r
+  pub close-steps : (last : Bool) {n e : Symbol} {i : Name} (w : Where) → n ≡ passed t y 77 → e ≡ passed t n 1
+      → i ≡ named n → r ≡ endedOf t e (cond last 46 59) (Close i) w
+      → Steps t o o (endUnit (endMark last) (placeOf w)) y r
   unfolding endUnit
   close-steps last {n} {e} {i} w e₁ e₂ f g =
       let second = a-name e₂ in
       let end = fault-ended (cond last 46 59) (Close i) w (end-sound last) g in
-      on (expected (is-word (ascii "END") 77 refl) e₁) (λ _ _. on second (λ a q. ends (Close i) (some (U.close a)) (placeOf w) (where-place w) (end-test last) g (ap Close (f ∙ q))) end)
+      on (expected (is-word (ascii "END") 77 refl) e₁) (λ _ _. on second
+      (λ a q. ends (Close i) (some (U.close a)) (placeOf w) (where-place w) (end-test last) g (ap Close (f ∙ q))) end)
       (through (second .passes) end)
 
-  pub model-steps : {n l a s v w e : Symbol} (head : ModelHead) → n ≡ passed t y 65 → l ≡ passed t n 1 → head .name ≡ named n → Reads t language anything l a → s ≡ passed t a 66 →
-      v ≡ passed t s 3 → head .address ≡ named s → w ≡ passed t v 67 → e ≡ passed t w 3 → head .version ≡ named w → r ≡ endedOf t e 61 (Model head) (Body false false) → Steps t o o modelUnit y r
+  pub model-steps : {n l a s v w e : Symbol} (head : ModelHead) → n ≡ passed t y 65 → l ≡ passed t n 1
+      → head .name ≡ named n → Reads t language anything l a → s ≡ passed t a 66
+      → v ≡ passed t s 3 → head .address ≡ named s → w ≡ passed t v 67 → e ≡ passed t w 3 → head .version ≡ named w
+      → r ≡ endedOf t e 61 (Model head) (Body false false) → Steps t o o modelUnit y r
   unfolding modelUnit
   model-steps head e₁ e₂ f m e₃ e₄ x e₅ e₆ z g =
       let r₂ = a-name e₂ in
@@ -187,11 +210,14 @@ module _ {t : List ℕ} (o : List ℕ) {y : Symbol} {r : Step} where
       let f₃ = through (r₄ .passes) f₄ in
       let f₂ = through (r₃ .passes) f₃ in
       let f₁ = through (m .passes) f₂ in
-      on (expected (is-word (ascii "MODEL") 65 refl) e₁) (λ _ _. on r₂ (λ i q. on m (λ _ _. on r₃ (λ _ _. on r₄ (λ b j. on r₅ (λ _ _. on r₆
-      (λ d k. ends (Model head) (some (U.model i (record { address = b; version = d }))) (U.body U.in-model U.no-run) refl equals g
+      on (expected (is-word (ascii "MODEL") 65 refl) e₁)
+      (λ _ _. on r₂ (λ i q. on m (λ _ _. on r₃ (λ _ _. on r₄ (λ b j. on r₅ (λ _ _. on r₆
+      (λ d k. ends (Model head) (some (U.model i (record { address = b; version = d })))
+      (U.body U.in-model U.no-run) refl equals g
       (head, refl, f ∙ q, x ∙ ap named j, z ∙ ap named k)) f₆) f₅) f₄) f₃) f₂) f₁) (through (r₂ .passes) f₁)
 
-  pub mark-steps : (w : List ℕ) (k : ℕ) (at : U.Where) {v : Where} → whereOf at ≡ v → Test (isWord w) k → r ≡ endedOf t y k Mark v → Steps t o o (wordStep w at) y r
+  pub mark-steps : (w : List ℕ) (k : ℕ) (at : U.Where) {v : Where} → whereOf at ≡ v → Test (isWord w) k
+      → r ≡ endedOf t y k Mark v → Steps t o o (wordStep w at) y r
   unfolding wordStep
   mark-steps w k at j q g = ends Mark none at j q g refl
 
@@ -199,9 +225,12 @@ module _ {t : List ℕ} (o : List ℕ) {y : Symbol} {r : Step} where
   unfolding lastStep
   over-steps g = ends Mark none U.over refl is-stop g refl
 
-  pub class-steps : (topic : Bool) {n l m k : Symbol} {i : Name} {ps : Properties} {b : Extends} {s : Bool} → (eqb (y .code) 69 || eqb (y .code) 70) ≡ true → n ≡ passed t y (y .code) →
-      l ≡ passed t n 1 → i ≡ named n → Reads t (properties (wordsOf false)) (λ p. ps ≡ flagsOf p) l m → Reads t extends (λ a. b ≡ extendsOf a) m k → s ≡ eqb (y .code) 70 →
-      r ≡ endedOf t k 61 (Class (record { structure = s; name = i; properties = ps; base = b })) (Members topic true) → Steps t o o (classUnit (aroundOf topic)) y r
+  pub class-steps : (topic : Bool) {n l m k : Symbol} {i : Name} {ps : Properties} {b : Extends} {s : Bool}
+      → (eqb (y .code) 69 || eqb (y .code) 70) ≡ true → n ≡ passed t y (y .code)
+      → l ≡ passed t n 1 → i ≡ named n → Reads t (properties (wordsOf false)) (λ p. ps ≡ flagsOf p) l m
+      → Reads t extends (λ a. b ≡ extendsOf a) m k → s ≡ eqb (y .code) 70
+      → r ≡ endedOf t k 61 (Class (record { structure = s; name = i; properties = ps; base = b })) (Members topic true)
+      → Steps t o o (classUnit (aroundOf topic)) y r
   unfolding classUnit
   class-steps topic {n} {l} {m} {k} {i} {ps} {b} {s} h e₁ e₂ f p x j g =
       let r₂ = a-name e₂ in
@@ -210,14 +239,18 @@ module _ {t : List ℕ} (o : List ℕ) {y : Symbol} {r : Step} where
       let f₃ = through (x .passes) f₄ in
       let f₂ = through (p .passes) f₃ in
       on (taken (class-word h) (class-sound y h) e₁) (λ w c. on r₂ (λ a q₁. on p (λ d q₂. on x (λ z q₃.
-      ends head (some (U.class (U.classSort (same (w .bytes) (ascii "STRUCTURE"))) a d z)) (U.members (aroundOf topic) U.its-head) (where-place (Members topic true)) equals g
+      ends head (some (U.class (U.classSort (same (w .bytes) (ascii "STRUCTURE"))) a d z))
+      (U.members (aroundOf topic) U.its-head) (where-place (Members topic true)) equals g
       (s, ap U.classSort (structure-flag h w c ∙ sym j), rw (f ∙ q₁, q₂, q₃))) f₄) f₃) f₂) (through (r₂ .passes) f₂)
 
 -- ---- domains and attributes
-module _ {t o o′ : List ℕ} (topic : Bool) {y : Symbol} {r : Step} {l m : Symbol} {i : Name} {ps : Properties} {v : Written} (e₁ : l ≡ passed t y 1) (f : i ≡ named y) where
-  pub domain-steps : {k q e : Symbol} {b : Extends} {x : Bool} → Reads t (properties (wordsOf false)) (λ p. ps ≡ flagsOf p) l m → Reads t extends (λ a. b ≡ extendsOf a) m k →
-      q ≡ passed t k 61 → x ≡ givenOf b → Reads t (written x (typeBy false)) (MeansAll o o′ v) q e →
-      r ≡ endedOf t e 59 (Domain (record { name = i; properties = ps; base = b; written = v })) (Body topic true) → Steps t o o′ (domainUnit (aroundOf topic)) y r
+module _ {t o o′ : List ℕ} (topic : Bool) {y : Symbol} {r : Step} {l m : Symbol} {i : Name} {ps : Properties} {v :
+    Written} (e₁ : l ≡ passed t y 1) (f : i ≡ named y) where
+  pub domain-steps : {k q e : Symbol} {b : Extends} {x : Bool}
+      → Reads t (properties (wordsOf false)) (λ p. ps ≡ flagsOf p) l m → Reads t extends (λ a. b ≡ extendsOf a) m k
+      → q ≡ passed t k 61 → x ≡ givenOf b → Reads t (written x (typeBy false)) (MeansAll o o′ v) q e →
+      r ≡ endedOf t e 59 (Domain (record { name = i; properties = ps; base = b; written = v })) (Body topic true)
+      → Steps t o o′ (domainUnit (aroundOf topic)) y r
   unfolding domainUnit
   domain-steps {k} {q} {e} {b} {x} p n e₂ j w g =
       let unit = Domain (record { name = i; properties = ps; base = b; written = v }) in
@@ -228,11 +261,14 @@ module _ {t o o′ : List ℕ} (topic : Bool) {y : Symbol} {r : Step} {l m : Sym
       let f₂ = through (n .passes) f₃ in
       on (a-name e₁) (λ a q₁. on p (λ d q₂. on n (λ z q₃. on r₄ (λ _ _.
       on (subst (λ (c : Bool). Reads t (written c typeOf) (MeansAll o o′ v) q e) (j ∙ rw q₃ (given-extends z)) w)
-      (λ u q₄. ends unit (some (U.domain a d z u)) (U.body (aroundOf topic) U.domains) (where-place (Body topic true)) semi g (rw (f ∙ q₁, q₂, q₃, q₄ .0), q₄ .1)) f₅) f₄) f₃) f₂) (through (p .passes) f₂)
+      (λ u q₄. ends unit (some (U.domain a d z u)) (U.body (aroundOf topic) U.domains) (where-place (Body topic true))
+      semi g (rw (f ∙ q₁, q₂, q₃, q₄ .0), q₄ .1)) f₅) f₄) f₃) f₂) (through (p .passes) f₂)
 
-  pub attribute-steps : {q e : Symbol} → Reads t (properties (wordsOf true)) (λ p. ps ≡ flagsOf p) l m → q ≡ passed t m 58 →
-      Reads t (written (ps .extended) (typeBy true)) (MeansAll o o′ v) q e → r ≡ endedOf t e 59 (Attribute (record { name = i; properties = ps; written = v })) (Members topic false) →
-      Steps t o o′ (attributeUnit (aroundOf topic)) y r
+  pub attribute-steps : {q e : Symbol}
+      → Reads t (properties (wordsOf true)) (λ p. ps ≡ flagsOf p) l m → q ≡ passed t m 58
+      → Reads t (written (ps .extended) (typeBy true)) (MeansAll o o′ v) q e
+      → r ≡ endedOf t e 59 (Attribute (record { name = i; properties = ps; written = v })) (Members topic false)
+      → Steps t o o′ (attributeUnit (aroundOf topic)) y r
   unfolding attributeUnit
   attribute-steps {q} {e} p e₂ w g =
       let unit = Attribute (record { name = i; properties = ps; written = v }) in
@@ -241,8 +277,10 @@ module _ {t o o′ : List ℕ} (topic : Bool) {y : Symbol} {r : Step} {l m : Sym
       let f₃ = through (w .passes) f₄ in
       let f₂ = through (r₃ .passes) f₃ in
       on (a-name e₁) (λ a q₁. on p (λ d q₂. on r₃ (λ _ _.
-      on (subst (λ (c : Bool). Reads t (written c typeOrReference) (MeansAll o o′ v) q e) (ap (λ (x : Properties). x .extended) q₂) w)
-      (λ u q₄. ends unit (some (U.attribute a d u)) (U.members (aroundOf topic) U.a-member) (where-place (Members topic false)) semi g (rw (f ∙ q₁, q₂, q₄ .0), q₄ .1)) f₄) f₃) f₂) (through (p .passes) f₂)
+      on (subst (λ (c : Bool). Reads t (written c typeOrReference) (MeansAll o o′ v) q e)
+      (ap (λ (x : Properties). x .extended) q₂) w)
+      (λ u q₄. ends unit (some (U.attribute a d u)) (U.members (aroundOf topic) U.a-member)
+      (where-place (Members topic false)) semi g (rw (f ∙ q₁, q₂, q₄ .0), q₄ .1)) f₄) f₃) f₂) (through (p .passes) f₂)
 
 -- ---- which unit
 is-model : (t : Bool) → U.isModel (aroundOf t) ≡ not t
@@ -250,58 +288,77 @@ is-model true = refl
 is-model false = refl
 
 module _ {t : List ℕ} {y : Symbol} where
-  at-topic : (topic x : Bool) → (not topic && eqb (y .code) 68) ≡ x → (z : rules.Symbol) → Cuts t z y → (U.isModel (aroundOf topic) && isWord (ascii "TOPIC") z) ≡ x
-  at-topic topic x e z c = rw (is-model topic, is-word (ascii "TOPIC") 68 refl .test z (c .stands .coded)) (rw (c .cuts) at e)
+  at-topic : (topic x : Bool) → (not topic && eqb (y .code) 68) ≡ x → (z : rules.Symbol) → Cuts t z y
+      → (U.isModel (aroundOf topic) && isWord (ascii "TOPIC") z) ≡ x
+  at-topic topic x e z c =
+      rw (is-model topic, is-word (ascii "TOPIC") 68 refl .test z (c .stands .coded)) (rw (c .cuts) at e)
 
-  at-domain : (run x : Bool) → (run && eqb (y .code) 1) ≡ x → (z : rules.Symbol) → Cuts t z y → (U.ofDomains (runOf run) && isKind name z) ≡ x
+  at-domain : (run x : Bool) → (run && eqb (y .code) 1) ≡ x → (z : rules.Symbol) → Cuts t z y
+      → (U.ofDomains (runOf run) && isKind name z) ≡ x
   at-domain run x e z c = rw (where-run run, is-name .test z (c .stands .coded)) (rw (c .cuts) at e)
 
-  at-attribute : (first x : Bool) → (first && eqb (y .code) 75) ≡ x → (z : rules.Symbol) → Cuts t z y → (U.isHead (behindOf first) && isWord (ascii "ATTRIBUTE") z) ≡ x
-  at-attribute first x e z c = rw (where-behind first, is-word (ascii "ATTRIBUTE") 75 refl .test z (c .stands .coded)) (rw (c .cuts) at e)
+  at-attribute : (first x : Bool) → (first && eqb (y .code) 75) ≡ x → (z : rules.Symbol) → Cuts t z y
+      → (U.isHead (behindOf first) && isWord (ascii "ATTRIBUTE") z) ≡ x
+  at-attribute first x e z c =
+      rw (where-behind first, is-word (ascii "ATTRIBUTE") 75 refl .test z (c .stands .coded)) (rw (c .cuts) at e)
 
 module _ {t o p : List ℕ} {y : Symbol} {r : Step} (topic : Bool) where
   module _ (run : Bool) where
-    pub body-topic : (not topic && eqb (y .code) 68) ≡ true → Steps t o p topicUnit y r → Steps t o p (bodyUnit (aroundOf topic) (runOf run)) y r
+    pub body-topic : (not topic && eqb (y .code) 68) ≡ true → Steps t o p topicUnit y r
+        → Steps t o p (bodyUnit (aroundOf topic) (runOf run)) y r
     unfolding bodyUnit
     body-topic h g = when _ _ _ (at-topic topic true h) g
 
     module _ (h₁ : (not topic && eqb (y .code) 68) ≡ false) where
-      pub body-class : (eqb (y .code) 69 || eqb (y .code) 70) ≡ true → Steps t o p (classUnit (aroundOf topic)) y r → Steps t o p (bodyUnit (aroundOf topic) (runOf run)) y r
+      pub body-class : (eqb (y .code) 69 || eqb (y .code) 70) ≡ true → Steps t o p (classUnit (aroundOf topic)) y r
+          → Steps t o p (bodyUnit (aroundOf topic) (runOf run)) y r
       unfolding bodyUnit
       body-class h g = unless _ _ _ (at-topic topic false h₁) (when _ _ _ (class-test true h) g)
 
       module _ (h₂ : (eqb (y .code) 69 || eqb (y .code) 70) ≡ false) where
-        pub body-domains : y .code ≡ 74 → Steps t o p (wordStep (ascii "DOMAIN") (U.body (aroundOf topic) U.domains)) y r → Steps t o p (bodyUnit (aroundOf topic) (runOf run)) y r
+        pub body-domains : y .code ≡ 74 → Steps t o p (wordStep (ascii "DOMAIN") (U.body (aroundOf topic) U.domains)) y
+            r → Steps t o p (bodyUnit (aroundOf topic) (runOf run)) y r
         unfolding bodyUnit
-        body-domains h g = unless _ _ _ (at-topic topic false h₁) (unless _ _ _ (class-test false h₂) (when _ _ _ (is-yes (is-word (ascii "DOMAIN") 74 refl) h) g))
+        body-domains h g = unless _ _ _ (at-topic topic false h₁)
+            (unless _ _ _ (class-test false h₂) (when _ _ _ (is-yes (is-word (ascii "DOMAIN") 74 refl) h) g))
 
         module _ (h₃ : y .code ≡ 74 → ⊥) where
-          pub body-domain : (run && eqb (y .code) 1) ≡ true → Steps t o p (domainUnit (aroundOf topic)) y r → Steps t o p (bodyUnit (aroundOf topic) (runOf run)) y r
+          pub body-domain : (run && eqb (y .code) 1) ≡ true → Steps t o p (domainUnit (aroundOf topic)) y r
+              → Steps t o p (bodyUnit (aroundOf topic) (runOf run)) y r
           unfolding bodyUnit
           body-domain h g =
-              unless _ _ _ (at-topic topic false h₁) (unless _ _ _ (class-test false h₂) (unless _ _ _ (is-no (is-word (ascii "DOMAIN") 74 refl) h₃) (when _ _ _ (at-domain run true h) g)))
+              unless _ _ _ (at-topic topic false h₁) (unless _ _ _ (class-test false h₂)
+              (unless _ _ _ (is-no (is-word (ascii "DOMAIN") 74 refl) h₃) (when _ _ _ (at-domain run true h) g)))
 
-          pub body-close : (run && eqb (y .code) 1) ≡ false → Steps t o p (bodyEnd (aroundOf topic)) y r → Steps t o p (bodyUnit (aroundOf topic) (runOf run)) y r
+          pub body-close : (run && eqb (y .code) 1) ≡ false → Steps t o p (bodyEnd (aroundOf topic)) y r
+              → Steps t o p (bodyUnit (aroundOf topic) (runOf run)) y r
           unfolding bodyUnit
           body-close h g =
-              unless _ _ _ (at-topic topic false h₁) (unless _ _ _ (class-test false h₂) (unless _ _ _ (is-no (is-word (ascii "DOMAIN") 74 refl) h₃) (unless _ _ _ (at-domain run false h) g)))
+              unless _ _ _ (at-topic topic false h₁) (unless _ _ _ (class-test false h₂)
+              (unless _ _ _ (is-no (is-word (ascii "DOMAIN") 74 refl) h₃) (unless _ _ _ (at-domain run false h) g)))
 
   module _ (first : Bool) where
-    pub members-open : (first && eqb (y .code) 75) ≡ true → Steps t o p (wordStep (ascii "ATTRIBUTE") (U.members (aroundOf topic) U.a-member)) y r → Steps t o p (memberUnit (aroundOf topic) (behindOf first)) y r
+    pub members-open : (first && eqb (y .code) 75) ≡ true
+        → Steps t o p (wordStep (ascii "ATTRIBUTE") (U.members (aroundOf topic) U.a-member)) y r
+        → Steps t o p (memberUnit (aroundOf topic) (behindOf first)) y r
     unfolding memberUnit
     members-open h g = when _ _ _ (at-attribute first true h) g
 
-    pub members-attribute : (first && eqb (y .code) 75) ≡ false → y .code ≡ 1 → Steps t o p (attributeUnit (aroundOf topic)) y r → Steps t o p (memberUnit (aroundOf topic) (behindOf first)) y r
+    pub members-attribute : (first && eqb (y .code) 75) ≡ false → y .code ≡ 1 → Steps t o p
+        (attributeUnit (aroundOf topic)) y r → Steps t o p (memberUnit (aroundOf topic) (behindOf first)) y r
     unfolding memberUnit
     members-attribute h k g = unless _ _ _ (at-attribute first false h) (when _ _ _ (is-yes is-name k) g)
 
-    pub members-close : (first && eqb (y .code) 75) ≡ false → (y .code ≡ 1 → ⊥) → Steps t o p (endUnit ";" (U.body (aroundOf topic) U.no-run)) y r → Steps t o p (memberUnit (aroundOf topic) (behindOf first)) y r
+    pub members-close : (first && eqb (y .code) 75) ≡ false → (y .code ≡ 1 → ⊥)
+        → Steps t o p (endUnit ";" (U.body (aroundOf topic) U.no-run)) y r
+        → Steps t o p (memberUnit (aroundOf topic) (behindOf first)) y r
     unfolding memberUnit
     members-close h k g = unless _ _ _ (at-attribute first false h) (unless _ _ _ (is-no is-name k) g)
 
 -- ---- the rest
 module _ {t o : List ℕ} {y : Symbol} {r : Step} (topic : Bool) where
-  pub topic-ends : topic ≡ true → Steps t o o (endUnit ";" (U.body U.in-model U.no-run)) y r → Steps t o o (bodyEnd (aroundOf topic)) y r
+  pub topic-ends : topic ≡ true → Steps t o o (endUnit ";" (U.body U.in-model U.no-run)) y r
+      → Steps t o o (bodyEnd (aroundOf topic)) y r
   unfolding bodyEnd
   topic-ends h g = rw h g
 
@@ -310,12 +367,14 @@ module _ {t o : List ℕ} {y : Symbol} {r : Step} (topic : Bool) where
   model-ends h g = rw h g
 
 module _ {t : List ℕ} {y : Symbol} where
-  pub language-there : {n c e : Symbol} → y .code ≡ 40 → n ≡ passed t y 40 → c ≡ passed t n 1 → e ≡ passed t c 41 → Reads t language anything y e
+  pub language-there : {n c e : Symbol} → y .code ≡ 40 → n ≡ passed t y 40 → c ≡ passed t n 1 → e ≡ passed t c 41
+      → Reads t language anything y e
   language-there k e₁ e₂ e₃ =
       let round = is-mark "(" (omega arith) (omega arith) in
       let r₂ = a-name e₂ in
       let r₃ = expected (is-mark ")" (omega arith) (omega arith)) e₃ in
-      if-true (isMark "(") _ _ (is-yes round k) (mapped some (bind (expected round e₁) (λ _ _. bind r₂ (λ _ _. r₃) (r₃ .passes)) (onward (r₂ .passes) (r₃ .passes))) (λ _ _. tt))
+      if-true (isMark "(") _ _ (is-yes round k) (mapped some (bind (expected round e₁)
+      (λ _ _. bind r₂ (λ _ _. r₃) (r₃ .passes)) (onward (r₂ .passes) (r₃ .passes))) (λ _ _. tt))
 
   pub language-absent : (y .code ≡ 40 → ⊥) → Reads t language anything y y
   language-absent k = if-false (isMark "(") _ _ (is-no (is-mark "(" (omega arith) (omega arith)) k) (stay none tt)
@@ -337,35 +396,11 @@ module _ {t o p : List ℕ} {y : Symbol} {r : Step} where
   unfolding unitAt
   at-body a b g = g
 
-  pub at-members : (a : U.Around) (b : U.Behind) → Steps t o p (memberUnit a b) y r → Steps t o p (unitAt (U.members a b)) y r
+  pub at-members : (a : U.Around) (b : U.Behind) → Steps t o p (memberUnit a b) y r
+      → Steps t o p (unitAt (U.members a b)) y r
   unfolding unitAt
   at-members a b g = g
 
   pub at-over : Steps t o p lastStep y r → Steps t o p (unitAt U.over) y r
   unfolding unitAt
   at-over g = g
-
--- ---- behind a unit there is another symbol
-behind-only : (t : List ℕ) (m : Result U.Step) → Ends (Stepped t 1) m → Ends (λ q _. q .behind ≤ length t) m
-behind-only t (done q z) h = h .1
-behind-only t (refused f k) h = tt
-
-behind : (t : List ℕ) (w : U.Where) (z : rules.Symbol) → Stands t z → Ends (λ q _. q .behind ≤ length t) (unitAt w t z)
-unfolding unitAt lastStep
-behind t U.start z s = behind-only t (unitAt U.start t z) (unit-steps U.start refl .reads t 0 z (stands-lies s))
-behind t U.afterHeader z s = behind-only t (unitAt U.afterHeader t z) (unit-steps U.afterHeader refl .reads t 0 z (stands-lies s))
-behind t (U.body a b) z s = behind-only t (unitAt (U.body a b) t z) (unit-steps (U.body a b) refl .reads t 0 z (stands-lies s))
-behind t (U.members a b) z s = behind-only t (unitAt (U.members a b) t z) (unit-steps (U.members a b) refl .reads t 0 z (stands-lies s))
-behind t U.over z s =
-    either (λ m. Ends (λ q _. q .behind ≤ length t) (andThen t m (λ e. step none U.over e))) (isKind stop z) (λ _. s .ends) (λ _. tt)
-
-pub held-next : {t o p : List ℕ} (w : U.Where) {y n : Symbol} {r : Step} {u : C.Unit} {v : Where} → Held t y → Steps t o p (unitAt w) y r → r ≡ Read u v n → Held t n
-held-next {t} {o} {p} w {y} {n} {r} {u} {v} (z, c) s e = go (unitAt w t z) (behind t w z (c .stands)) (s .steps z c)
-  where
-    go : (m : Result U.Step) → Ends (λ q _. q .behind ≤ length t) m → StepIs t o p m r → Held t n
-    go (done q x) h (a, f, i) = let g : n ≡ cut (symbolAt t (q .behind)) = cc in (symbolAt t (q .behind), record { cuts = g; stands = at-stands t (q .behind) h })
-    go (refused f k) h g = absurd (let q : _≡_ {A = ℕ} 0 1 = cc in omega arith)
-
--- the first symbol of a text
-pub held-first : {t : List ℕ} {y : Symbol} → y ≡ cut (symbolAt t 0) → Held t y
-held-first {t} e = (symbolAt t 0, record { cuts = e; stands = at-stands t 0 (omega arith) })

@@ -69,14 +69,20 @@ partOf s = record { offset = s .place; len = length (s .bytes) }
 -- u is the unit, and the scratch o has become p
 abbrev pub Is : List ℕ → List ℕ → U.Unit → code.Unit → Type 0
 Is o p (U.header s) u = u ≡ Header (partOf s)
-Is o p (U.model n q) u = (h : ModelHead) × (u ≡ Model h) × (h .name ≡ nameCut n) × (h .address ≡ partOf (q .address)) × (h .version ≡ partOf (q .version))
+Is o p (U.model n q) u =
+    (h : ModelHead) × (u ≡ Model h) × (h .name ≡ nameCut n) × (h .address ≡ partOf (q .address))
+    × (h .version ≡ partOf (q .version))
 Is o p (U.topic n) u = u ≡ Topic (nameCut n)
 Is o p (U.close n) u = u ≡ Close (nameCut n)
 Is o p (U.class c n ps b) u =
-    (k : Bool) × (c ≡ U.classSort k) × (u ≡ Class (record { structure = k; name = nameCut n; properties = flagsOf ps; base = extendsOf b }))
+    (k : Bool) × (c ≡ U.classSort k)
+    × (u ≡ Class (record { structure = k; name = nameCut n; properties = flagsOf ps; base = extendsOf b }))
 Is o p (U.domain n ps b w) u =
-    (u ≡ Domain (record { name = nameCut n; properties = flagsOf ps; base = extendsOf b; written = writtenOf w })) × Scratches o p (w .type)
-Is o p (U.attribute n ps w) u = (u ≡ Attribute (record { name = nameCut n; properties = flagsOf ps; written = writtenOf w })) × Scratches o p (w .type)
+    (u ≡ Domain (record { name = nameCut n; properties = flagsOf ps; base = extendsOf b; written = writtenOf w }))
+    × Scratches o p (w .type)
+Is o p (U.attribute n ps w) u =
+    (u ≡ Attribute (record { name = nameCut n; properties = flagsOf ps; written = writtenOf w }))
+    × Scratches o p (w .type)
 
 -- DOMAIN and ATTRIBUTE are marks
 abbrev pub IsAny : List ℕ → List ℕ → Option U.Unit → code.Unit → Type 0
@@ -85,7 +91,8 @@ IsAny o p (some x) u = Is o p x u
 
 -- a unit, where the next one stands, and the first symbol behind it; or the number and the place of the refusal
 abbrev pub StepIs : List ℕ → List ℕ → List ℕ → Result U.Step → Step → Type 0
-StepIs t o p (done q z) r = (u : code.Unit) × (r ≡ Read u (whereOf (q .next)) (cut (symbolAt t (q .behind)))) × IsAny o p (q .unit) u
+StepIs t o p (done q z) r =
+    (u : code.Unit) × (r ≡ Read u (whereOf (q .next)) (cut (symbolAt t (q .behind)))) × IsAny o p (q .unit) u
 StepIs t o p (refused f k) r = r ≡ Unread (numberOf f) k
 
 -- from the symbol y on, the code steps as R does; a faulty y is the refusal

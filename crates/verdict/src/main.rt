@@ -1,8 +1,8 @@
 // The program behind `check`: the text on standard input, the verdict on standard output.
+use answers::Answer;
 use libc::STDERR_FILENO;
 use libc::STDIN_FILENO;
 use libc::STDOUT_FILENO;
-use running::Answer;
 ghost use Prim.Native.Nat.{_+_, _≤_};
 ghost use lib.ListN.{length};
 ghost use Rattle.verdict.specs.Input.{Within};

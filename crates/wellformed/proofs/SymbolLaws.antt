@@ -8,7 +8,8 @@ use lib.ListN.{length}
 use lib.Dec.{eqb}
 use borrow.Author.Tests.{eqb-true}
 use Rattle.rules.specs.Names.{nameOf}
-use Rattle.rules.specs.Symbols.{Kind, word, name, number, quoted, dots, stop, mark, fault, Symbol, endOf, symbolAt, tag, isKind, isNameText}
+use Rattle.rules.specs.Symbols.{Kind, word, name, number, quoted, dots, stop, mark, fault, Symbol, endOf, symbolAt, tag}
+use Rattle.rules.specs.Symbols.{isKind, isNameText}
 use Rattle.rules.proofs.Tests.{never}
 use Rattle.numbers.proofs.SymbolLaws.{Sized, number-sized}
 use Rattle.numbers.proofs.WrittenLaws.{value-small}
@@ -51,7 +52,13 @@ module _ (t : List ℕ) (y : Symbol) (h : Whole t y) where
   in-text l e =
       let b = h .stands .ends in
       let s = sound-name (y .kind) (y .bytes) e (h .stands .coded) in
-      record { fits = b; there = sym (h .stands .written); low = omega arith; short = let q = s .0 in omega arith; text = s .1 }
+      record {
+        fits = b;
+        there = sym (h .stands .written);
+        low = omega arith;
+        short = let q = s .0 in omega arith;
+        text = s .1;
+      }
 
   pub symbol-in-text : FairSymbol t y
   symbol-in-text = record { fits = h .stands .ends; there = sym (h .stands .written) }

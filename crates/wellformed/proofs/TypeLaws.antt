@@ -14,7 +14,8 @@ use Rattle.rules.specs.Grammar as G
 use Rattle.rules.specs.Grammar.{WrittenType}
 use Rattle.rules.specs.Types.{Ty, text, range, numeric, structure, enum}
 use Rattle.rules.specs.Declarations as D
-use Rattle.rules.specs.Declarations.{Use, inline, ofDomain, ofStructure, tyOf, Sort, domain, isSort, Def, linkOf, isFound}
+use Rattle.rules.specs.Declarations.{Use, inline, ofDomain, ofStructure, tyOf, Sort, domain, isSort, Def, linkOf}
+use Rattle.rules.specs.Declarations.{isFound}
 use Rattle.rules.specs.Judge.{orNoDef, mergedInto, meant, naming, attributeUse, referenceIn, elementRule, typeRules}
 use Rattle.rules.proofs.Tests.{never}
 use Rattle.rules.proofs.NumberLaws.{in-order}
@@ -55,13 +56,15 @@ positive : (n : ℕ) → eqb n 0 ≡ false → 0 < n
 positive n h = let k = eqb-false n 0 h in omega arith
 
 -- 9 of elements and 14 are kept
-pub meant-fair : (t : List ℕ) (based : Bool) (p : ℕ) (x : WrittenType) (b : Ty) → FairType t x → Base t b → referenceIn (some x) ≡ none
+pub meant-fair : (t : List ℕ) (based : Bool) (p : ℕ) (x : WrittenType) (b : Ty) → FairType t x
+    → Base t b → referenceIn (some x) ≡ none
     → elementRule (some x) .broken ≡ false → All Unbroken (typeRules based p (some x)) → Fair t (meant x b)
 meant-fair t based p (G.text m none) b h k r e q = tt
 meant-fair t based p (G.text m (some y)) b h k r e q = (positive (digits (y .bytes) 0) (q .0), h)
 meant-fair t based p (G.range x y) b h k r e q = (h .0 .0, h .0 .1, h .1 .1, in-order (x .bytes) (y .bytes) (q .0))
 meant-fair t based p G.numeric b h k r e q = tt
-meant-fair t based p (G.enum x) b h k r e q = merged-fair t b x k (record { named = h .0; deep = h .1; once = doubled-none (twice x []) e })
+meant-fair t based p (G.enum x) b h k r e q =
+    merged-fair t b x k (record { named = h .0; deep = h .1; once = doubled-none (twice x []) e })
 meant-fair t based p (G.named n) b h k r e q = apart r
 
 -- ---- what an attribute names
@@ -74,18 +77,22 @@ sort-domain D.domain e = refl
 pub domain-fair : (t : List ℕ) (n : ℕ) (d : Def) → FairDef t n d → isSort domain (d .sort) ≡ true → Fair t (d .type)
 domain-fair t n d h e = h .type (sort-domain (d .sort) e)
 
-naming-fair : (t : List ℕ) (n : ℕ) (o : Option Def) → AnyIs (FairDef t n) o → isFound o ≡ true → FairUse t (naming (orNoDef o))
+naming-fair : (t : List ℕ) (n : ℕ) (o : Option Def) → AnyIs (FairDef t n) o → isFound o ≡ true
+    → FairUse t (naming (orNoDef o))
 naming-fair t n none h f = never f
 naming-fair t n (some d) h f = go (isSort domain (d .sort)) refl
   where
-    go : (c : Bool) → isSort domain (d .sort) ≡ c → FairUse t (cond c (ofDomain (linkOf d) (d .bases)) (ofStructure (linkOf d) (d .bases)))
+    go : (c : Bool) → isSort domain (d .sort) ≡ c
+        → FairUse t (cond c (ofDomain (linkOf d) (d .bases)) (ofStructure (linkOf d) (d .bases)))
     go true e = domain-fair t n d h e
     go false e = tt
 
 -- the type that is written in place, or the definition that is named
-pub use-fair : (t : List ℕ) (n : ℕ) (target : Option Def) (based : Bool) (p : ℕ) (x : WrittenType) (b : Use) → FairType t x → Base t (tyOf b) →
-    elementRule (some x) .broken ≡ false → All Unbroken (typeRules based p (some x)) →
-    AnyIs (FairDef t n) target → (isFound (referenceIn (some x)) ≡ true → isFound target ≡ true) → FairUse t (attributeUse (some x) target b)
+pub use-fair : (t : List ℕ) (n : ℕ) (target : Option Def) (based : Bool) (p : ℕ) (x : WrittenType) (b : Use)
+    → FairType t x → Base t (tyOf b)
+    → elementRule (some x) .broken ≡ false → All Unbroken (typeRules based p (some x)) →
+    AnyIs (FairDef t n) target → (isFound (referenceIn (some x)) ≡ true → isFound target ≡ true)
+    → FairUse t (attributeUse (some x) target b)
 use-fair t n g based p (G.text m y) b h k e q f z = meant-fair t based p (G.text m y) (tyOf b) h k refl e q
 use-fair t n g based p (G.range x y) b h k e q f z = meant-fair t based p (G.range x y) (tyOf b) h k refl e q
 use-fair t n g based p G.numeric b h k e q f z = tt

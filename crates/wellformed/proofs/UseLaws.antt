@@ -10,10 +10,8 @@ use borrow.Author.Tests.{le-leb}
 use Rattle.rules.specs.Texts.{lengthFits}
 use Rattle.rules.specs.Enumerations.{Enum, end, merge, enumFits}
 use Rattle.rules.specs.Types.{Ty, text, range, numeric, structure, enum, fits}
-use Rattle.rules.specs.Grammar.{Reference}
 use Rattle.rules.specs.Declarations.{Attribute, Def, State, known}
 use Rattle.rules.specs.Book.{records}
-use Rattle.rules.specs.Judge.{resolved}
 use Rattle.rules.specs.Check.{nothing}
 use Rattle.rules.proofs.NumberLaws.{fits-itself}
 use Rattle.rules.proofs.MergeLaws.{merge-nothing, merged-fits, once-distinct}
@@ -21,7 +19,7 @@ use Rattle.names.specs.Index.{entry}
 use Rattle.members.specs.Held.{ownsOf, openOwn, attributesIn}
 use Rattle.rules.specs.All.{All, AnyIs}
 use Rattle.wellformed.specs.Fairness.{Fair, FairAttribute, FairDef, FairOpen, FairState}
-use Rattle.rules.proofs.AllLaws.{all-append, all-left, any-is, any-resolved}
+use Rattle.rules.proofs.AllLaws.{all-append, all-left}
 use Rattle.wellformed.proofs.ListLaws.{all-entry}
 
 pub fair-nothing : (t : List ℕ) → FairState t nothing
@@ -31,23 +29,24 @@ fair-nothing t = record { defs = tt; open-class = tt; names = tt; open-names = t
 owns-fair : (t : List ℕ) (n : ℕ) (l : List Def) → All (FairDef t n) l → All (FairAttribute t n) (ownsOf l)
 owns-fair t n [] h = tt
 owns-fair t n (d ∷ l) h =
-    all-append (FairAttribute t n) (d .own) (ownsOf l) (all-left (FairAttribute t n) (d .own) (d .inherited) (h .0 .attributes)) (owns-fair t n l (h .1))
+    all-append (FairAttribute t n) (d .own) (ownsOf l)
+    (all-left (FairAttribute t n) (d .own) (d .inherited) (h .0 .attributes)) (owns-fair t n l (h .1))
 
 open-fair : (t : List ℕ) (n : ℕ) (o : Option Def) → AnyIs (FairOpen t n) o → All (FairAttribute t n) (openOwn o)
 open-fair t n none h = tt
 open-fair t n (some c) h = all-left (FairAttribute t n) (c .own) (c .inherited) (h .fair .attributes)
 
-pub attributes-fair : (t : List ℕ) (s : State) → FairState t s → All (FairAttribute t (length (records s))) (attributesIn s)
+pub attributes-fair : (t : List ℕ) (s : State) → FairState t s
+    → All (FairAttribute t (length (records s))) (attributesIn s)
 attributes-fair t s h =
     let n : ℕ = length (records s) in
-    all-append (FairAttribute t n) (ownsOf (known (s .decls))) (openOwn (s .open-class)) (owns-fair t n (known (s .decls)) (h .defs)) (open-fair t n (s .open-class) (h .open-class))
+    all-append (FairAttribute t n) (ownsOf (known (s .decls))) (openOwn (s .open-class))
+    (owns-fair t n (known (s .decls)) (h .defs)) (open-fair t n (s .open-class) (h .open-class))
 
-pub attribute-fair : (t : List ℕ) (s : State) → FairState t s → (q : ℕ) (a : Attribute) → entry (attributesIn s) q ≡ some a → FairAttribute t (length (records s)) a
-attribute-fair t s h q a e = all-entry (FairAttribute t (length (records s))) (attributesIn s) q a (attributes-fair t s h) e
-
--- ---- definitions
-pub resolved-fair : (t : List ℕ) (s : State) → FairState t s → (b : Option Reference) (d : Def) → resolved s b ≡ some d → FairDef t (length (records s)) d
-resolved-fair t s h b d e = let P = FairDef t (length (records s)) in any-is P (resolved s b) d (any-resolved P s (h .defs) b) e
+pub attribute-fair : (t : List ℕ) (s : State) → FairState t s → (q : ℕ) (a : Attribute)
+    → entry (attributesIn s) q ≡ some a → FairAttribute t (length (records s)) a
+attribute-fair t s h q a e =
+    all-entry (FairAttribute t (length (records s))) (attributesIn s) q a (attributes-fair t s h) e
 
 -- ---- a type fits itself
 length-self : (n : Option ℕ) → lengthFits n n ≡ true

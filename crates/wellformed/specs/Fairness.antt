@@ -1,6 +1,6 @@
--- What the code relies on beside the rules, of what is read from a text t and of what is declared: names are parts of the text and words that
--- are not reserved, strings are parts of it, numbers have at most 18 digits, enumerations are nested at most 8 deep and have no element twice,
--- record numbers grow, and what an attribute names is declared.
+-- What the code relies on beside the rules, of what is read from a text t and of what is declared: names are parts of
+-- the text and words that are not reserved, strings are parts of it, numbers have at most 18 digits, enumerations are
+-- nested at most 8 deep and have no element twice, record numbers grow, and what an attribute names is declared.
 use mathlib.Core.Path.{_≡_}
 use mathlib.Core.Bool.{Bool, true, false, _||_}
 use mathlib.Core.Option.{none}
@@ -18,7 +18,8 @@ use Rattle.rules.specs.Units as U
 use Rattle.rules.specs.Units.{Where, start, afterHeader, over, body, members, isGiven, classSort}
 use Rattle.rules.specs.Types.{Ty, text, range, numeric, structure, enum}
 use Rattle.rules.specs.Declarations as D
-use Rattle.rules.specs.Declarations.{Link, Use, inline, ofDomain, ofStructure, Attribute, isSort, Def, linkOf, attributesOf, isFound, Decl, State, known}
+use Rattle.rules.specs.Declarations.{Link, Use, inline, ofDomain, ofStructure, Attribute, isSort, Def, linkOf}
+use Rattle.rules.specs.Declarations.{attributesOf, isFound, Decl, State, known}
 use Rattle.rules.specs.Book.{records}
 use Rattle.rules.specs.All.{All, AnyIs, In}
 use Rattle.rules.specs.Judge.{isExtended, referenceIn}
@@ -68,7 +69,8 @@ FairUnit t (U.header v) = FairSymbol t v
 FairUnit t (U.model n q) = InText t n × FairSymbol t (q .address) × FairSymbol t (q .version)
 FairUnit t (U.topic n) = InText t n
 FairUnit t (U.class c n p b) = InText t n × AnyIs (FairReference t) b × ((k : Bool) × (c ≡ classSort k))
-FairUnit t (U.domain n p b w) = InText t n × AnyIs (FairReference t) b × FairWritten t (isGiven b) w × (referenceIn (w .type) ≡ none)
+FairUnit t (U.domain n p b w) =
+    InText t n × AnyIs (FairReference t) b × FairWritten t (isGiven b) w × (referenceIn (w .type) ≡ none)
 FairUnit t (U.attribute n p w) = InText t n × FairWritten t (isExtended p) w
 FairUnit t (U.close n) = InText t n
 
@@ -79,7 +81,8 @@ FairLimit n = (0 < n) × (n < 4294967296)
 -- a type that gives values
 abbrev pub Fair : List ℕ → Ty → Type 0
 Fair t (text m n) = AnyIs FairLimit n
-Fair t (range r) = (r .decimals ≤ 17) × (natAbs (r .low) < 10 ^ 18) × (natAbs (r .high) < 10 ^ 18) × (leZ (r .low) (r .high) ≡ true)
+Fair t (range r) =
+    (r .decimals ≤ 17) × (natAbs (r .low) < 10 ^ 18) × (natAbs (r .high) < 10 ^ 18) × (leZ (r .low) (r .high) ≡ true)
 Fair t numeric = Unit {0}
 Fair t (enum e) = Kept t e
 Fair t structure = ⊥
@@ -127,7 +130,8 @@ pub record LeadsTo (K : List Def) (l : Link) (bs : List Link) (mandatory : Bool)
 -- a domain that is named is not ABSTRACT
 abbrev pub NamesDeclared : List Def → Use → Bool → Type 0
 NamesDeclared K (inline x) m = Unit {0}
-NamesDeclared K (ofDomain l bs) m = (d : Def) × LeadsTo K l bs m d × (isSort D.domain (d .sort) ≡ true) × (d .abstract ≡ false)
+NamesDeclared K (ofDomain l bs) m =
+    (d : Def) × LeadsTo K l bs m d × (isSort D.domain (d .sort) ≡ true) × (d .abstract ≡ false)
 NamesDeclared K (ofStructure l bs) m = (d : Def) × LeadsTo K l bs m d × (isSort D.struct (d .sort) ≡ true)
 
 abbrev pub NamesAll : List Def → Def → Type 0

@@ -34,7 +34,8 @@ module _ (b : List ℕ) where
   those-in p h [] = refl
   those-in p h (w ∷ l) =
       let go = those-in p h l in
-      test (p w) (λ e. rw (e, go)) (λ e. let f : same b w ≡ false = contra (λ q. rw (← same-eq b w q) h) e in rw (e, f, go))
+      test (p w) (λ e. rw (e, go))
+      (λ e. let f : same b w ≡ false = contra (λ q. rw (← same-eq b w q) h) e in rw (e, f, go))
 
   append-in : (l m : List (List ℕ)) → isOneOf b (l ++ m) ≡ (isOneOf b l || isOneOf b m)
   append-in [] m = refl
@@ -44,7 +45,8 @@ module _ (b : List ℕ) where
   every-in p [] a h = never h
   every-in p (w ∷ l) a h = at (split a) (or-split h) (λ x y. every-in p l x y)
     where
-      at : (p w ≡ true) × (every p l ≡ true) → (same b w ≡ true) ⊎ (isOneOf b l ≡ true) → (every p l ≡ true → isOneOf b l ≡ true → p b ≡ true) → p b ≡ true
+      at : (p w ≡ true) × (every p l ≡ true) → (same b w ≡ true) ⊎ (isOneOf b l ≡ true)
+          → (every p l ≡ true → isOneOf b l ≡ true → p b ≡ true) → p b ≡ true
       at s (inl e) go = rw (same-eq b w e) (s .0)
       at s (inr e) go = go (s .1) e
 
@@ -54,7 +56,8 @@ wordsOf n f t = those (λ w. eqb (length w) n) (f ++ those (λ w. not (isOneOf w
 
 words-in : (b : List ℕ) (f t : List (List ℕ)) → isOneOf b (wordsOf (length b) f t) ≡ (isOneOf b f || isOneOf b t)
 words-in b f t =
-    those-in b (λ w. eqb (length w) (length b)) (eq-eqb (length b) (length b) refl) (f ++ those (λ w. not (isOneOf w f)) t)
+    those-in b (λ w. eqb (length w) (length b)) (eq-eqb (length b) (length b) refl)
+    (f ++ those (λ w. not (isOneOf w f)) t)
     ∙ append-in b f (those (λ w. not (isOneOf w f)) t)
     ∙ test (isOneOf b f) (λ e. rw e) (λ e. rw (e, those-in b (λ w. not (isOneOf w f)) (rw e) t))
 
@@ -63,7 +66,8 @@ by-code true y n = refl
 by-code false true n = refl
 by-code false false n = refl
 
-code-in : (b : List ℕ) (n m : ℕ) (f t : List (List ℕ)) → length b ≡ n → cond (isOneOf b (wordsOf n f t)) (cond (isOneOf b f) m (cond (isOneOf b t) 46 1)) 1 ≡ cond (isOneOf b f) m (cond (isOneOf b t) 46 1)
+code-in : (b : List ℕ) (n m : ℕ) (f t : List (List ℕ)) → length b ≡ n → cond (isOneOf b (wordsOf n f t))
+    (cond (isOneOf b f) m (cond (isOneOf b t) 46 1)) 1 ≡ cond (isOneOf b f) m (cond (isOneOf b t) 46 1)
 code-in b n m f t e = rw (← e, words-in b f t) (by-code (isOneOf b f) (isOneOf b t) m)
 
 -- a word's code, from the rows of its length
@@ -75,7 +79,8 @@ code-of b n e = code-in b n (64 + position b forms) forms table e
 pub no-word : (b : List ℕ) (p : List ℕ → Bool) → every p (forms ++ table) ≡ true → p b ≡ false → 1 ≡ wordCode b
 unfolding wordCode
 no-word b p a h =
-    let q : (isOneOf b forms || isOneOf b table) ≡ false = sym (append-in b forms table) ∙ contra (every-in b p (forms ++ table) a) h in
+    let q : (isOneOf b forms || isOneOf b table)
+    ≡ false = sym (append-in b forms table) ∙ contra (every-in b p (forms ++ table) a) h in
     at (isOneOf b forms) (isOneOf b table) (64 + position b forms) q
   where
     at : (x y : Bool) (n : ℕ) → (x || y) ≡ false → 1 ≡ cond x n (cond y 46 1)
@@ -84,14 +89,17 @@ no-word b p a h =
     at false false n q = refl
 
 -- the byte above `Z` at its end tells a name
-pub no-last : (t : List ℕ) (at n : ℕ) → 0 < n → at + n ≤ length t → 90 < getD t (at + n - 1) 0 → 1 ≡ wordCode (part t at n)
+pub no-last : (t : List ℕ) (at n : ℕ) → 0 < n → at + n ≤ length t
+    → 90 < getD t (at + n - 1) 0 → 1 ≡ wordCode (part t at n)
 no-last t at n z h l =
     let m : at + (n - 1) ≡ at + n - 1 = omega arith in
-    let e : getD (part t at n) (n - 1) 0 ≡ getD t (at + n - 1) 0 = getD-take n (drop at t) (n - 1) 0 (omega arith) ∙ rw m at (getD-drop at t (n - 1) 0) in
+    let e : getD (part t at n) (n - 1) 0
+    ≡ getD t (at + n - 1) 0 = getD-take n (drop at t) (n - 1) 0 (omega arith) ∙ rw m at (getD-drop at t (n - 1) 0) in
     no-word (part t at n) (λ w. leb (getD w (length w - 1) 0) 90) refl (rw (length-part t at n h, e) (lt-leb _ _ l))
 
 -- a length below hi, from lo on, that no reserved word has
-pub no-length : (lo hi : ℕ) (keys : List (List ℕ)) (t : List ℕ) (at n : ℕ) → every (λ w. isKeyOf (length w) keys || (ltb (length w) lo || leb hi (length w))) (forms ++ table) ≡ true
+pub no-length : (lo hi : ℕ) (keys : List (List ℕ)) (t : List ℕ) (at n : ℕ)
+    → every (λ w. isKeyOf (length w) keys || (ltb (length w) lo || leb hi (length w))) (forms ++ table) ≡ true
     → at + n ≤ length t → lo ≤ n → n < hi → Beside keys n → 1 ≡ wordCode (part t at n)
 no-length lo hi keys t at n a h k l r =
     no-word (part t at n) (λ w. isKeyOf (length w) keys || (ltb (length w) lo || leb hi (length w))) a
@@ -102,11 +110,18 @@ those-long n [] = refl
 those-long n (w ∷ l) = let go = those-long n l in test (eqb (length w) n) (λ e. rw (e, e) go) (λ e. rw e go)
 
 -- a word's code, found in the rows of its length
-pub word-found : (t list : List ℕ) (at len n r : ℕ) → at + len ≤ length t → len ≡ n → list ≡ rows (wordsOf n forms table)
-    → ((l : List (List ℕ)) → list ≡ rows l → areLong len l ≡ true → r ≡ codeAmong (part t at len) l) → r ≡ wordCode (part t at len)
+pub word-found : (t list : List ℕ) (at len n r : ℕ) → at + len ≤ length t → len ≡ n
+    → list ≡ rows (wordsOf n forms table)
+    → ((l : List (List ℕ)) → list ≡ rows l → areLong len l ≡ true → r ≡ codeAmong (part t at len) l)
+    → r ≡ wordCode (part t at len)
 word-found t list at len n r h e q f =
-    let g : areLong len (wordsOf n forms table) ≡ true = subst⁻¹ (λ (x : ℕ). areLong x (wordsOf n forms table) ≡ true) e (those-long n (forms ++ those (λ w. not (isOneOf w forms)) table)) in
+    let g : areLong len (wordsOf n forms table) ≡ true = subst⁻¹ (λ (x : ℕ). areLong x (wordsOf n forms table) ≡ true) e
+    (those-long n (forms ++ those (λ w. not (isOneOf w forms)) table)) in
     f (wordsOf n forms table) q g ∙ code-of (part t at len) n (length-part t at len h ∙ e)
+
+-- a word of n bytes
+pub code-long : (t : List ℕ) (at len n r : ℕ) → len ≡ n → r ≡ wordCode (part t at n) → r ≡ wordCode (part t at len)
+code-long t at len n r e q = subst⁻¹ (λ (x : ℕ). r ≡ wordCode (part t at x)) e q
 
 -- ---- rows: i bytes of the list are passed, and the words r are left of l
 pub record Left (b list : List ℕ) (n i : ℕ) (l r : List (List ℕ)) : Type 0 where
@@ -118,7 +133,8 @@ module _ (b list : List ℕ) (n i : ℕ) (l : List (List ℕ)) where
   word-long : (w : List ℕ) (r : List (List ℕ)) → Left b list n i l (w ∷ r) → length w ≡ n
   word-long w r x = eqb-true (length w) n (split {x = eqb (length w) n} (x .long) .0)
 
-  length-left : (w : List ℕ) (r : List (List ℕ)) → Left b list n i l (w ∷ r) → length list - i ≡ suc (length w + length (rows r))
+  length-left : (w : List ℕ) (r : List (List ℕ)) → Left b list n i l (w ∷ r)
+      → length list - i ≡ suc (length w + length (rows r))
   length-left w r x = sym (length-drop i list) ∙ ap length (x .are) ∙ ap suc (length-append w (rows r))
 
   -- the row that begins at i
@@ -129,16 +145,19 @@ module _ (b list : List ℕ) (n i : ℕ) (l : List (List ℕ)) where
 
   code-at : (w : List ℕ) (r : List (List ℕ)) → Left b list n i l (w ∷ r) → getD list i 0 ≡ wordCode w
   code-at w r x =
-      let g : getD (drop i list) 0 0 ≡ getD list i 0 = getD-drop i list 0 0 ∙ ap (λ (m : ℕ). getD list m 0) (add-zero i) in
+      let g : getD (drop i list) 0 0
+      ≡ getD list i 0 = getD-drop i list 0 0 ∙ ap (λ (m : ℕ). getD list m 0) (add-zero i) in
       sym (rw (x .are) at g)
 
-  pub row-found : (r : List (List ℕ)) → i < length list → Left b list n i l r → same b (part list (i + 1) n) ≡ true → getD list i 0 ≡ codeAmong b l
+  pub row-found : (r : List (List ℕ)) → i < length list → Left b list n i l r → same b (part list (i + 1) n) ≡ true
+      → getD list i 0 ≡ codeAmong b l
   row-found [] h x p = absurd (omega (arith, ap length (x .are), length-drop i list))
   row-found (w ∷ r) h x p =
       let q : same b w ≡ true = rw (word-at w r x) at p in
       rw (code-at w r x, x .alike, q) (ap wordCode (sym (same-eq b w q)))
 
-  pub row-next : (r : List (List ℕ)) → i < length list → Left b list n i l r → same b (part list (i + 1) n) ≡ false → (k : List (List ℕ)) × Left b list n (i + (n + 1)) l k
+  pub row-next : (r : List (List ℕ)) → i < length list → Left b list n i l r → same b (part list (i + 1) n) ≡ false
+      → (k : List (List ℕ)) × Left b list n (i + (n + 1)) l k
   row-next [] h x p = absurd (omega (arith, ap length (x .are), length-drop i list))
   row-next (w ∷ r) h x p =
       let q : same b w ≡ false = rw (word-at w r x) at p in (

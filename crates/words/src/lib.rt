@@ -107,7 +107,7 @@ fn among(text: &[u8], at: usize, len: usize, list: &[u8]) -> u8
     1
 }
 
-// Each of these lays out only its own rows, on the stack and at every call.
+// A function lays its rows out on the stack at every call, so the common lengths have one each.
 fn words_to_3(text: &[u8], at: usize, len: usize) -> u8
     requires { ⌜ (at + len ≤ length (now text)) × (len < 4) ⌝ }
     ensures { λ r. ⌜ r ≡ wordCode (part (now (text .entry)) at len) ⌝ }
@@ -119,37 +119,46 @@ fn words_to_3(text: &[u8], at: usize, len: usize) -> u8
     }
 }
 
-fn words_to_5(text: &[u8], at: usize, len: usize) -> u8
-    requires { ⌜ (at + len ≤ length (now text)) × (4 ≤ len) × (len < 6) ⌝ }
-    ensures { λ r. ⌜ r ≡ wordCode (part (now (text .entry)) at len) ⌝ }
+fn words_4(text: &[u8], at: usize) -> u8
+    requires { ⌜ at + 4 ≤ length (now text) ⌝ }
+    ensures { λ r. ⌜ r ≡ wordCode (part (now (text .entry)) at 4) ⌝ }
 {
-    match len {
-        4 => among(text, at, len, &WORDS_4),
-        5 => among(text, at, len, &WORDS_5),
-        _ => 1,
-    }
+    among(text, at, 4, &WORDS_4)
 }
 
-fn words_to_7(text: &[u8], at: usize, len: usize) -> u8
-    requires { ⌜ (at + len ≤ length (now text)) × (6 ≤ len) × (len < 8) ⌝ }
-    ensures { λ r. ⌜ r ≡ wordCode (part (now (text .entry)) at len) ⌝ }
+fn words_5(text: &[u8], at: usize) -> u8
+    requires { ⌜ at + 5 ≤ length (now text) ⌝ }
+    ensures { λ r. ⌜ r ≡ wordCode (part (now (text .entry)) at 5) ⌝ }
 {
-    match len {
-        6 => among(text, at, len, &WORDS_6),
-        7 => among(text, at, len, &WORDS_7),
-        _ => 1,
-    }
+    among(text, at, 5, &WORDS_5)
 }
 
-fn words_to_9(text: &[u8], at: usize, len: usize) -> u8
-    requires { ⌜ (at + len ≤ length (now text)) × (8 ≤ len) × (len < 10) ⌝ }
-    ensures { λ r. ⌜ r ≡ wordCode (part (now (text .entry)) at len) ⌝ }
+fn words_6(text: &[u8], at: usize) -> u8
+    requires { ⌜ at + 6 ≤ length (now text) ⌝ }
+    ensures { λ r. ⌜ r ≡ wordCode (part (now (text .entry)) at 6) ⌝ }
 {
-    match len {
-        8 => among(text, at, len, &WORDS_8),
-        9 => among(text, at, len, &WORDS_9),
-        _ => 1,
-    }
+    among(text, at, 6, &WORDS_6)
+}
+
+fn words_7(text: &[u8], at: usize) -> u8
+    requires { ⌜ at + 7 ≤ length (now text) ⌝ }
+    ensures { λ r. ⌜ r ≡ wordCode (part (now (text .entry)) at 7) ⌝ }
+{
+    among(text, at, 7, &WORDS_7)
+}
+
+fn words_8(text: &[u8], at: usize) -> u8
+    requires { ⌜ at + 8 ≤ length (now text) ⌝ }
+    ensures { λ r. ⌜ r ≡ wordCode (part (now (text .entry)) at 8) ⌝ }
+{
+    among(text, at, 8, &WORDS_8)
+}
+
+fn words_9(text: &[u8], at: usize) -> u8
+    requires { ⌜ at + 9 ≤ length (now text) ⌝ }
+    ensures { λ r. ⌜ r ≡ wordCode (part (now (text .entry)) at 9) ⌝ }
+{
+    among(text, at, 9, &WORDS_9)
 }
 
 fn words_from_10(text: &[u8], at: usize, len: usize) -> u8
@@ -176,17 +185,16 @@ pub fn word_code(text: &[u8], at: usize, len: usize) -> u8
     if b'Z' < last {
         return 1;
     }
-    if len < 6 {
-        if len < 4 {
-            return words_to_3(text, at, len);
-        }
-        return words_to_5(text, at, len);
+    if len < 4 {
+        return words_to_3(text, at, len);
     }
-    if len < 8 {
-        return words_to_7(text, at, len);
+    match len {
+        4 => words_4(text, at),
+        5 => words_5(text, at),
+        6 => words_6(text, at),
+        7 => words_7(text, at),
+        8 => words_8(text, at),
+        9 => words_9(text, at),
+        _ => words_from_10(text, at, len),
     }
-    if len < 10 {
-        return words_to_9(text, at, len);
-    }
-    words_from_10(text, at, len)
 }

@@ -17,33 +17,17 @@ use Rattle.enumerations.specs.declared.Size.{Size}
 use Rattle.merging.specs.declared.Laid as merge
 use Rattle.merging.specs.declared.Laid.the-variants as merge·
 use Rattle.merging.specs.Merging.{LaidAs}
-use Rattle.types.specs.declared.Ruling.{Ruling}
-use Rattle.types.specs.Rulings.{rulingOf}
-use Rattle.types.specs.Values.{FairOrNone, plainFits, mergeFits}
-use Rattle.types.proofs.RulingLaws.{Positive, positive-append}
+use Rattle.ground.specs.declared.Ruling.{Ruling}
+use Rattle.ground.specs.Rulings.{rulingOf}
+use Rattle.fitting.specs.Values.{FairOrNone}
+use Rattle.types.specs.Writing.{plainFits, mergeFits}
+use Rattle.ground.proofs.RulingLaws.{Positive, positive-append, ruling-append, ruling-first, ruling-rest}
 use Rattle.types.proofs.TypeLaws.{fits-split}
 use Rattle.written.specs.Written.{rulesBy, writtenRules, plainRules, LaidWhen}
 use Rattle.written.specs.declared.Laying.the-variants.{Whole, Broken}
 use Rattle.book.specs.Sizes.{headSize}
 
--- ---- lists of rules cut in two
-pub ruling-append : (l m : List Rule) → Positive l → rulingOf (l ++ m) ≡ cond (ltb 0 (rulingOf l .number)) (rulingOf l) (rulingOf m)
-ruling-append [] m h = refl
-ruling-append (r ∷ l) m h = go (r .broken) (ruling-append l m (h .1))
-  where
-    go : (b : Bool) → rulingOf (l ++ m) ≡ cond (ltb 0 (rulingOf l .number)) (rulingOf l) (rulingOf m) →
-        cond b (record { number = r .number; place = r .place }) (rulingOf (l ++ m)) ≡ cond (ltb 0 (cond b (record { number = r .number; place = r .place }) (rulingOf l) .number)) (cond b (record { number = r .number; place = r .place }) (rulingOf l)) (rulingOf m)
-    go true e = rw (lt-ltb 0 (r .number) (h .0))
-    go false e = e
-
-ruling-first : (l m : List Rule) (q : Ruling) → Positive l → q ≡ rulingOf l → 0 < q .number → q ≡ rulingOf (l ++ m)
-ruling-first l m q h e p =
-    let f : ltb 0 (rulingOf l .number) ≡ true = ap (λ (x : Ruling). ltb 0 (x .number)) (sym e) ∙ lt-ltb 0 (q .number) p in
-    e ∙ sym (rw f at (ruling-append l m h))
-
-pub ruling-rest : (l m : List Rule) → Positive l → rulingOf l .number ≡ 0 → rulingOf (l ++ m) ≡ rulingOf m
-ruling-rest l m h e = let f : ltb 0 (rulingOf l .number) ≡ false = ap (ltb 0) e in rw f at (ruling-append l m h)
-
+-- ---- numbers are above 0
 pub type-positive : (based : Bool) (p : ℕ) (w : Option WrittenType) → Positive (typeRules based p w)
 type-positive based p none = tt
 type-positive based p (some (G.text m none)) = tt
@@ -57,12 +41,14 @@ type-positive based p (some (G.named r)) = tt
 pair : ℕ → Bool → Bool → Bool → Ruling
 pair p based k f = rulingOf (rule 16 p (based && k) ∷ rule 17 p (based && not f) ∷ [])
 
-module _ (based : Bool) (p : ℕ) (w : Option WrittenType) (b : Ty) (q : Ruling) (e : q ≡ rulingOf (typeRules based p w)) where
+module _ (based : Bool) (p : ℕ) (w : Option WrittenType) (b : Ty) (q : Ruling)
+    (e : q ≡ rulingOf (typeRules based p w)) where
   pub plain-early : 0 < q .number → q ≡ rulingOf (plainRules based p w b)
   plain-early h = ruling-first (typeRules based p w) _ q (type-positive based p w) e h
 
   module _ (z : q .number ≡ 0) where
-    late : (f : Bool) → rulingOf (rulesBy f based p w b) ≡ pair p based (not (eqb (kindOf (domainType w b)) (kindOf b))) f
+    late : (f : Bool) → rulingOf (rulesBy f based p w b)
+        ≡ pair p based (not (eqb (kindOf (domainType w b)) (kindOf b))) f
     unfolding pair
     late f = ruling-rest (typeRules based p w) _ (type-positive based p w) (ap (λ (x : Ruling). x .number) (sym e) ∙ z)
 
@@ -70,15 +56,20 @@ module _ (based : Bool) (p : ℕ) (w : Option WrittenType) (b : Ty) (q : Ruling)
     unfolding pair
     plain-unbased n = sym (late (plainFits w b) ∙ rw n)
 
-    pub plain-16 : based ≡ true → (k : Bool) → k ≡ not (eqb (kindOf (domainType w b)) (kindOf b)) → k ≡ true → record { number = 16; place = p } ≡ rulingOf (plainRules based p w b)
+    pub plain-16 : based ≡ true → (k : Bool) → k ≡ not (eqb (kindOf (domainType w b)) (kindOf b)) → k ≡ true
+        → record { number = 16; place = p } ≡ rulingOf (plainRules based p w b)
     unfolding pair
     plain-16 n k i j = sym (late (plainFits w b) ∙ rw (n, ← i, j))
 
-    pub plain-17 : based ≡ true → (k : Bool) → k ≡ not (eqb (kindOf (domainType w b)) (kindOf b)) → k ≡ false → (f : Bool) → f ≡ plainFits w b → f ≡ false → record { number = 17; place = p } ≡ rulingOf (plainRules based p w b)
+    pub plain-17 : based ≡ true → (k : Bool) → k ≡ not (eqb (kindOf (domainType w b)) (kindOf b)) → k ≡ false
+        → (f : Bool) → f ≡ plainFits w b → f ≡ false
+        → record { number = 17; place = p } ≡ rulingOf (plainRules based p w b)
     unfolding pair
     plain-17 n k i j f g h = sym (late (plainFits w b) ∙ rw (n, ← i, j, ← g, h))
 
-    pub plain-fine : based ≡ true → (k : Bool) → k ≡ not (eqb (kindOf (domainType w b)) (kindOf b)) → k ≡ false → (f : Bool) → f ≡ plainFits w b → f ≡ true → record { number = 0; place = 0 } ≡ rulingOf (plainRules based p w b)
+    pub plain-fine : based ≡ true → (k : Bool) → k ≡ not (eqb (kindOf (domainType w b)) (kindOf b)) → k ≡ false
+        → (f : Bool) → f ≡ plainFits w b → f ≡ true
+        → record { number = 0; place = 0 } ≡ rulingOf (plainRules based p w b)
     unfolding pair
     plain-fine n k i j f g h = sym (late (plainFits w b) ∙ rw (n, ← i, j, ← g, h))
 
@@ -88,48 +79,68 @@ same-kind k x y i j = eqb-true x y (not-fails (sym i ∙ j))
 -- ---- 17 in its two parts
 by-parts : (l : List Rule) → Positive l → (p : ℕ) (based k f g h : Bool) → (based ≡ true → k ≡ false → f ≡ (g && h)) →
     rulingOf (l ++ (rule 16 p (based && k) ∷ rule 17 p (based && not f) ∷ []))
-    ≡ cond (ltb 0 (rulingOf (l ++ (rule 16 p (based && k) ∷ rule 17 p (based && not g) ∷ [])) .number)) (rulingOf (l ++ (rule 16 p (based && k) ∷ rule 17 p (based && not g) ∷ []))) (rulingOf (rule 17 p (based && not h) ∷ []))
+    ≡ cond (ltb 0 (rulingOf (l ++ (rule 16 p (based && k) ∷ rule 17 p (based && not g) ∷ [])) .number))
+    (rulingOf (l ++ (rule 16 p (based && k) ∷ rule 17 p (based && not g) ∷ [])))
+    (rulingOf (rule 17 p (based && not h) ∷ []))
 by-parts l o p based k f g h d =
-    rw (ruling-append l (rule 16 p (based && k) ∷ rule 17 p (based && not f) ∷ []) o, ruling-append l (rule 16 p (based && k) ∷ rule 17 p (based && not g) ∷ []) o)
+    rw (
+      ruling-append l (rule 16 p (based && k) ∷ rule 17 p (based && not f) ∷ []) o,
+      ruling-append l (rule 16 p (based && k) ∷ rule 17 p (based && not g) ∷ []) o,
+    )
     (go (ltb 0 (rulingOf l .number)) refl based k g d)
   where
     go : (i : Bool) → ltb 0 (rulingOf l .number) ≡ i → (based k g : Bool) → (based ≡ true → k ≡ false → f ≡ (g && h)) →
         cond i (rulingOf l) (rulingOf (rule 16 p (based && k) ∷ rule 17 p (based && not f) ∷ []))
-        ≡ cond (ltb 0 (cond i (rulingOf l) (rulingOf (rule 16 p (based && k) ∷ rule 17 p (based && not g) ∷ [])) .number)) (cond i (rulingOf l) (rulingOf (rule 16 p (based && k) ∷ rule 17 p (based && not g) ∷ []))) (rulingOf (rule 17 p (based && not h) ∷ []))
+        ≡ cond
+        (ltb 0 (cond i (rulingOf l) (rulingOf (rule 16 p (based && k) ∷ rule 17 p (based && not g) ∷ [])) .number))
+        (cond i (rulingOf l) (rulingOf (rule 16 p (based && k) ∷ rule 17 p (based && not g) ∷ [])))
+        (rulingOf (rule 17 p (based && not h) ∷ []))
     go true e based k g d = rw e
     go false e false k g d = refl
     go false e true true g d = refl
     go false e true false false d = rw (d refl refl)
     go false e true false true d = rw (d refl refl)
 
-module _ (t : List ℕ) (based : Bool) (p : ℕ) (w : Option WrittenType) (b : Ty) (fair : FairOrNone t b) (r : referenceIn w ≡ none) where
-  pub written-split : rulingOf (writtenRules based p w b) ≡ cond (ltb 0 (rulingOf (plainRules based p w b) .number)) (rulingOf (plainRules based p w b)) (rulingOf (rule 17 p (based && not (mergeFits w b)) ∷ []))
+module _ (t : List ℕ) (based : Bool) (p : ℕ) (w : Option WrittenType) (b : Ty) (fair : FairOrNone t b)
+    (r : referenceIn w ≡ none) where
+  pub written-split : rulingOf (writtenRules based p w b) ≡ cond (ltb 0 (rulingOf (plainRules based p w b) .number))
+      (rulingOf (plainRules based p w b)) (rulingOf (rule 17 p (based && not (mergeFits w b)) ∷ []))
   written-split =
-      by-parts (typeRules based p w) (type-positive based p w) p based (not (eqb (kindOf (domainType w b)) (kindOf b))) (fits (domainType w b) b) (plainFits w b) (mergeFits w b)
+      by-parts (typeRules based p w) (type-positive based p w) p based (not (eqb (kindOf (domainType w b)) (kindOf b)))
+      (fits (domainType w b) b) (plainFits w b) (mergeFits w b)
       (λ n k. fits-split t w b fair r (eqb-true (kindOf (domainType w b)) (kindOf b) (not-fails k)))
 
   module _ (q : Ruling) (e : q ≡ rulingOf (plainRules based p w b)) where
-    pub laid-early : 0 < q .number → (l : List Record) (i : ℕ) (o o₁ : List ℕ) → LaidWhen (ltb 0 (rulingOf (writtenRules based p w b) .number)) (rulingOf (writtenRules based p w b)) l i o o₁ (Broken q)
+    pub laid-early : 0 < q .number → (l : List Record) (i : ℕ) (o o₁ : List ℕ) → LaidWhen
+        (ltb 0 (rulingOf (writtenRules based p w b) .number)) (rulingOf (writtenRules based p w b)) l i o o₁ (Broken q)
     laid-early h l i o o₁ =
-        let f : ltb 0 (rulingOf (plainRules based p w b) .number) ≡ true = ap (λ (x : Ruling). ltb 0 (x .number)) (sym e) ∙ lt-ltb 0 (q .number) h in
+        let f : ltb 0 (rulingOf (plainRules based p w b) .number)
+        ≡ true = ap (λ (x : Ruling). ltb 0 (x .number)) (sym e) ∙ lt-ltb 0 (q .number) h in
         let m : rulingOf (writtenRules based p w b) ≡ q = rw f at written-split ∙ sym e in
         rw (m, lt-ltb 0 (q .number) h)
 
     module _ (z : q .number ≡ 0) where
       merged-last : rulingOf (writtenRules based p w b) ≡ rulingOf (rule 17 p (based && not (mergeFits w b)) ∷ [])
-      merged-last = let f : ltb 0 (rulingOf (plainRules based p w b) .number) ≡ false = ap (λ (x : Ruling). ltb 0 (x .number)) (sym e) ∙ ap (ltb 0) z in rw f at written-split
+      merged-last =
+          let f : ltb 0 (rulingOf (plainRules based p w b) .number)
+          ≡ false = ap (λ (x : Ruling). ltb 0 (x .number)) (sym e) ∙ ap (ltb 0) z in rw f at written-split
 
-      pub laid-whole : (l : List Record) (i : ℕ) (o o₁ : List ℕ) (a : merge.Laid) (n : Size) → LaidAs (mergeFits w b) l i o o₁ a → a ≡ merge·.Whole n →
-          LaidWhen (ltb 0 (rulingOf (writtenRules based p w b) .number)) (rulingOf (writtenRules based p w b)) l i o o₁ (Whole n)
+      pub laid-whole : (l : List Record) (i : ℕ) (o o₁ : List ℕ) (a : merge.Laid) (n : Size)
+          → LaidAs (mergeFits w b) l i o o₁ a → a ≡ merge·.Whole n
+          → LaidWhen (ltb 0 (rulingOf (writtenRules based p w b) .number))
+          (rulingOf (writtenRules based p w b)) l i o o₁ (Whole n)
       laid-whole l i o o₁ a n h k = rw merged-last (go (mergeFits w b) based h)
         where
-          go : (f g : Bool) → LaidAs f l i o o₁ a → LaidWhen (ltb 0 (rulingOf (rule 17 p (g && not f) ∷ []) .number)) (rulingOf (rule 17 p (g && not f) ∷ [])) l i o o₁ (Whole n)
+          go : (f g : Bool) → LaidAs f l i o o₁ a → LaidWhen (ltb 0 (rulingOf (rule 17 p (g && not f) ∷ []) .number))
+              (rulingOf (rule 17 p (g && not f) ∷ [])) l i o o₁ (Whole n)
           go true true h = let m = h .0 in (cc, h .1)
           go true false h = let m = h .0 in (cc, h .1)
           go false g h = let y : _≡_ {A = ℕ} 0 1 = cc in absurd (omega arith)
 
-      pub laid-misfit : (based ≡ false → b ≡ structure) → (l : List Record) (i : ℕ) (o o₁ : List ℕ) (a : merge.Laid) → LaidAs (mergeFits w b) l i o o₁ a → a ≡ merge·.Misfit →
-          LaidWhen (ltb 0 (rulingOf (writtenRules based p w b) .number)) (rulingOf (writtenRules based p w b)) l i o o₁ (Broken (record { number = 17; place = p }))
+      pub laid-misfit : (based ≡ false → b ≡ structure) → (l : List Record) (i : ℕ) (o o₁ : List ℕ) (a : merge.Laid)
+          → LaidAs (mergeFits w b) l i o o₁ a → a ≡ merge·.Misfit
+          → LaidWhen (ltb 0 (rulingOf (writtenRules based p w b) .number))
+          (rulingOf (writtenRules based p w b)) l i o o₁ (Broken (record { number = 17; place = p }))
       laid-misfit u l i o o₁ a h k = rw merged-last (go (mergeFits w b) based refl refl h)
         where
           no-base : (x : Option WrittenType) → mergeFits x structure ≡ true
@@ -141,15 +152,19 @@ module _ (t : List ℕ) (based : Bool) (p : ℕ) (w : Option WrittenType) (b : T
           no-base (some (G.named c)) = refl
 
           go : (f g : Bool) → mergeFits w b ≡ f → based ≡ g → LaidAs f l i o o₁ a →
-              LaidWhen (ltb 0 (rulingOf (rule 17 p (g && not f) ∷ []) .number)) (rulingOf (rule 17 p (g && not f) ∷ [])) l i o o₁ (Broken (record { number = 17; place = p }))
+              LaidWhen (ltb 0 (rulingOf (rule 17 p (g && not f) ∷ []) .number))
+              (rulingOf (rule 17 p (g && not f) ∷ [])) l i o o₁ (Broken (record { number = 17; place = p }))
           go true g m n h = let s = h .0 in let y : _≡_ {A = ℕ} 0 1 = cc in absurd (omega arith)
           go false true m n h = refl
           go false false m n h = never (sym m ∙ (ap (mergeFits w) (u n) ∙ no-base w))
 
 pub written-positive : (based : Bool) (p : ℕ) (w : Option WrittenType) (b : Ty) → Positive (writtenRules based p w b)
-written-positive based p w b = positive-append (typeRules based p w) _ (type-positive based p w) (omega arith, (omega arith, tt))
+written-positive based p w b =
+    positive-append (typeRules based p w) _ (type-positive based p w) (omega arith, (omega arith, tt))
 
 -- ---- 19
-pub room-same : (len used more : ℕ) → used ≤ len → headSize ≤ len - used → leb more (len - used - headSize) ≡ leb (used + headSize + more) len
+pub room-same : (len used more : ℕ) → used ≤ len → headSize ≤ len - used
+    → leb more (len - used - headSize) ≡ leb (used + headSize + more) len
 room-same len used more h k =
-    alike (λ e. let l = leb-true more (len - used - headSize) e in le-leb (used + headSize + more) len (omega arith)) (λ e. let l = leb-true (used + headSize + more) len e in le-leb more (len - used - headSize) (omega arith))
+    alike (λ e. let l = leb-true more (len - used - headSize) e in le-leb (used + headSize + more) len (omega arith))
+    (λ e. let l = leb-true (used + headSize + more) len e in le-leb more (len - used - headSize) (omega arith))

@@ -11,8 +11,8 @@ use Rattle.rules.specs.Book.{Record, bytes}
 use Rattle.rules.specs.Judge.{Rule, rule, domainType, typeRules, kindRule}
 use Rattle.ground.specs.Parts.{splice}
 use Rattle.enumerations.specs.Records.{sizeOf}
-use Rattle.types.specs.declared.Ruling.{Ruling}
-use Rattle.types.specs.Values.{plainFits}
+use Rattle.ground.specs.declared.Ruling.{Ruling}
+use Rattle.types.specs.Writing.{plainFits}
 use Rattle.written.specs.declared.Laying.{Laying}
 use Rattle.written.specs.declared.Laying.the-variants.{Whole, Broken}
 

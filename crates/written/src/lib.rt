@@ -1,10 +1,10 @@
 // A type that is written over a base's, of a domain or in place at an attribute: 14 to 17, its records, and room for
 // them.
 use enumerations::Size;
+use ground::Ruling;
 use merging::Laid;
 use parts::types::Written;
 use types::Over;
-use types::Ruling;
 ghost use mathlib.Core.Path.{_≡_};
 ghost use mathlib.Core.Bool.{false};
 ghost use mathlib.Core.Option.{Option, none};
@@ -20,8 +20,9 @@ ghost use Rattle.parts.specs.Forms.{anyOf};
 ghost use Rattle.rules.specs.All.{AnyIs};
 ghost use Rattle.wellformed.specs.Fairness.{Begins};
 ghost use Rattle.tables.specs.Tables.{TablesFor};
-ghost use Rattle.types.specs.Rulings.{rulingOf};
-ghost use Rattle.types.specs.Values.{Valued, Typed, Sized, FairOrNone, Scratched, Once};
+ghost use Rattle.ground.specs.Rulings.{rulingOf};
+ghost use Rattle.fitting.specs.Values.{Valued, Typed, Sized, FairOrNone};
+ghost use Rattle.types.specs.Writing.{Scratched, Once};
 ghost use Rattle.written.specs.Written.{writtenRules, plainRules, LaidWhen};
 ghost use Rattle.book.specs.Sizes.{headSize};
 
@@ -48,7 +49,7 @@ fn plain_ruling(w: Written, over: Over) -> Ruling
         return r;
     }
     if over.based {
-        if types::differ(own, base) {
+        if fitting::differ(own, base) {
             return Ruling { number: 16, place };
         }
         if types::plain_fits(m, own, base) {

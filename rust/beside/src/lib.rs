@@ -2,6 +2,24 @@
 #![forbid(unsafe_code)]
 
 use auzuplens::Answer;
+use cases::{ordinary, stretched};
+
+/// The longest text, and a buffer that takes any book.
+pub const LONGEST: usize = 65_535;
+
+/// The texts that are timed, each with a word on it: ordinary ones and stretched
+/// ones, or the same so many times smaller.
+pub fn texts(times: usize) -> Vec<(String, Vec<u8>)> {
+    let models = [4_096, 60_000].map(|size| {
+        let word = format!("ordinary model of {} KB", size / 1_000);
+        (word, ordinary(size / times))
+    });
+    let hostile = stretched(LONGEST / times);
+    let named = hostile
+        .into_iter()
+        .map(|(word, text)| (word.to_owned(), text));
+    models.into_iter().chain(named).collect()
+}
 
 /// Which of the two: the archive, or the independent checker.
 #[derive(Clone, Copy, Debug, PartialEq, Eq)]

@@ -10,8 +10,10 @@ returns c = (omega arith, λ ms h k n et f e. no-slot ms h _ k n f (c .before .b
 returns-2 : tie.Need-returns-2
 returns-2 c =
     let s = c .before .before .before .before .before in
-    let if1 = c .before .before .before .if1 in
-    (omega arith, λ ms h k n et f e. at-slot ms h _ k n f (s .args .slot) e (if1 .left) _ (c .before .wide4 .ensures .0))
+    let if1 = c .before .before .before .if1 in (
+      omega arith,
+      λ ms h k n et f e. at-slot ms h _ k n f (s .args .slot) e (if1 .left) _ (c .before .wide4 .ensures .0),
+    )
 
 returns-3 : tie.Need-returns-3
 returns-3 c =

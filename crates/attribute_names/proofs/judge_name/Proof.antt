@@ -19,7 +19,8 @@ returns c =
     let e = c .stopped .ensures in (
       stopped-within (s .args .st) _ (c .before .if1 .taken) _ e,
       λ q d n p w o k ec g. stopped-name q d n (isExtended p) (w .type) (s .args .hand .now)
-          (s .args .st .context .«in_hand») _ (slot-of .ensures .2 q d n p w o (s .args .scratch .now) k ec g .ruling) (c .before .if1 .taken) _ e,
+          (s .args .st .context .«in_hand») _
+          (slot-of .ensures .2 q d n p w o (s .args .scratch .now) k ec g .ruling) (c .before .if1 .taken) _ e,
     )
 
 element-ruling-requires : tie.Need-element-ruling-requires
@@ -37,17 +38,21 @@ returns-2 c =
     let e = c .stopped2 .ensures in (
       stopped-within (s .args .st) _ (c .before .if2 .taken) _ e,
       λ q d n p w o k ec g. stopped-element q d n (isExtended p) (w .type) (s .args .hand .now)
-          (s .args .st .context .«in_hand») _ (slot-of .ensures .2 q d n p w o (s .args .scratch .now) k ec g .ruling) (if1 .left) _
+          (s .args .st .context .«in_hand») _
+          (slot-of .ensures .2 q d n p w o (s .args .scratch .now) k ec g .ruling) (if1 .left) _
           (element-ruling .ensures (w .type)
-          (is-meant (s .args .text .now) n p w (s .args .scratch .now) (s .args .a) g) (g .scratched)) (c .before .if2 .taken) _ e,
+          (is-meant (s .args .text .now) n p w (s .args .scratch .now) (s .args .a) g) (g .scratched))
+          (c .before .if2 .taken) _ e,
     )
 
 reach-requires : tie.Need-reach-requires
 reach-requires c κs =
     let back = c .before .before .before .before .before .before .before .before .before .before in
     let s = back .before .before .before .before .before .before in
-    let slot-of = c .before .before .before .before .before .before .before .before .before .slot-of in
-    ((s .pre .0 .0, s .pre .0 .2, omega (arith, slot-of .ensures .0, s .pre .1 .0 .0), s .pre .1 .0 .1), s .pre .1 .1 .1)
+    let slot-of = c .before .before .before .before .before .before .before .before .before .slot-of in (
+      (s .pre .0 .0, s .pre .0 .2, omega (arith, slot-of .ensures .0, s .pre .1 .0 .0), s .pre .1 .0 .1),
+      s .pre .1 .1 .1,
+    )
 
 returns-3 : tie.Need-returns-3
 returns-3 c =
@@ -65,11 +70,14 @@ returns-3 c =
       },
       λ q d n p w o k ec g.
           let u = slot-of .ensures .2 q d n p w o (s .args .scratch .now) k ec g in
-          let off = own-off q d n (isExtended p) (w .type) (s .args .hand .now) (s .args .st .context .«in_hand») _ (u .ruling) (if1 .left) in
+          let off = own-off q d n (isExtended p) (w .type) (s .args .hand .now) (s .args .st .context .«in_hand») _
+          (u .ruling) (if1 .left) in
           let v = r .ensures .3 q d n p w o (s .args .scratch .now) k ec g off (u .slot) in
-          bonds-are q d n (isExtended p) (w .type) (s .args .hand .now) (s .args .st .context .«in_hand») _ (u .ruling) (if1 .left) _
+          bonds-are q d n (isExtended p) (w .type) (s .args .hand .now)
+          (s .args .st .context .«in_hand») _ (u .ruling) (if1 .left) _
           (element-ruling .ensures (w .type)
-          (is-meant (s .args .text .now) n p w (s .args .scratch .now) (s .args .a) g) (g .scratched)) (c .before .if2 .left) _ (λ i. r .ensures .0
+          (is-meant (s .args .text .now) n p w (s .args .scratch .now) (s .args .a) g) (g .scratched))
+          (c .before .if2 .left) _ (λ i. r .ensures .0
           ∙ u .slot i) (v .0) (v .1),
     )
 

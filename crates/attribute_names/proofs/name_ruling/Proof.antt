@@ -1,5 +1,5 @@
 use mathlib.Core.Path.{sym, ap, _∙_}
-use Rattle.types.specs.declared.Ruling.{Ruling}
+use Rattle.ground.specs.declared.Ruling.{Ruling}
 use Rattle.attribute_names.proofs.NameLaws.{name-new, name-many, name-own, name-extended, name-hidden, brokenAt}
 use native.Mathlib.Omega.{arith}
 use borrow.Author.Needs.{needs}
@@ -22,7 +22,8 @@ returns-2 c =
     let s = c .before .before .before .before in
     let if1 = c .before .before .if1 in (
       λ z y. omega (arith, c .before .if2 .left),
-      λ ms d n o p ec ep es. c .fine .ensures ∙ name-new ms _ _ d n o (s .args .slot) es (s .args .extended) (if1 .taken) (omega (arith, c .before .if2 .left)),
+      λ ms d n o p ec ep es. c .fine .ensures ∙ name-new ms _ _ d n o (s .args .slot) es (s .args .extended)
+          (if1 .taken) (omega (arith, c .before .if2 .left)),
     )
 
 returns-3 : tie.Need-returns-3

@@ -16,7 +16,8 @@ returns c =
     let s = c .before .before .before .before .before .before in
     let m = c .before .before .m in (
       c .named .ensures .0,
-      λ q w o hs k e f. reference-fair _ q (s .args .m) _ (m .given .1) w e f (c .named .result) (λ b u g. c .named .ensures .1 q b o hs k u g),
+      λ q w o hs k e f. reference-fair _ q (s .args .m) _ (m .given .1) w e f (c .named .result)
+          (λ b u g. c .named .ensures .1 q b o hs k u g),
     )
 
 returns-2 : tie.Need-returns-2

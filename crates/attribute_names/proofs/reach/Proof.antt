@@ -17,7 +17,8 @@ reference-ruling-requires : tie.Need-reference-ruling-requires
 unfolding indexIn
 reference-ruling-requires c κs =
     let s = c .before .before .before .before .before .before .before .before .before in
-    definition-rows (s .args .st) (s .args .work .now) (s .pre .0 .1) (c .before .named-in .result) (omega (arith, c .before .named-in .ensures .0))
+    definition-rows (s .args .st) (s .args .work .now) (s .pre .0 .1) (c .before .named-in .result)
+    (omega (arith, c .before .named-in .ensures .0))
 
 returns : tie.Need-returns
 unfolding indexIn
@@ -29,11 +30,14 @@ returns c =
       found-at .ensures .0,
       named-in .ensures .0,
       λ q d n p w o rs k ec g off es.
-          let en = named-in .ensures .1 q (w .type) o (s .args .hand .now) k (is-meant (s .args .text .now) n p w rs (s .args .a) g) (g .fair .type) in
-          let sl = es (was (s .args .text .now) q (s .args .st) o _ _ _ (s .args .hand .now) k d ec n p w rs (s .args .a) g) in (
+          let en = named-in .ensures .1 q (w .type) o (s .args .hand .now) k
+          (is-meant (s .args .text .now) n p w rs (s .args .a) g) (g .fair .type) in
+          let sl =
+          es (was (s .args .text .now) q (s .args .st) o _ _ _ (s .args .hand .now) k d ec n p w rs (s .args .a) g) in (
             reference-is (s .args .text .now) q (s .args .st) o _ _ _ (s .args .hand .now) k d ec n p w rs
                 (s .args .a) g off (s .args .slot) sl (found-at .result) (found-at .ensures .1) (named-in .result) en
-                (found-at .ensures .0) (named-in .ensures .0) (c .reference-ruling .result) (c .reference-ruling .ensures),
+                (found-at .ensures .0) (named-in .ensures .0) (c .reference-ruling .result)
+                (c .reference-ruling .ensures),
             record {
               base = base-is (s .args .text .now) q (s .args .st) o _ _ _ (s .args .hand .now) k d ec n p w rs
                   (s .args .a) g off (s .args .slot) sl (found-at .result) (found-at .ensures .1) (named-in .result) en;

@@ -19,7 +19,8 @@ returns-2 c =
     let s = c .before .before .before .before in
     let is-lost = c .before .before .is-lost in
     λ t ks n ms w k v b e g. not-lost ms (s .args .base) b (s .args .extended) (s .args .place) (referenceIn w)
-    (entry ks (s .args .named)) _ (is-lost .ensures) (c .before .if1 .left) _ (c .target-ruling .ensures t ks n w k v e g)
+    (entry ks (s .args .named)) _ (is-lost .ensures) (c .before .if1 .left) _
+    (c .target-ruling .ensures t ks n w k v e g)
 
 pub reference-ruling-spec : {M : Type 1} → statement M
 reference-ruling-spec =

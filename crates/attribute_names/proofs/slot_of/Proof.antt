@@ -11,8 +11,12 @@ find-attribute-requires : tie.Need-find-attribute-requires
 unfolding rowsIn
 find-attribute-requires c κs =
     let s = c .before .before .before .before .before .before in
-    let st = s .args .st in
-    (s .pre .0, attribute-rows st (s .args .work .now) (s .pre .1) (st .listing .total) (omega arith), s .pre .2, s .pre .3)
+    let st = s .args .st in (
+      s .pre .0,
+      attribute-rows st (s .args .work .now) (s .pre .1) (st .listing .total) (omega arith),
+      s .pre .2,
+      s .pre .3,
+    )
 
 number-of-requires : tie.Need-number-of-requires
 unfolding indexIn

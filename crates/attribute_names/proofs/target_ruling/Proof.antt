@@ -9,7 +9,8 @@ returns c =
     let s = c .before .before .before .before .before .before .before in
     let m = c .before .before .before .before .m in
     let if1 = c .before .before .if1 in
-    λ t ks n w k v e g. c .broken .ensures ∙ nothing-named ks (s .args .named) (s .args .m) _ (m .given .1) w e (if1 .taken) _ (c .before .first-place .ensures)
+    λ t ks n w k v e g. c .broken .ensures ∙ nothing-named ks (s .args .named) (s .args .m) _ (m .given .1) w e
+    (if1 .taken) _ (c .before .first-place .ensures)
 
 returns-2 : tie.Need-returns-2
 returns-2 c =
@@ -19,7 +20,8 @@ returns-2 c =
     let sort-of = c .before .before .before .sort-of in
     let may-type = c .before .before .may-type in
     λ t ks n w k v e g. c .fine .ensures
-    ∙ one-named t ks _ n k (s .args .named) v (if1 .left) _ (sort-of .ensures) _ (may-type .ensures) (s .args .m) _ (m .given .1) w e (c .before .if2 .taken)
+    ∙ one-named t ks _ n k (s .args .named) v (if1 .left) _ (sort-of .ensures) _ (may-type .ensures) (s .args .m) _
+    (m .given .1) w e (c .before .if2 .taken)
 
 returns-3 : tie.Need-returns-3
 returns-3 c =
@@ -36,7 +38,8 @@ returns-3 c =
 returns-4 : tie.Need-returns-4
 returns-4 c =
     let s = c .before .before .before in
-    λ t ks n w k v e g. let q = none-named (s .args .m) (c .before .match .keys2) w e in c .fine2 .ensures ∙ no-reference ks (s .args .named) w q (g q)
+    λ t ks n w k v e g. let q = none-named (s .args .m) (c .before .match .keys2) w e in
+    c .fine2 .ensures ∙ no-reference ks (s .args .named) w q (g q)
 
 pub target-ruling-spec : {M : Type 1} → statement M
 target-ruling-spec =

@@ -2,10 +2,11 @@ use mathlib.Core.Path.{_∙_}
 use borrow.Author.Tests.{lt-ltb, le-ltb}
 use Rattle.rules.specs.Declarations.{tyOf, isFound}
 use Rattle.rules.specs.Judge.{naming, orNoAttribute}
-use Rattle.types.proofs.TypeLaws.{typed-valued}
+use Rattle.fitting.proofs.ValueLaws.{typed-valued}
 use Rattle.written.proofs.WrittenLaws.{same-kind}
 use Rattle.attribute_types.proofs.UseLaws.{fair-naming}
-use Rattle.attribute_records.proofs.LayLaws.{descent-none, descent-kind, descent-fine, descent-other, descent-unfit, any-fair}
+use Rattle.attribute_records.proofs.LayLaws.{descent-none, descent-kind, descent-fine, descent-other}
+use Rattle.attribute_records.proofs.LayLaws.{descent-unfit, any-fair}
 use native.Mathlib.Omega.{arith}
 use borrow.Author.Needs.{needs}
 use Rattle.attribute_records.proofs.descent_ruling.Statement.{statement}
@@ -15,7 +16,8 @@ returns : tie.Need-returns
 returns c =
     let s = c .before .before .before .before .before .before .before .before in
     λ ks ms y total d o r e m eb f eu to tv. c .fine .ensures
-    ∙ descent-none (s .args .place) (isFound o) (naming d) (orNoAttribute o .use-of) (eb ∙ le-ltb 0 (s .args .u .base) (omega (arith, c .before .if1 .taken)))
+    ∙ descent-none (s .args .place) (isFound o) (naming d) (orNoAttribute o .use-of)
+    (eb ∙ le-ltb 0 (s .args .u .base) (omega (arith, c .before .if1 .taken)))
 
 returns-2 : tie.Need-returns-2
 returns-2 c =
@@ -25,9 +27,11 @@ returns-2 c =
     λ ks ms y total d o r e m eb f eu to tv.
     let ei = differ .ensures (tyOf (naming d)) (tyOf (orNoAttribute o .use-of))
     (typed-valued (s .args .text .now) (s .args .front .now) (tyOf (naming d)) (s .args .u .over .own) to)
-    (typed-valued (s .args .text .now) (s .args .front .now) (tyOf (orNoAttribute o .use-of)) (s .args .u .over .base) tv) in
+    (typed-valued (s .args .text .now) (s .args .front .now) (tyOf (orNoAttribute o .use-of))
+    (s .args .u .over .base) tv) in
     let f1 = eb ∙ lt-ltb 0 (s .args .u .base) (omega (arith, if1 .left)) in
-    c .broken .ensures ∙ descent-kind (s .args .place) (isFound o) (naming d) (orNoAttribute o .use-of) f1 (differ .result) ei (c .before .if2 .taken)
+    c .broken .ensures ∙ descent-kind (s .args .place) (isFound o) (naming d) (orNoAttribute o .use-of) f1
+    (differ .result) ei (c .before .if2 .taken)
 
 returns-3 : tie.Need-returns-3
 returns-3 c =
@@ -39,10 +43,12 @@ returns-3 c =
     λ ks ms y total d o r e m eb f eu to tv.
     let ei = differ .ensures (tyOf (naming d)) (tyOf (orNoAttribute o .use-of))
     (typed-valued (s .args .text .now) (s .args .front .now) (tyOf (naming d)) (s .args .u .over .own) to)
-    (typed-valued (s .args .text .now) (s .args .front .now) (tyOf (orNoAttribute o .use-of)) (s .args .u .over .base) tv) in
+    (typed-valued (s .args .text .now) (s .args .front .now) (tyOf (orNoAttribute o .use-of))
+    (s .args .u .over .base) tv) in
     let f1 = eb ∙ lt-ltb 0 (s .args .u .base) (omega (arith, if1 .left)) in
     let h = same-kind (differ .result) _ _ ei (if2 .left) in
-    let ej = is-descendant .ensures (s .args .text .now) (s .args .front .now) ks ms y total d (orNoAttribute o .use-of) r e eu h in
+    let ej = is-descendant .ensures (s .args .text .now) (s .args .front .now) ks ms y total d
+    (orNoAttribute o .use-of) r e eu h in
     c .fine2 .ensures
     ∙ descent-fine (s .args .place) (isFound o) (naming d) (orNoAttribute o .use-of) f1 (differ .result) ei (if2 .left)
     (is-descendant .result) ej (c .before .if3 .taken)
@@ -60,12 +66,15 @@ returns-4 c =
     λ ks ms y total d o r e m eb f eu to tv.
     let ei = differ .ensures (tyOf (naming d)) (tyOf (orNoAttribute o .use-of))
     (typed-valued (s .args .text .now) (s .args .front .now) (tyOf (naming d)) (s .args .u .over .own) to)
-    (typed-valued (s .args .text .now) (s .args .front .now) (tyOf (orNoAttribute o .use-of)) (s .args .u .over .base) tv) in
+    (typed-valued (s .args .text .now) (s .args .front .now) (tyOf (orNoAttribute o .use-of))
+    (s .args .u .over .base) tv) in
     let f1 = eb ∙ lt-ltb 0 (s .args .u .base) (omega (arith, if1 .left)) in
     let h = same-kind (differ .result) _ _ ei (if2 .left) in
-    let ej = is-descendant .ensures (s .args .text .now) (s .args .front .now) ks ms y total d (orNoAttribute o .use-of) r e eu h in
+    let ej = is-descendant .ensures (s .args .text .now) (s .args .front .now) ks ms y total d
+    (orNoAttribute o .use-of) r e eu h in
     let el = fits-in-book .ensures (tyOf (naming d)) (tyOf (orNoAttribute o .use-of))
-    (fair-naming (s .args .text .now) d (r .types (s .args .u .named) d e)) (any-fair (s .args .text .now) o f) to tv h in
+    (fair-naming (s .args .text .now) d (r .types (s .args .u .named) d e))
+    (any-fair (s .args .text .now) o f) to tv h in
     c .broken2 .ensures
     ∙ descent-other (s .args .place) (isFound o) (naming d) (orNoAttribute o .use-of) f1 (differ .result) ei (if2 .left)
     (is-descendant .result) ej (if3 .left) (fits-in-book .result) el (c .before .if4 .taken)
@@ -83,12 +92,15 @@ returns-5 c =
     λ ks ms y total d o r e m eb f eu to tv.
     let ei = differ .ensures (tyOf (naming d)) (tyOf (orNoAttribute o .use-of))
     (typed-valued (s .args .text .now) (s .args .front .now) (tyOf (naming d)) (s .args .u .over .own) to)
-    (typed-valued (s .args .text .now) (s .args .front .now) (tyOf (orNoAttribute o .use-of)) (s .args .u .over .base) tv) in
+    (typed-valued (s .args .text .now) (s .args .front .now) (tyOf (orNoAttribute o .use-of))
+    (s .args .u .over .base) tv) in
     let f1 = eb ∙ lt-ltb 0 (s .args .u .base) (omega (arith, if1 .left)) in
     let h = same-kind (differ .result) _ _ ei (if2 .left) in
-    let ej = is-descendant .ensures (s .args .text .now) (s .args .front .now) ks ms y total d (orNoAttribute o .use-of) r e eu h in
+    let ej = is-descendant .ensures (s .args .text .now) (s .args .front .now) ks ms y total d
+    (orNoAttribute o .use-of) r e eu h in
     let el = fits-in-book .ensures (tyOf (naming d)) (tyOf (orNoAttribute o .use-of))
-    (fair-naming (s .args .text .now) d (r .types (s .args .u .named) d e)) (any-fair (s .args .text .now) o f) to tv h in
+    (fair-naming (s .args .text .now) d (r .types (s .args .u .named) d e))
+    (any-fair (s .args .text .now) o f) to tv h in
     c .broken3 .ensures
     ∙ descent-unfit (s .args .place) (isFound o) (naming d) (orNoAttribute o .use-of) f1 (differ .result) ei (if2 .left)
     (is-descendant .result) ej (if3 .left) (fits-in-book .result) el (c .before .if4 .left)

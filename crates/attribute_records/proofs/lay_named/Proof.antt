@@ -17,7 +17,8 @@ returns c =
 returns-2 : tie.Need-returns-2
 returns-2 c =
     let s = c .before .before .before in
-    λ t b ks ms n y total d h e. named-over t b ks ms _ n y total h (s .args .p) d e (s .args .at) (s .args .book .now) _ (omega (arith, c .if1 .left))
+    λ t b ks ms n y total d h e. named-over t b ks ms _ n y total h (s .args .p) d e (s .args .at)
+    (s .args .book .now) _ (omega (arith, c .if1 .left))
 
 pub lay-named-spec : {M : Type 1} → statement M
 lay-named-spec =

@@ -7,7 +7,9 @@ use Rattle.book.specs.Sizes.{headSize}
 use Rattle.names.specs.Index.{entry}
 use Rattle.state.specs.Parts.{indexIn}
 use Rattle.state.proofs.RoomLaws.{definition-rows}
-use Rattle.attribute_records.proofs.LayLaws.{lays-there, based-is, base-fair, any-base, may-name, typed-naming, lay-broken, lay-reference, no-reference, kept-there, lay-kept, based-none, valued-own, lay-in-place}
+use Rattle.attribute_records.proofs.LayLaws.{lays-there, based-is, base-fair, any-base, may-name, typed-naming}
+use Rattle.attribute_records.proofs.LayLaws.{lay-broken, lay-reference, no-reference, kept-there, lay-kept}
+use Rattle.attribute_records.proofs.LayLaws.{based-none, valued-own, lay-in-place}
 use native.Mathlib.Omega.{arith}
 use borrow.Author.Needs.{needs}
 use Rattle.attribute_records.proofs.lay_use.Statement.{statement}
@@ -40,16 +42,19 @@ returns c =
     let z = c .before .before .before .before .before .before .before .before .if1 .taken in
     λ ks ms y total v l.
     let (d, e) = lays-there l z (s .pre .0 .2) in
-    let eq = descent-ruling .ensures ks ms y total d (entry ms (s .args .u .base)) (l .ready) e (may-name l d e) (based-is l) (any-base l)
+    let eq = descent-ruling .ensures ks ms y total d (entry ms (s .args .u .base)) (l .ready) e
+    (may-name l d e) (based-is l) (any-base l)
     (l .used) (typed-naming l d e z) (l .typed) in
-    lay-broken l d e (descent-ruling .result) eq (s .args .st .extent .used + headSize) (s .args .book .now) (s .args .book .now) (c .if2 .taken)
+    lay-broken l d e (descent-ruling .result) eq (s .args .st .extent .used + headSize) (s .args .book .now)
+    (s .args .book .now) (c .if2 .taken)
 
 lay-named-requires : tie.Need-lay-named-requires
 unfolding indexIn
 lay-named-requires c κs =
     let back = c .before .before .before .before .before .before .before .before .before .before in
     let s = back .before .before .before .before .before .before .before .before .before in (
-      definition-rows (s .args .st) (s .args .work .now) (s .pre .0 .4) (s .args .u .named) (omega (arith, s .pre .0 .2)),
+      definition-rows (s .args .st) (s .args .work .now) (s .pre .0 .4) (s .args .u .named)
+          (omega (arith, s .pre .0 .2)),
       omega (arith, s .pre .1 .0, s .pre .1 .1),
     )
 
@@ -64,9 +69,11 @@ returns-2 c =
     let z = back .before .before .before .if1 .taken in
     λ ks ms y total v l.
     let (d, e) = lays-there l z (s .pre .0 .2) in
-    let eq = descent-ruling .ensures ks ms y total d (entry ms (s .args .u .base)) (l .ready) e (may-name l d e) (based-is l) (any-base l)
+    let eq = descent-ruling .ensures ks ms y total d (entry ms (s .args .u .base)) (l .ready) e
+    (may-name l d e) (based-is l) (any-base l)
     (l .used) (typed-naming l d e z) (l .typed) in
-    lay-reference l d e (descent-ruling .result) eq (s .args .st .extent .used + headSize) (s .args .book .now) _ (if2 .left)
+    lay-reference l d e (descent-ruling .result) eq (s .args .st .extent .used + headSize)
+    (s .args .book .now) _ (if2 .left)
     (lay-named .result) (lay-named .ensures _ _ ks ms (s .args .st .listing .count) y total d (l .ready .held) e)
 
 lay-named-requires-2 : tie.Need-lay-named-requires-2
@@ -74,8 +81,10 @@ unfolding indexIn
 lay-named-requires-2 c κs =
     let s = c .before .before .before .before .before .before .before .before .before .before .before .before .before in
     let use-at = c .before .before .before .use-at in
-    let i = use-at .ensures .1 (s .args .st .listing .count) (s .pre .0 .2) (s .pre .0 .3) in
-    (definition-rows (s .args .st) (s .args .work .now) (s .pre .0 .4) (use-at .result) (omega (arith, i)), omega (arith, s .pre .1 .0, s .pre .1 .1))
+    let i = use-at .ensures .1 (s .args .st .listing .count) (s .pre .0 .2) (s .pre .0 .3) in (
+      definition-rows (s .args .st) (s .args .work .now) (s .pre .0 .4) (use-at .result) (omega (arith, i)),
+      omega (arith, s .pre .1 .0, s .pre .1 .1),
+    )
 
 returns-3 : tie.Need-returns-3
 unfolding indexIn
@@ -88,9 +97,12 @@ returns-3 c =
     let z = c .before .before .before .before .before .before .before .if1 .left in
     λ ks ms y total v l.
     let b = l .ready .held .all-defs in
-    let eu = use-at .ensures .0 ks v (orNoAttribute (entry ms (s .args .u .base)) .use-of) (l .meant) (omega (arith, b, s .pre .0 .2)) (l .refers) (l .used) in
-    let (d, e) = kept-there l z (use-at .result) eu (if3 .taken) (use-at .ensures .1 (s .args .st .listing .count) (s .pre .0 .2) (s .pre .0 .3)) in
-    lay-kept l z (use-at .result) eu d e (s .args .st .extent .used + headSize) (s .args .book .now) _ (lay-named2 .result)
+    let eu = use-at .ensures .0 ks v (orNoAttribute (entry ms (s .args .u .base)) .use-of) (l .meant)
+    (omega (arith, b, s .pre .0 .2)) (l .refers) (l .used) in
+    let (d, e) = kept-there l z (use-at .result) eu (if3 .taken)
+    (use-at .ensures .1 (s .args .st .listing .count) (s .pre .0 .2) (s .pre .0 .3)) in
+    lay-kept l z (use-at .result) eu d e (s .args .st .extent .used + headSize)
+    (s .args .book .now) _ (lay-named2 .result)
     (lay-named2 .ensures _ _ ks ms (s .args .st .listing .count) y total d (l .ready .held) e)
 
 lay-written-requires : tie.Need-lay-written-requires
@@ -110,8 +122,10 @@ returns-4 c =
     let b = l .ready .held .all-defs in
     let base = orNoAttribute (entry ms (s .args .u .base)) .use-of in
     let eu = use-at .ensures .0 ks v base (l .meant) (omega (arith, b, s .pre .0 .2)) (l .refers) (l .used) in
-    lay-in-place l z (use-at .result) eu (if3 .left) (s .args .st .extent .used + headSize) (s .args .book .now) _ (lay-written .result)
-    (lay-written .ensures v (tyOf base) (l .meant) (no-reference l z (use-at .result) eu) (l .begins) (l .scratched) (l .once)
+    lay-in-place l z (use-at .result) eu (if3 .left) (s .args .st .extent .used + headSize)
+    (s .args .book .now) _ (lay-written .result)
+    (lay-written .ensures v (tyOf base) (l .meant) (no-reference l z (use-at .result) eu)
+    (l .begins) (l .scratched) (l .once)
     (base-fair l) (based-none l z (use-at .result) eu) (valued-own l z (use-at .result) eu) (l .typed))
 
 pub lay-use-spec : {M : Type 1} → statement M

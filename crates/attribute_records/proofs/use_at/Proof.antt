@@ -7,14 +7,18 @@ use Rattle.attribute_records.proofs.use_at.Tie as tie
 returns : tie.Need-returns
 returns c =
     let s = c .before .before .before in (
-      λ ks w v e l r h. alone-use ks (s .args .kept) (entry ks (s .args .named)) w v (alone-is (s .args .a .written .meant) (c .enum-told .given .1) w e) h,
+      λ ks w v e l r h. alone-use ks (s .args .kept) (entry ks (s .args .named)) w v
+          (alone-is (s .args .a .written .meant) (c .enum-told .given .1) w e) h,
       λ n a b. b,
     )
 
 returns-2 : tie.Need-returns-2
 returns-2 c =
-    let s = c .before .before in
-    (λ ks w v e l r h. written-use (entry ks (s .args .named)) (s .args .a .written .meant) (c .match .keys2) w e r v, λ n a b. a)
+    let s = c .before .before in (
+      λ ks w v e l r h.
+          written-use (entry ks (s .args .named)) (s .args .a .written .meant) (c .match .keys2) w e r v,
+      λ n a b. a,
+    )
 
 pub use-at-spec : {M : Type 1} → statement M
 use-at-spec =

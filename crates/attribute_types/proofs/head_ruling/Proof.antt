@@ -12,8 +12,10 @@ returns c =
     let s = c .before .before .before .before .before in
     let is-last = c .before .before .is-last in
     λ t b ks ms n total w h l m r v. c .broken .ensures
-    ∙ head-final (s .args .place) (orNoAttribute (entry ms (s .args .q)) .final) (s .args .twice) w (entry ks (s .args .named))
-    (orNoAttribute (entry ms (s .args .q)) .use-of) r _ (is-last .ensures t b ks ms _ n total h l) (c .before .if1 .taken)
+    ∙ head-final (s .args .place) (orNoAttribute (entry ms (s .args .q)) .final)
+    (s .args .twice) w (entry ks (s .args .named))
+    (orNoAttribute (entry ms (s .args .q)) .use-of) r _
+    (is-last .ensures t b ks ms _ n total h l) (c .before .if1 .taken)
 
 returns-2 : tie.Need-returns-2
 returns-2 c =
@@ -21,8 +23,10 @@ returns-2 c =
     let is-last = c .before .before .before .is-last in
     let if1 = c .before .before .if1 in
     λ t b ks ms n total w h l m r v. c .broken2 .ensures
-    ∙ head-twice (s .args .place) (orNoAttribute (entry ms (s .args .q)) .final) (s .args .twice) w (entry ks (s .args .named))
-    (orNoAttribute (entry ms (s .args .q)) .use-of) r _ (is-last .ensures t b ks ms _ n total h l) (if1 .left) (c .before .if2 .taken)
+    ∙ head-twice (s .args .place) (orNoAttribute (entry ms (s .args .q)) .final)
+    (s .args .twice) w (entry ks (s .args .named))
+    (orNoAttribute (entry ms (s .args .q)) .use-of) r _ (is-last .ensures t b ks ms _ n total h l)
+    (if1 .left) (c .before .if2 .taken)
 
 returns-3 : tie.Need-returns-3
 returns-3 c =
@@ -32,9 +36,13 @@ returns-3 c =
     let if2 = c .before .before .before .if2 in
     let is-numeric = c .before .before .is-numeric in
     λ t b ks ms n total w h l m r v. c .broken3 .ensures
-    ∙ head-numeric (s .args .place) (orNoAttribute (entry ms (s .args .q)) .final) (s .args .twice) w (entry ks (s .args .named))
-    (orNoAttribute (entry ms (s .args .q)) .use-of) r _ (is-last .ensures t b ks ms _ n total h l) (if1 .left) (if2 .left) _
-    (is-numeric .ensures (tyOf (attributeUse w (entry ks (s .args .named)) (orNoAttribute (entry ms (s .args .q)) .use-of))) v) (c .before .if3 .taken)
+    ∙ head-numeric (s .args .place) (orNoAttribute (entry ms (s .args .q)) .final)
+    (s .args .twice) w (entry ks (s .args .named))
+    (orNoAttribute (entry ms (s .args .q)) .use-of) r _
+    (is-last .ensures t b ks ms _ n total h l) (if1 .left) (if2 .left) _
+    (is-numeric .ensures
+    (tyOf (attributeUse w (entry ks (s .args .named)) (orNoAttribute (entry ms (s .args .q)) .use-of))) v)
+    (c .before .if3 .taken)
 
 returns-4 : tie.Need-returns-4
 returns-4 c =
@@ -46,9 +54,12 @@ returns-4 c =
     let if3 = c .before .before .before .if3 in
     let is-abstract-domain = c .before .before .is-abstract-domain in
     λ t b ks ms n total w h l m r v. c .broken4 .ensures
-    ∙ head-abstract (s .args .place) (orNoAttribute (entry ms (s .args .q)) .final) (s .args .twice) w (entry ks (s .args .named))
-    (orNoAttribute (entry ms (s .args .q)) .use-of) r _ (is-last .ensures t b ks ms _ n total h l) (if1 .left) (if2 .left) _
-    (is-numeric .ensures (tyOf (attributeUse w (entry ks (s .args .named)) (orNoAttribute (entry ms (s .args .q)) .use-of))) v)
+    ∙ head-abstract (s .args .place) (orNoAttribute (entry ms (s .args .q)) .final)
+    (s .args .twice) w (entry ks (s .args .named))
+    (orNoAttribute (entry ms (s .args .q)) .use-of) r _
+    (is-last .ensures t b ks ms _ n total h l) (if1 .left) (if2 .left) _
+    (is-numeric .ensures
+    (tyOf (attributeUse w (entry ks (s .args .named)) (orNoAttribute (entry ms (s .args .q)) .use-of))) v)
     (if3 .left) _ (is-abstract-domain .ensures t b ks ms n _ total h m) (c .before .if4 .taken)
 
 returns-5 : tie.Need-returns-5
@@ -61,9 +72,12 @@ returns-5 c =
     let if3 = c .before .before .before .if3 in
     let is-abstract-domain = c .before .before .is-abstract-domain in
     λ t b ks ms n total w h l m r v. c .fine .ensures
-    ∙ head-fine (s .args .place) (orNoAttribute (entry ms (s .args .q)) .final) (s .args .twice) w (entry ks (s .args .named))
-    (orNoAttribute (entry ms (s .args .q)) .use-of) r _ (is-last .ensures t b ks ms _ n total h l) (if1 .left) (if2 .left) _
-    (is-numeric .ensures (tyOf (attributeUse w (entry ks (s .args .named)) (orNoAttribute (entry ms (s .args .q)) .use-of))) v)
+    ∙ head-fine (s .args .place) (orNoAttribute (entry ms (s .args .q)) .final)
+    (s .args .twice) w (entry ks (s .args .named))
+    (orNoAttribute (entry ms (s .args .q)) .use-of) r _
+    (is-last .ensures t b ks ms _ n total h l) (if1 .left) (if2 .left) _
+    (is-numeric .ensures
+    (tyOf (attributeUse w (entry ks (s .args .named)) (orNoAttribute (entry ms (s .args .q)) .use-of))) v)
     (if3 .left) _ (is-abstract-domain .ensures t b ks ms n _ total h m) (c .before .if4 .left)
 
 pub head-ruling-spec : {M : Type 1} → statement M

@@ -19,7 +19,8 @@ returns-3 : tie.Need-returns-3
 returns-3 c =
     let s = c .before .before .before .before in
     let if1 = c .before .before .if1 in
-    λ t b ks ms n y total h w. no-abstract t b ks ms _ n y total h (s .args .p) w (if1 .left) _ (c .before .sort-of .ensures) (c .if2 .left)
+    λ t b ks ms n y total h w.
+    no-abstract t b ks ms _ n y total h (s .args .p) w (if1 .left) _ (c .before .sort-of .ensures) (c .if2 .left)
 
 pub is-abstract-domain-spec : {M : Type 1} → statement M
 is-abstract-domain-spec =

@@ -6,16 +6,20 @@ use Rattle.attribute_types.proofs.kept_by.Tie as tie
 
 returns : tie.Need-returns
 returns c =
-    let s = c .before .before in
-    (omega arith, λ t b ks ms x total h w. (no-use ks ms (s .args .q) (c .if1 .taken), λ z. absurd (omega (arith, c .if1 .taken))))
+    let s = c .before .before in (
+      omega arith,
+      λ t b ks ms x total h w. (no-use ks ms (s .args .q) (c .if1 .taken), λ z. absurd (omega (arith, c .if1 .taken))),
+    )
 
 returns-2 : tie.Need-returns-2
 returns-2 c =
     let s = c .before .before .before .before in
     let if1 = c .before .before .if1 in (
       omega arith,
-      λ t b ks ms x total h w.
-          (use-there t b ks ms x _ _ total h (s .args .q) w (if1 .left) _ (c .before .member-use .ensures .0), λ z. c .before .member-use .ensures .0),
+      λ t b ks ms x total h w. (
+        use-there t b ks ms x _ _ total h (s .args .q) w (if1 .left) _ (c .before .member-use .ensures .0),
+        λ z. c .before .member-use .ensures .0,
+      ),
     )
 
 returns-3 : tie.Need-returns-3

@@ -15,7 +15,8 @@ returns c =
 returns-2 : tie.Need-returns-2
 returns-2 c =
     let s = c .before .before .before .before in
-    λ t ks ms n y total d r e. named-structure t _ ks ms _ n y total r (s .args .p) d e _ (c .before .sort-of .ensures) (c .if1 .left) _ refl
+    λ t ks ms n y total d r e.
+    named-structure t _ ks ms _ n y total r (s .args .p) d e _ (c .before .sort-of .ensures) (c .if1 .left) _ refl
 
 pub named-type-spec : {M : Type 1} → statement M
 named-type-spec =

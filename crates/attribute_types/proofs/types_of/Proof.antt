@@ -2,7 +2,7 @@ use mathlib.Core.Path.{refl}
 use Rattle.rules.specs.Declarations.{tyOf}
 use Rattle.names.specs.Index.{entry}
 use Rattle.rules.specs.Judge.{orNoAttribute}
-use Rattle.types.proofs.TypeLaws.{typed-valued, sized-base}
+use Rattle.fitting.proofs.ValueLaws.{typed-valued, sized-base}
 use Rattle.attribute_types.proofs.UseLaws.{fair-base, own-sized, found-positive}
 use borrow.Author.Needs.{needs}
 use Rattle.attribute_types.proofs.types_of.Statement.{statement}
@@ -21,10 +21,13 @@ returns c =
           let (k, i) = kept-by .ensures .1 t (s .args .front .now) ks ms (s .args .index .now) total (r .held) l in
           let tb = base-type .ensures t ks ms (s .args .count) total r l (kept-by .ensures .0) i in
           let vb = typed-valued t (s .args .front .now) (tyOf base) (base-type .result) tb in
-          let fb = fair-base t (s .args .front .now) ks ms (s .args .index .now) (s .args .count) (s .args .rows .now) total r (b .base) in
-          let (v, n) = own-type .ensures t ks ms (s .args .count) (s .args .rows .now) total w base r (s .pre .1) e g vb in
+          let fb = fair-base t (s .args .front .now) ks ms (s .args .index .now) (s .args .count)
+          (s .args .rows .now) total r (b .base) in
+          let (v, n) =
+          own-type .ensures t ks ms (s .args .count) (s .args .rows .now) total w base r (s .pre .1) e g vb in
           record {
-            ruling = c .before .head-ruling .ensures t (s .args .front .now) ks ms (s .args .count) total w (r .held) l (s .pre .1) g v;
+            ruling = c .before .head-ruling .ensures t (s .args .front .now) ks ms
+                (s .args .count) total w (r .held) l (s .pre .1) g v;
             kept = k;
             base = tb;
             own = v;

@@ -19,8 +19,14 @@ put-head-requires c κs =
     let s = c .before .before .before .before .before .before .before .before .before in
     let has-room = c .before .before .before .before .has-room in
     let if1 = c .before .before .before .if1 in
-    let r = leb-true (s .args .st .extent .used + headSize + s .args .size .bytes) (length (s .args .book .now)) (sym (has-room .ensures) ∙ if1 .taken) in
-    (omega (arith, r), s .pre .0 .3, s .pre .1 .0 .0, omega (arith, s .pre .1 .0 .0 .slot, s .pre .1 .0 .2), s .pre .0 .4)
+    let r = leb-true (s .args .st .extent .used + headSize + s .args .size .bytes) (length (s .args .book .now))
+    (sym (has-room .ensures) ∙ if1 .taken) in (
+      omega (arith, r),
+      s .pre .0 .3,
+      s .pre .1 .0 .0,
+      omega (arith, s .pre .1 .0 .0 .slot, s .pre .1 .0 .2),
+      s .pre .0 .4,
+    )
 
 enter-member-requires : tie.Need-enter-member-requires
 enter-member-requires c κs =
@@ -64,7 +70,8 @@ add-with-member c =
     let s = further .before .before .before in
     let has-room = back .before .before .before .before .before .before .before .before .has-room in
     let if1 = back .before .before .before .before .before .before .before .if1 in
-    let r = leb-true (s .args .st .extent .used + headSize + s .args .size .bytes) (length (s .args .book .now)) (sym (has-room .ensures) ∙ if1 .taken) in
+    let r = leb-true (s .args .st .extent .used + headSize + s .args .size .bytes) (length (s .args .book .now))
+    (sym (has-room .ensures) ∙ if1 .taken) in
     omega (arith, s .pre .0 .1, r)
 
 add-with-member-2 : tie.Need-add-with-member-2
@@ -74,7 +81,8 @@ add-with-member-2 c =
     let s = further .before .before .before .before in
     let has-room = back .before .before .before .before .before .before .before .before .before .has-room in
     let if1 = back .before .before .before .before .before .before .before .before .if1 in
-    let r = leb-true (s .args .st .extent .used + headSize + s .args .size .bytes) (length (s .args .book .now)) (sym (has-room .ensures) ∙ if1 .taken) in
+    let r = leb-true (s .args .st .extent .used + headSize + s .args .size .bytes) (length (s .args .book .now))
+    (sym (has-room .ensures) ∙ if1 .taken) in
     omega (arith, s .pre .0 .1, s .pre .1 .1 .1, r)
 
 with-member-requires : tie.Need-with-member-requires
@@ -85,8 +93,13 @@ with-member-requires c κs =
     let has-room = back .before .before .before .before .before .before .before .before .before .has-room in
     let if1 = back .before .before .before .before .before .before .before .before .if1 in
     let v = s .pre .0 .2 in
-    let r = leb-true (s .args .st .extent .used + headSize + s .args .size .bytes) (length (s .args .book .now)) (sym (has-room .ensures) ∙ if1 .taken) in (
-      (omega (arith, s .pre .0 .1, r), omega (arith, s .pre .0 .1, s .pre .1 .1 .1, v .fewer, r), omega (arith, s .pre .0 .1, v .fewer, v .defined, r)),
+    let r = leb-true (s .args .st .extent .used + headSize + s .args .size .bytes) (length (s .args .book .now))
+    (sym (has-room .ensures) ∙ if1 .taken) in (
+      (
+        omega (arith, s .pre .0 .1, r),
+        omega (arith, s .pre .0 .1, s .pre .1 .1 .1, v .fewer, r),
+        omega (arith, s .pre .0 .1, v .fewer, v .defined, r),
+      ),
       omega (arith, s .pre .0 .0, s .pre .0 .1, v .rows),
     )
 
@@ -109,11 +122,13 @@ returns c =
     λ t q o rs d n ps w el h.
     let x = was h el (s .pre .0 .1) in
     let v = put-head .ensures .1 t (book q) (known (q .decls)) (attributesIn q) (x .hand)
-    (s .args .st .context .«in_hand») n ps w rs (held-front h el (s .pre .0 .1)) (h .given) (x .filled) (h .at-slot x) in
+    (s .args .st .context .«in_hand») n ps w rs (held-front h el (s .pre .0 .1)) (h .given) (x .filled)
+    (h .at-slot x) in
     end-fine h el (s .pre .0 .1) (sym (has-room .ensures) ∙ if1 .taken) (wide .result) (wide .ensures .0 ∙ v .0) _
     (v .1) _ refl _ _ _ (enter-member .ensures .0) (enter-member .ensures .2) (enter-member .ensures .1) _
     (hold .result) (hold .ensures .0) (hold .ensures .1) (s .pre .1 .0 .3)
-    (attribute-rows (s .args .st) (s .args .work .now) (s .pre .0 .3) (s .args .st .listing .total + 1) (omega arith)) _ (ap Fine (c .with-member .ensures))
+    (attribute-rows (s .args .st) (s .args .work .now) (s .pre .0 .3) (s .args .st .listing .total + 1) (omega arith)) _
+    (ap Fine (c .with-member .ensures))
 
 returns-2 : tie.Need-returns-2
 returns-2 c =

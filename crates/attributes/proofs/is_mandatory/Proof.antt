@@ -16,7 +16,8 @@ returns-2 : tie.Need-returns-2
 returns-2 c =
     let s = c .before .before .before .before .before in
     λ t b ks ms n total h u w. mandatory-named (s .args .written) (orNoDef (entry ks (s .args .named)) .mandatory)
-    (orNoAttribute (entry ms (s .args .base)) .mandatory) (sym (c .if2 .taken) ∙ c .before .names-mandatory .ensures t b ks ms n _ total h w)
+    (orNoAttribute (entry ms (s .args .base)) .mandatory)
+    (sym (c .if2 .taken) ∙ c .before .names-mandatory .ensures t b ks ms n _ total h w)
 
 returns-3 : tie.Need-returns-3
 returns-3 c =
@@ -25,7 +26,8 @@ returns-3 c =
     let names-mandatory = c .before .before .names-mandatory in
     λ t b ks ms n total h u w. mandatory-inherited (s .args .written) (orNoDef (entry ks (s .args .named)) .mandatory)
     (orNoAttribute (entry ms (s .args .base)) .mandatory) (if1 .left)
-    (sym (c .before .if2 .left) ∙ names-mandatory .ensures t b ks ms n _ total h w) _ (c .inherits-mandatory .ensures t b ks ms _ n total h u)
+    (sym (c .before .if2 .left) ∙ names-mandatory .ensures t b ks ms n _ total h w) _
+    (c .inherits-mandatory .ensures t b ks ms _ n total h u)
 
 pub is-mandatory-spec : {M : Type 1} → statement M
 is-mandatory-spec =

@@ -7,7 +7,8 @@ use Rattle.members.specs.Held.{attributesIn}
 use Rattle.state.proofs.JudgeLaws.{small, judged-refused}
 use Rattle.attribute_names.proofs.GivenLaws.{is-meant, name-inside}
 use Rattle.attribute_types.proofs.UseLaws.{ready}
-use Rattle.attributes.proofs.WholeLaws.{unit-is, class-is, judged-first, refers-to, judged-second, lays, judged-third, size-solid, passes, judged-end}
+use Rattle.attributes.proofs.WholeLaws.{unit-is, class-is, judged-first, refers-to, judged-second, lays}
+use Rattle.attributes.proofs.WholeLaws.{judged-third, size-solid, passes, judged-end}
 use native.Mathlib.Omega.{arith}
 use borrow.Author.Needs.{needs}
 use Rattle.attributes.proofs.judge_attribute.Statement.{statement}
@@ -21,7 +22,10 @@ judge-name-requires c κs =
       (k .model .inside, name-inside (s .args .text .now) n p w (s .args .scratch .now) (s .args .a) g, s .pre .0 .3),
       (
         (k .hand, s .pre .0 .4),
-        ((s .pre .0 .2, omega (arith, s .pre .1 .0)), (w .type, is-meant (s .args .text .now) n p w (s .args .scratch .now) (s .args .a) g, g .fair .type)),
+        (
+          (s .pre .0 .2, omega (arith, s .pre .1 .0)),
+          (w .type, is-meant (s .args .text .now) n p w (s .args .scratch .now) (s .args .a) g, g .fair .type),
+        ),
       ),
     )
 
@@ -60,7 +64,8 @@ returns-2 c =
     let me = is-meant (s .args .text .now) n p w (s .args .scratch .now) (s .args .a) g in
     let bi = judge-types .ensures .0 in
     let ri = judge-types .ensures .1 (s .args .text .now) (known (q .decls)) (attributesIn q) (w .type)
-    (ready (s .args .text .now) q (s .args .st) (s .args .book .now) _ _ _ (s .args .hand .now) k) me (g .fair .type) rt in
+    (ready (s .args .text .now) q (s .args .st) (s .args .book .now) _ _ _ (s .args .hand .now) k) me
+    (g .fair .type) rt in
     judged-refused (s .args .text .now) q (U.attribute n p w) (s .args .book .now) (s .args .st)
     (c .refused2 .result) _ _ _ _ _ _ _ (judged-second k m ei z bi ri (c .before .if2 .taken)) (c .refused2 .ensures)
 
@@ -80,7 +85,8 @@ lay-use-requires c κs =
     let me = is-meant (s .args .text .now) n p w (s .args .scratch .now) (s .args .a) g in
     let bi = judge-types .ensures .0 in
     let ri = judge-types .ensures .1 (s .args .text .now) (known (q .decls)) (attributesIn q) (w .type)
-    (ready (s .args .text .now) q (s .args .st) (s .args .book .now) _ _ _ (s .args .hand .now) k) me (g .fair .type) rt in
+    (ready (s .args .text .now) q (s .args .st) (s .args .book .now) _ _ _ (s .args .hand .now) k) me
+    (g .fair .type) rt in
     let same = judge-name .kept .1 .1 .1 .1 .0 in (
       (ri .sized-own, ri .sized-base, omega (arith, bi .named, judge-name .ensures .0 .named), bi .kept, s .pre .0 .3),
       (k .within, s .pre .0 .1, s .pre .0 .2, omega (arith, s .pre .1 .0, same)),
@@ -107,7 +113,8 @@ end-attribute-requires c κs =
     let me = is-meant (s .args .text .now) n p w (s .args .scratch .now) (s .args .a) g in
     let bi = judge-types .ensures .0 in
     let ri = judge-types .ensures .1 (s .args .text .now) (known (q .decls)) (attributesIn q) (w .type)
-    (ready (s .args .text .now) q (s .args .st) (s .args .book .now) _ _ _ (s .args .hand .now) k) me (g .fair .type) rt in
+    (ready (s .args .text .now) q (s .args .st) (s .args .book .now) _ _ _ (s .args .hand .now) k) me
+    (g .fair .type) rt in
     let ls = lays k m ei z bi ri y (judge-name .ensures .0 .base) (judge-name .ensures .0 .named) in
     let li = lay-use .ensures (known (q .decls)) (attributesIn q) _ (s .args .st .listing .total) (w .type) ls in
     let u = use-at .ensures .1 (s .args .st .listing .count) (judge-name .ensures .0 .named) (bi .kept) in
@@ -145,11 +152,13 @@ returns-3 c =
     let me = is-meant (s .args .text .now) n p w (s .args .scratch .now) (s .args .a) g in
     let bi = judge-types .ensures .0 in
     let ri = judge-types .ensures .1 (s .args .text .now) (known (q .decls)) (attributesIn q) (w .type)
-    (ready (s .args .text .now) q (s .args .st) (s .args .book .now) _ _ _ (s .args .hand .now) k) me (g .fair .type) rt in
+    (ready (s .args .text .now) q (s .args .st) (s .args .book .now) _ _ _ (s .args .hand .now) k) me
+    (g .fair .type) rt in
     let ls = lays k m ei z bi ri y (judge-name .ensures .0 .base) (judge-name .ensures .0 .named) in
     let li = lay-use .ensures (known (q .decls)) (attributesIn q) _ (s .args .st .listing .total) (w .type) ls in
     judged-refused (s .args .text .now) q (U.attribute n p w) (s .args .book .now) (s .args .st)
-    (c .refused3 .result) _ _ _ _ _ _ _ (judged-third k m ei z bi ri y (lay-use .result) _ li _ (l .given .1)) (c .refused3 .ensures)
+    (c .refused3 .result) _ _ _ _ _ _ _
+    (judged-third k m ei z bi ri y (lay-use .result) _ li _ (l .given .1)) (c .refused3 .ensures)
 
 same-length-15 : tie.Need-same-length-15
 same-length-15 c =
@@ -182,7 +191,8 @@ returns-4 c =
     let me = is-meant (s .args .text .now) n p w (s .args .scratch .now) (s .args .a) g in
     let bi = judge-types .ensures .0 in
     let ri = judge-types .ensures .1 (s .args .text .now) (known (q .decls)) (attributesIn q) (w .type)
-    (ready (s .args .text .now) q (s .args .st) (s .args .book .now) _ _ _ (s .args .hand .now) k) me (g .fair .type) rt in
+    (ready (s .args .text .now) q (s .args .st) (s .args .book .now) _ _ _ (s .args .hand .now) k) me
+    (g .fair .type) rt in
     let ls = lays k m ei z bi ri y (judge-name .ensures .0 .base) (judge-name .ensures .0 .named) in
     let li = lay-use .ensures (known (q .decls)) (attributesIn q) _ (s .args .st .listing .total) (w .type) ls in
     let u = use-at .ensures .0 (known (q .decls)) (w .type)

@@ -1,5 +1,5 @@
 use mathlib.Core.Path.{ap, _∙_}
-use Rattle.auzuplens.specs.Packing.{packed}
+use Rattle.answers.specs.Packing.{packed}
 use borrow.Author.Needs.{needs}
 use Rattle.auzuplens.proofs.auzuplens_check.Statement.{statement}
 use Rattle.auzuplens.proofs.auzuplens_check.Tie as tie

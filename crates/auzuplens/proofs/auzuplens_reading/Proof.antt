@@ -8,7 +8,8 @@ use Rattle.auzuplens.proofs.auzuplens_reading.Tie as tie
 returns : tie.Need-returns
 returns c =
     let fits = c .before .before .fits in
-    let p = rw (toZ-ofZ (fits .value)) at (c .before .read-number .ensures) in kept (c .value .result) (c .value .ok) ∙ c .value .ensures ∙ p .value
+    let p = rw (toZ-ofZ (fits .value)) at (c .before .read-number .ensures) in
+    kept (c .value .result) (c .value .ok) ∙ c .value .ensures ∙ p .value
 
 pub auzuplens-reading-spec : {M : Type 1} → statement M
 auzuplens-reading-spec =

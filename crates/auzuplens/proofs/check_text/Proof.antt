@@ -1,5 +1,5 @@
 use mathlib.Core.Path.{sym, _∙_}
-use Rattle.trying.proofs.EndLaws.{too-long, promise-sized}
+use Rattle.running.proofs.EndLaws.{too-long, promise-sized}
 use native.Mathlib.Omega.{arith}
 use borrow.Author.Needs.{needs}
 use Rattle.auzuplens.proofs.check_text.Statement.{statement}

@@ -8,4 +8,5 @@ returns c = rw (c .low4 .ensures)
 pub length-record-spec : {M : Type 1} → statement M
 length-record-spec =
     tie.close
-    (tie.spec (λ c κs. search needs) (λ c. search needs) (λ c. search needs) (λ c. search needs) (λ c. search needs) returns)
+    (tie.spec (λ c κs. search needs) (λ c. search needs) (λ c. search needs)
+    (λ c. search needs) (λ c. search needs) returns)

@@ -31,8 +31,11 @@ enter-domain-requires c κs =
     let has-room = back .before .before .before .before .before .before .before .has-room in
     let if1 = back .before .before .before .before .before .before .if1 in
     let (s, n, p, b, w, o, hs, rs, h, l, z) = start .pre .1 .1 in
-    let v = numbers h (start .args .book .now) l (start .pre .0 .1) (start .args .size) z (sym (has-room .ensures) ∙ if1 .taken) in
-    ((v .inside, start .pre .0 .0, start .pre .1 .0), (v .home, v .numbered, v .place, v .count, v .total, start .pre .0 .2))
+    let v = numbers h (start .args .book .now) l (start .pre .0 .1) (start .args .size) z
+    (sym (has-room .ensures) ∙ if1 .taken) in (
+      (v .inside, start .pre .0 .0, start .pre .1 .0),
+      (v .home, v .numbered, v .place, v .count, v .total, start .pre .0 .2),
+    )
 
 add-declared : tie.Need-add-declared
 add-declared c =
@@ -42,7 +45,8 @@ add-declared c =
     let has-room = further .before .has-room in
     let if1 = further .if1 in
     let (s, n, p, b, w, o, hs, rs, h, l, z) = start .pre .1 .1 in
-    let v = numbers h (start .args .book .now) l (start .pre .0 .1) (start .args .size) z (sym (has-room .ensures) ∙ if1 .taken) in
+    let v = numbers h (start .args .book .now) l (start .pre .0 .1) (start .args .size) z
+    (sym (has-room .ensures) ∙ if1 .taken) in
     let k = v .bytes in
     omega arith
 
@@ -54,7 +58,8 @@ add-declared-2 c =
     let has-room = further .before .before .has-room in
     let if1 = further .before .if1 in
     let (s, n, p, b, w, o, hs, rs, h, l, z) = start .pre .1 .1 in
-    let v = numbers h (start .args .book .now) l (start .pre .0 .1) (start .args .size) z (sym (has-room .ensures) ∙ if1 .taken) in
+    let v = numbers h (start .args .book .now) l (start .pre .0 .1) (start .args .size) z
+    (sym (has-room .ensures) ∙ if1 .taken) in
     let k = v .records in
     omega arith
 
@@ -66,7 +71,8 @@ declared-requires c κs =
     let has-room = further .before .before .has-room in
     let if1 = further .before .if1 in
     let (s, n, p, b, w, o, hs, rs, h, l, z) = start .pre .1 .1 in
-    let v = numbers h (start .args .book .now) l (start .pre .0 .1) (start .args .size) z (sym (has-room .ensures) ∙ if1 .taken) in
+    let v = numbers h (start .args .book .now) l (start .pre .0 .1) (start .args .size) z
+    (sym (has-room .ensures) ∙ if1 .taken) in
     ((v .used, v .recorded, v .defined), let k = v .count in omega arith)
 
 returns : tie.Need-returns
@@ -87,22 +93,27 @@ returns c =
     let m = indexed (h .keeps .held) .known in
     let y = start .args .st .listing .layout in
     let v = enter-domain .last .1 .0 in
-    kept-domain h (start .args .book .now) l (start .pre .0 .1) (start .args .size) (e .sized) (sym (has-room .ensures) ∙ if1 .taken) (e .laid)
+    kept-domain h (start .args .book .now) l (start .pre .0 .1) (start .args .size) (e .sized)
+    (sym (has-room .ensures) ∙ if1 .taken) (e .laid)
     (is-mandatory .result)
-    (is-mandatory .ensures (start .args .text .now) (known (s .decls)) (start .args .st .listing .count) (start .pre .0 .2) m)
+    (is-mandatory .ensures (start .args .text .now) (known (s .decls))
+    (start .args .st .listing .count) (start .pre .0 .2) m)
     (flags .result) (flags .ensures .0) (base-number .result)
-    (base-number .ensures (start .args .text .now) (known (s .decls)) (start .args .st .listing .count) (start .pre .0 .2) m)
+    (base-number .ensures (start .args .text .now) (known (s .decls))
+    (start .args .st .listing .count) (start .pre .0 .2) m)
     (head-record .result) (put .last .0) (indexIn y v) (chainsIn y v)
     (head-record .ensures) (put .ensures) (put .kept .0) (enter-domain .ensures .0) (enter-domain .ensures .2)
     (definition-rows (start .args .st) (start .args .work .now) (start .pre .1 .0)
-    (start .args .st .listing .count + 2) (omega arith)) (start .pre .0 .2) f (c .declared .result) (c .declared .ensures) _ refl _ (enter-domain .ensures .1)
+    (start .args .st .listing .count + 2) (omega arith)) (start .pre .0 .2) f (c .declared .result)
+    (c .declared .ensures) _ refl _ (enter-domain .ensures .1)
 
 returns-2 : tie.Need-returns-2
 returns-2 c =
     let start = c .before .before .before .before .before .before .before in
     let has-room = c .before .before .has-room in
     λ s n p b w o hs rs h l e f.
-    refused-room h (start .args .book .now) l (start .pre .0 .1) (start .args .size) (e .sized) (sym (has-room .ensures) ∙ c .before .if1 .left)
+    refused-room h (start .args .book .now) l (start .pre .0 .1) (start .args .size) (e .sized)
+    (sym (has-room .ensures) ∙ c .before .if1 .left)
     (c .refused .result) (c .refused .ensures) _ _ _
 
 pub add-domain-spec : {M : Type 1} → statement M

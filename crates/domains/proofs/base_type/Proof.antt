@@ -19,7 +19,8 @@ returns-2 c =
     let s = c .before .before .before .before .before .before in
     let if1 = c .before .before .before .if1 in
     λ t ks ms n y m l h f. base-there t _ ks ms (s .args .index .now) n y m (s .args .base)
-    (omega (arith, if1 .left)) l h f (c .before .place-of .result) (c .before .place-of .ensures .0) (c .type-behind .result) (c .type-behind .ensures)
+    (omega (arith, if1 .left)) l h f (c .before .place-of .result) (c .before .place-of .ensures .0)
+    (c .type-behind .result) (c .type-behind .ensures)
 
 pub base-type-spec : {M : Type 1} → statement M
 base-type-spec =

@@ -6,13 +6,15 @@ use Rattle.domains.proofs.is_bad_head.Tie as tie
 returns : tie.Need-returns
 returns c =
     let s = c .before .before in
-    λ l x e v. head-mixed (s .args .p) l x e (c .before .are-mixed .result) (c .before .are-mixed .ensures l e) (c .if1 .taken)
+    λ l x e v.
+    head-mixed (s .args .p) l x e (c .before .are-mixed .result) (c .before .are-mixed .ensures l e) (c .if1 .taken)
 
 returns-2 : tie.Need-returns-2
 returns-2 c =
     let s = c .before .before .before in
     let are-mixed = c .before .before .are-mixed in
-    λ l x e v. head-abstract (s .args .p) l x e (are-mixed .result) (are-mixed .ensures l e) (c .before .if1 .left) (c .if2 .taken)
+    λ l x e v.
+    head-abstract (s .args .p) l x e (are-mixed .result) (are-mixed .ensures l e) (c .before .if1 .left) (c .if2 .taken)
 
 returns-3 : tie.Need-returns-3
 returns-3 c =

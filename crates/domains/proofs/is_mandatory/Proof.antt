@@ -20,7 +20,8 @@ returns-3 c =
     let if1 = c .before .before .before .if1 in
     let if2 = c .before .before .if2 in
     λ t ks n l k. mandatory-base ks (s .args .base) (s .args .written) t (s .args .index .now) n l k (if1 .left)
-    (omega (arith, if2 .left)) (c .before .flags-of .result) (c .before .flags-of .ensures) (c .is-mandatory .result) (c .is-mandatory .ensures)
+    (omega (arith, if2 .left)) (c .before .flags-of .result) (c .before .flags-of .ensures)
+    (c .is-mandatory .result) (c .is-mandatory .ensures)
 
 pub is-mandatory-spec : {M : Type 1} → statement M
 is-mandatory-spec =

@@ -1,8 +1,9 @@
 use mathlib.Core.Path.{refl, sym, ap, _∙_}
 use Rattle.units.specs.declared.DomainUnit.{DomainUnit}
 use Rattle.rules.specs.Declarations.{domain}
-use Rattle.types.specs.declared.Ruling.{Ruling}
-use Rattle.domains.proofs.StageLaws.{domain-is, unit-inside, unit-scratch, refused-name, refused-extends, judged-late, based-of}
+use Rattle.ground.specs.declared.Ruling.{Ruling}
+use Rattle.domains.proofs.StageLaws.{domain-is, unit-inside, unit-scratch, refused-name, refused-extends}
+use Rattle.domains.proofs.StageLaws.{judged-late, based-of}
 use native.Mathlib.Omega.{arith}
 use borrow.Author.Needs.{needs}
 use Rattle.domains.proofs.judge_domain.Statement.{statement}
@@ -21,9 +22,11 @@ returns c =
     let start = back .before .before .before .before .before in
     let name-ruling = c .before .before .before .before .before .name-ruling in
     λ s n p b w hs k h.
-    refused-name s n p b w (start .args .text .now) (start .args .st) (c .refused .result) (start .args .book .now) _ _ _ _ hs (name-ruling .result)
+    refused-name s n p b w (start .args .text .now) (start .args .st) (c .refused .result)
+    (start .args .book .now) _ _ _ _ hs (name-ruling .result)
     (name-ruling .ensures s n (w .type) (start .args .book .now) hs k (ap (λ (u : DomainUnit). u .name) (domain-is h))
-    (h .fair .0) (ap (λ (u : DomainUnit). u .written .meant) (domain-is h)) (unit-scratch h)) (c .before .if1 .taken) (c .refused .ensures)
+    (h .fair .0) (ap (λ (u : DomainUnit). u .written .meant) (domain-is h)) (unit-scratch h))
+    (c .before .if1 .taken) (c .refused .ensures)
 
 extends-requires : tie.Need-extends-requires
 extends-requires c κs =
@@ -40,10 +43,12 @@ returns-2 c =
     let if1 = c .before .before .before .before .before .before .if1 in
     let extends = c .before .before .before .before .extends in
     λ s n p b w hs k h.
-    refused-extends s n p b w (start .args .text .now) (start .args .st) (c .refused2 .result) (start .args .book .now) _ _ _ _ hs
+    refused-extends s n p b w (start .args .text .now) (start .args .st) (c .refused2 .result)
+    (start .args .book .now) _ _ _ _ hs
     (extends .result .ruling)
     (ap (λ (r : Ruling). r .number)
-    (sym (name-ruling .ensures s n (w .type) (start .args .book .now) hs k (ap (λ (u : DomainUnit). u .name) (domain-is h))
+    (sym
+    (name-ruling .ensures s n (w .type) (start .args .book .now) hs k (ap (λ (u : DomainUnit). u .name) (domain-is h))
     (h .fair .0) (ap (λ (u : DomainUnit). u .written .meant) (domain-is h)) (unit-scratch h)))
     ∙ (omega (arith, if1 .left)))
     (extends .ensures .1 s domain b (start .args .book .now) hs k refl (ap (λ (u : DomainUnit). u .base) (domain-is h))
@@ -58,7 +63,8 @@ typed-domain-requires c κs =
     let extends = c .before .before .before .before .before .before .extends in
     let if2 = c .before .before .before .if2 in
     let (s, n, p, b, w, hs, k, h) = start .pre .1 .1 in
-    let e = extends .ensures .1 s domain b (start .args .book .now) hs k refl (ap (λ (u : DomainUnit). u .base) (domain-is h)) (h .fair .1) in (
+    let e = extends .ensures .1 s domain b (start .args .book .now) hs k refl
+    (ap (λ (u : DomainUnit). u .base) (domain-is h)) (h .fair .1) in (
       loaned refl refl (name-ruling .kept .1 .1 .1 .0) (start .pre .0),
       (
         (start .pre .1 .0, extends .ensures .0),
@@ -89,12 +95,14 @@ returns-3 c =
     let if2 = back .if2 in
     let typed-domain = c .before .before .before .before .before .before .typed-domain in
     λ s n p b w hs k h.
-    let e = extends .ensures .1 s domain b (start .args .book .now) hs k refl (ap (λ (u : DomainUnit). u .base) (domain-is h)) (h .fair .1) in
+    let e = extends .ensures .1 s domain b (start .args .book .now) hs k refl
+    (ap (λ (u : DomainUnit). u .base) (domain-is h)) (h .fair .1) in
     let v = based-of k h (name-ruling .result) (extends .result .ruling)
     (name-ruling .ensures s n (w .type) (start .args .book .now) hs k (ap (λ (u : DomainUnit). u .name) (domain-is h))
     (h .fair .0) (ap (λ (u : DomainUnit). u .written .meant) (domain-is h)) (unit-scratch h))
     (omega (arith, if1 .left)) (e .0) (omega (arith, if2 .left)) (e .1) in
-    judged-late s n p b w (start .args .text .now) (start .args .st) (typed-domain .result) (start .args .book .now) _ _ _ _ hs (v .named)
+    judged-late s n p b w (start .args .text .now) (start .args .st) (typed-domain .result)
+    (start .args .book .now) _ _ _ _ hs (v .named)
     (v .extends) (typed-domain .ensures s n p b w hs v)
 
 pub judge-domain-spec : {M : Type 1} → statement M

@@ -9,7 +9,8 @@ use Rattle.rules.specs.Check.{lent, room}
 use Rattle.units.specs.declared.DomainUnit.{DomainUnit}
 use Rattle.state.specs.declared.Judged.the-variants.{Refused}
 use Rattle.state.specs.Keeping.{Answered}
-use Rattle.domains.proofs.StageLaws.{is-unit, base-typed, own-valued, own-sized, laid, whole, refused-head, refused-type, fine-type, next-fair, still-below}
+use Rattle.domains.proofs.StageLaws.{is-unit, base-typed, own-valued, own-sized, laid, whole, refused-head}
+use Rattle.domains.proofs.StageLaws.{refused-type, fine-type, next-fair, still-below}
 use borrow.Author.Needs.{needs}
 use Rattle.domains.proofs.typed_domain.Statement.{statement}
 use Rattle.domains.proofs.typed_domain.Tie as tie
@@ -31,7 +32,8 @@ returns c =
     (lent (length (start .args .book .now))) (start .args .st) (c .refused .result) _ _ _ _ hs (is-bad-head .result)
     (is-bad-head .ensures p (domainType (w .type) (orNoDef (resolved s b) .type))
     (ap (λ (u : DomainUnit). u .properties) (is-unit h))
-    (own-valued h low (base-type .result) (meant .result) ty (meant .ensures))) (c .before .if1 .taken) (c .refused .ensures
+    (own-valued h low (base-type .result) (meant .result) ty (meant .ensures)))
+    (c .before .if1 .taken) (c .refused .ensures
     ∙ ap (λ (u : DomainUnit). Refused 13 (u .name .offset)) (is-unit h))
 
 lay-written-requires : tie.Need-lay-written-requires
@@ -61,7 +63,8 @@ add-domain-requires c κs =
     let (s, n, p, b, w, hs, h) = start .pre .1 .1 in
     let low = start .pre .1 .0 .1 in
     let ty = base-typed h low (base-type .result) (base-type .ensures) in
-    let v = laid h low (base-type .result) (meant .result) ty (meant .ensures) (lay-written .last .1 .0) (lay-written .result) (lay-written .ensures) in (
+    let v = laid h low (base-type .result) (meant .result) ty (meant .ensures) (lay-written .last .1 .0)
+    (lay-written .result) (lay-written .ensures) in (
       (start .pre .0 .text-short, still-below (lay-written .kept .1 .0) (start .pre .0 .book-short), low),
       (
         start .pre .1 .0 .0,
@@ -76,7 +79,8 @@ add-domain-requires c κs =
           start .args .scratch .now,
           h,
           sym (lay-written .kept .1 .0),
-          whole h low (base-type .result) (meant .result) ty (meant .ensures) (lay-written .last .1 .0) (lay-written .result) v _ (l2 .given .1) .0,
+          whole h low (base-type .result) (meant .result) ty (meant .ensures) (lay-written .last .1 .0)
+              (lay-written .result) v _ (l2 .given .1) .0,
         ),
       ),
     )
@@ -101,7 +105,8 @@ returns-2 c =
     (is-bad-head .ensures p (domainType (w .type) (orNoDef (resolved s b) .type))
     (ap (λ (u : DomainUnit). u .properties) (is-unit h))
     (own-valued h low (base-type .result) (meant .result) ty (meant .ensures))) (if1 .left)
-    (typeRecords (domainType (w .type) (orNoDef (resolved s b) .type))) (start .args .st .extent .used + headSize) (start .args .book .now)
+    (typeRecords (domainType (w .type) (orNoDef (resolved s b) .type)))
+    (start .args .st .extent .used + headSize) (start .args .book .now)
     (lay-written .last .1 .0) (lay-written .result)
     (laid h low (base-type .result) (meant .result) ty (meant .ensures) (lay-written .last .1 .0) (lay-written .result)
     (lay-written .ensures)) _ (l .given .1) (c .refused2 .ensures)
@@ -123,17 +128,22 @@ returns-3 c =
     let low = start .pre .1 .0 .1 in
     let l = start .args .st .listing .layout in
     let ty = base-typed h low (base-type .result) (base-type .ensures) in
-    let v = laid h low (base-type .result) (meant .result) ty (meant .ensures) (lay-written .last .1 .0) (lay-written .result) (lay-written .ensures) in
-    let g = whole h low (base-type .result) (meant .result) ty (meant .ensures) (lay-written .last .1 .0) (lay-written .result) v _ (l2 .given .1) in
+    let v = laid h low (base-type .result) (meant .result) ty (meant .ensures) (lay-written .last .1 .0)
+    (lay-written .result) (lay-written .ensures) in
+    let g = whole h low (base-type .result) (meant .result) ty (meant .ensures) (lay-written .last .1 .0)
+    (lay-written .result) v _ (l2 .given .1) in
     let f = fine-type (start .args .text .now) n p w (resolved s b) (declare s (def (newDomain s n p w (resolved s b))))
-    (lent (length (start .args .book .now))) (start .args .st) (add-domain .result) (add-domain .last .1 .0) (indexIn l (add-domain .last .1 .1 .0))
+    (lent (length (start .args .book .now))) (start .args .st) (add-domain .result) (add-domain .last .1 .0)
+    (indexIn l (add-domain .last .1 .1 .0))
     (chainsIn l (add-domain .last .1 .1 .0)) (rowsIn l (add-domain .last .1 .1 .0)) hs (is-bad-head .result)
     (is-bad-head .ensures p (domainType (w .type) (orNoDef (resolved s b) .type))
     (ap (λ (u : DomainUnit). u .properties) (is-unit h))
     (own-valued h low (base-type .result) (meant .result) ty (meant .ensures))) (if1 .left)
-    (typeRecords (domainType (w .type) (orNoDef (resolved s b) .type))) (start .args .st .extent .used + headSize) (start .args .book .now)
+    (typeRecords (domainType (w .type) (orNoDef (resolved s b) .type)))
+    (start .args .st .extent .used + headSize) (start .args .book .now)
     (lay-written .last .1 .0) (lay-written .result) v _ (l2 .given .1) in
-    subst (λ (j : J.Judged). Answered (start .args .text .now) (room (lent (length (start .args .book .now))) (n .offset) j) (start .args .st)
+    subst (λ (j : J.Judged). Answered (start .args .text .now)
+    (room (lent (length (start .args .book .now))) (n .offset) j) (start .args .st)
     (add-domain .result) (add-domain .last .1 .0) (add-domain .last .1 .1 .0) hs)
     (sym f) (add-domain .ensures s n p b w (start .args .book .now) hs (start .args .scratch .now) h
     (sym (lay-written .kept .1 .0)) (record { sized = g .0; laid = g .1 }) (next-fair h f))

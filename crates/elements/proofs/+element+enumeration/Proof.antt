@@ -121,10 +121,12 @@ element-returns-2 t c =
     let m = c .before .before .before .before in
     let r = m .before .before .before in
     let a = r .before .before .before .args in
-    leaf (a .text .now) (a .nesting) (r .expect .ensures) _ _ _ _ (rw (m .before .name-of .ensures) at (m .put-element .ensures)) (c .if1 .left)
+    leaf (a .text .now) (a .nesting) (r .expect .ensures) _ _ _ _
+    (rw (m .before .name-of .ensures) at (m .put-element .ensures)) (c .if1 .left)
 
 abbrev enumeration-Inv-loop : enumeration-lts.InvT-loop
-enumeration-Inv-loop text scratch₀ start nesting z₀ at₀ scratch z at = Loop text start nesting scratch₀ z₀ at₀ scratch z at
+enumeration-Inv-loop text scratch₀ start nesting z₀ at₀ scratch z at =
+    Loop text start nesting scratch₀ z₀ at₀ scratch z at
 
 abbrev enumeration-μ-loop : enumeration-lts.MeasureT-loop
 enumeration-μ-loop text scratch₀ start nesting z₀ at₀ scratch z at = length text - z .place
@@ -145,7 +147,8 @@ enumeration-returns : (t : ℕ) → enumeration-lts.Need-returns (
 ) (enumeration-at t) enumeration.Post enumeration-Inv-loop enumeration-μ-loop
 enumeration-returns t c =
     let a = c .before .before .before .before in
-    whole-deep (a .args .text .now) (a .args .start) (a .args .nesting) _ _ _ _ (c .before .if1 .taken) (a .pre .1 .1) (c .faulty .ensures)
+    whole-deep (a .args .text .now) (a .args .start) (a .args .nesting) _ _ _ _ (c .before .if1 .taken)
+    (a .pre .1 .1) (c .faulty .ensures)
 
 enumeration-same-length : (t : ℕ) → enumeration-lts.Need-same-length (
   faulty-reads.Asked,
@@ -186,7 +189,8 @@ enumeration-returns-2 t c =
     let m = c .before .before .before .before .before .before .before .before in
     let r = m .before .before in
     let a = r .before .before .before .before .args in
-    whole-final (a .text .now) (a .start) (a .nesting) _ _ _ _ _ _ _ _ (r .expect .ensures) (m .put-opening .ensures) (m .put-opening .kept .0)
+    whole-final (a .text .now) (a .start) (a .nesting) _ _ _ _ _ _ _ _ (r .expect .ensures)
+    (m .put-opening .ensures) (m .put-opening .kept .0)
     (omega (arith, r .before .if1 .left)) (if2 .taken) (close-final .ensures)
 
 enumeration-loop-holds : (t : ℕ) → enumeration-lts.Need-loop-holds (
@@ -206,7 +210,8 @@ enumeration-loop-holds : (t : ℕ) → enumeration-lts.Need-loop-holds (
 enumeration-loop-holds t c =
     let r = c .before .before .before .before .before .before in
     let a = r .before .before .before .before in
-    loop-first (a .args .text .now) (a .args .start) (a .args .nesting) _ (a .args .y) _ _ (a .pre .1 .0) (r .expect .ensures)
+    loop-first (a .args .text .now) (a .args .start) (a .args .nesting) _ (a .args .y) _ _
+    (a .pre .1 .0) (r .expect .ensures)
 
 enumeration-element-requires : (t : ℕ) → enumeration-lts.Need-element-requires (
   faulty-reads.Asked,
@@ -244,7 +249,8 @@ enumeration-loop-less t c =
     let e = c .before .before .before .before .before .before in
     let m = e .before .before .before .before .before .before .before .before .before .before in
     let a = m .before .before .before .args in
-    loop-falls (a .text .now) (a .start) (a .nesting) _ _ _ _ _ _ _ _ _ _ (e .before .before .loop .inv) (omega (arith, m .if1 .left)) (e .element .ensures)
+    loop-falls (a .text .now) (a .start) (a .nesting) _ _ _ _ _ _ _ _ _ _ (e .before .before .loop .inv)
+    (omega (arith, m .if1 .left)) (e .element .ensures)
     (c .before .if3 .taken) (c .expect2 .ensures)
 
 enumeration-loop-again : (t : ℕ) → enumeration-lts.Need-loop-again (
@@ -265,7 +271,8 @@ enumeration-loop-again t c =
     let e = c .before .before .before .before .before .before in
     let m = e .before .before .before .before .before .before .before .before .before .before in
     let a = m .before .before .before .args in
-    loop-on (a .text .now) (a .start) (a .nesting) _ _ _ _ _ _ _ _ _ _ (e .before .before .loop .inv) (omega (arith, m .if1 .left)) (e .element .ensures)
+    loop-on (a .text .now) (a .start) (a .nesting) _ _ _ _ _ _ _ _ _ _ (e .before .before .loop .inv)
+    (omega (arith, m .if1 .left)) (e .element .ensures)
     (c .before .if3 .taken) (c .expect2 .ensures) (e .element .kept .1 .0)
 
 enumeration-same-length-2 : (t : ℕ) → enumeration-lts.Need-same-length-2 (
@@ -286,7 +293,8 @@ enumeration-same-length-2 t c =
     let list-end = c .before .before .list-end in
     let e = c .before .before .before .before .before .before .before .before .before in
     let l = e .before .before in
-    list-end .kept .1 .0 ∙ e .element .kept .1 .0 ∙ l .loop .inv .0 ∙ l .before .before .before .before .before .put-opening .kept .0
+    list-end .kept .1 .0 ∙ e .element .kept .1 .0 ∙ l .loop .inv .0
+    ∙ l .before .before .before .before .before .put-opening .kept .0
 
 enumeration-returns-3 : (t : ℕ) → enumeration-lts.Need-returns-3 (
   faulty-reads.Asked,
@@ -310,8 +318,10 @@ enumeration-returns-3 t c =
     let o = l .before .before .before .before .before in
     let r = o .before .before in
     let a = r .before .before .before .before .args in
-    whole-list (a .text .now) (a .start) (a .nesting) _ _ _ _ _ _ _ _ (r .expect .ensures) (o .put-opening .ensures) (o .put-opening .kept .0)
-    (omega (arith, r .before .if1 .left)) (l .before .if2 .left) _ _ _ _ _ _ (l .loop .inv) (e .element .ensures) (e .element .kept .1 .0)
+    whole-list (a .text .now) (a .start) (a .nesting) _ _ _ _ _ _ _ _ (r .expect .ensures)
+    (o .put-opening .ensures) (o .put-opening .kept .0)
+    (omega (arith, r .before .if1 .left)) (l .before .if2 .left) _ _ _ _ _ _ (l .loop .inv)
+    (e .element .ensures) (e .element .kept .1 .0)
     (if3 .left) (list-end .ensures)
 
 pub +element+enumeration-spec : {M : Type 1} → statement M

@@ -14,21 +14,24 @@ slice-write-scratch c =
     let s = c .before .before .before .before .before .before in
     let fits2 = c .before .before .before .before .fits2 in
     let if1 = c .before .before .before .if1 in
-    let h : s .args .at + 1 ≤ length (s .args .scratch .now) = leb-true _ _ (sym (fits2 .ensures) ∙ if1 .taken) in omega arith
+    let h : s .args .at + 1 ≤ length (s .args .scratch .now) = leb-true _ _ (sym (fits2 .ensures) ∙ if1 .taken) in
+    omega arith
 
 slice-write-scratch-2 : tie.Need-slice-write-scratch-2
 slice-write-scratch-2 c =
     let s = c .before .before .before .before .before .before in
     let fits2 = c .before .before .before .before .fits2 in
     let if1 = c .before .before .before .if1 in
-    let h : s .args .at + 1 ≤ length (s .args .scratch .now) = leb-true _ _ (sym (fits2 .ensures) ∙ if1 .taken) in simp length-set (omega arith)
+    let h : s .args .at + 1 ≤ length (s .args .scratch .now) = leb-true _ _ (sym (fits2 .ensures) ∙ if1 .taken) in
+    simp length-set (omega arith)
 
 add-result : tie.Need-add-result
 add-result c =
     let s = c .before .before .before .before .before .before in
     let fits2 = c .before .before .before .before .fits2 in
     let if1 = c .before .before .before .if1 in
-    let h : s .args .at + 1 ≤ length (s .args .scratch .now) = leb-true _ _ (sym (fits2 .ensures) ∙ if1 .taken) in omega arith
+    let h : s .args .at + 1 ≤ length (s .args .scratch .now) = leb-true _ _ (sym (fits2 .ensures) ∙ if1 .taken) in
+    omega arith
 
 returns : tie.Need-returns
 returns c =

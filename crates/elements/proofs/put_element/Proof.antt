@@ -14,14 +14,17 @@ put-requires c κs =
     let fits2 = c .before .before .before .before .fits2 in
     let if1 = c .before .before .before .if1 in
     let name-record = c .before .before .name-record in
-    let h : s .args .at + elementSize ≤ length (s .args .scratch .now) = leb-true _ _ (sym (fits2 .ensures) ∙ if1 .taken) in rw (name-record .ensures) (omega arith)
+    let h : s .args .at + elementSize
+    ≤ length (s .args .scratch .now) = leb-true _ _ (sym (fits2 .ensures) ∙ if1 .taken) in
+    rw (name-record .ensures) (omega arith)
 
 add-result : tie.Need-add-result
 add-result c =
     let s = c .before .before .before .before .before .before .before .before .before in
     let fits2 = c .before .before .before .before .before .before .before .fits2 in
     let if1 = c .before .before .before .before .before .before .if1 in
-    let h : s .args .at + elementSize ≤ length (s .args .scratch .now) = leb-true _ _ (sym (fits2 .ensures) ∙ if1 .taken) in omega arith
+    let h : s .args .at + elementSize
+    ≤ length (s .args .scratch .now) = leb-true _ _ (sym (fits2 .ensures) ∙ if1 .taken) in omega arith
 
 returns : tie.Need-returns
 returns c =
@@ -32,7 +35,8 @@ returns c =
 returns-2 : tie.Need-returns-2
 returns-2 c =
     let s = c .before .before .before in
-    let h : length (s .args .scratch .now) < s .args .at + elementSize = leb-false _ _ (sym (c .before .fits2 .ensures) ∙ c .if1 .left) in λ k. absurd (omega arith)
+    let h : length (s .args .scratch .now) < s .args .at + elementSize =
+    leb-false _ _ (sym (c .before .fits2 .ensures) ∙ c .if1 .left) in λ k. absurd (omega arith)
 
 pub put-element-spec : {M : Type 1} → statement M
 put-element-spec =

@@ -18,36 +18,50 @@ abbrev μ-loop : tie.MeasureT-loop
 μ-loop out₀ from n at i₀ out i = n - i
 
 loop-holds : tie.Need-loop-holds Inv-loop μ-loop
-loop-holds c = (omega arith, paste-zero (c .args .out .now) (c .args .at) (part (c .args .out .now) (c .args .from) (c .args .n)))
+loop-holds c =
+    (omega arith, paste-zero (c .args .out .now) (c .args .at) (part (c .args .out .now) (c .args .from) (c .args .n)))
 
 slice-read-out : tie.Need-slice-read-out Inv-loop μ-loop
 slice-read-out c =
     let loop = c .before .before .loop in
     let a = c .before .before .before .args in
-    omega (arith, ap length (loop .inv .1), copy-length (a .out .now) (a .from) (a .n) (a .at) (loop .i) (omega arith) (omega arith) (omega arith))
+    omega (
+      arith,
+      ap length (loop .inv .1),
+      copy-length (a .out .now) (a .from) (a .n) (a .at) (loop .i) (omega arith) (omega arith) (omega arith),
+    )
 
 slice-write-out : tie.Need-slice-write-out Inv-loop μ-loop
 slice-write-out c =
     let loop = c .before .before .loop in
     let a = c .before .before .before .args in
-    omega (arith, ap length (loop .inv .1), copy-length (a .out .now) (a .from) (a .n) (a .at) (loop .i) (omega arith) (omega arith) (omega arith))
+    omega (
+      arith,
+      ap length (loop .inv .1),
+      copy-length (a .out .now) (a .from) (a .n) (a .at) (loop .i) (omega arith) (omega arith) (omega arith),
+    )
 
 loop-again : tie.Need-loop-again Inv-loop μ-loop
 loop-again c =
     let loop = c .before .before .loop in
-    let a = c .before .before .before .args in
-    (omega arith, rw (loop .inv .1) (copy-more (a .out .now) (a .from) (a .n) (a .at) (loop .i) (omega arith) (omega arith) (omega arith) (omega arith)))
+    let a = c .before .before .before .args in (
+      omega arith,
+      rw (loop .inv .1) (copy-more (a .out .now) (a .from) (a .n) (a .at) (loop .i) (omega arith)
+          (omega arith) (omega arith) (omega arith)),
+    )
 
 same-length : tie.Need-same-length Inv-loop μ-loop
 same-length c =
     let a = c .before .before .args in
-    ap length (c .before .loop .inv .1) ∙ copy-length (a .out .now) (a .from) (a .n) (a .at) (c .before .loop .i) (omega arith) (omega arith) (omega arith)
+    ap length (c .before .loop .inv .1)
+    ∙ copy-length (a .out .now) (a .from) (a .n) (a .at) (c .before .loop .i) (omega arith) (omega arith) (omega arith)
 
 returns : tie.Need-returns Inv-loop μ-loop
 returns c =
     let a = c .before .before .args in
     let e = length-part (a .out .now) (a .from) (a .n) (omega arith) in
-    c .before .loop .inv .1 ∙ paste-done (a .out .now) (a .at) (part (a .out .now) (a .from) (a .n)) (c .before .loop .i) (omega arith)
+    c .before .loop .inv .1
+    ∙ paste-done (a .out .now) (a .at) (part (a .out .now) (a .from) (a .n)) (c .before .loop .i) (omega arith)
 
 pub copy-within-spec : {M : Type 1} → statement M
 copy-within-spec =

@@ -39,7 +39,8 @@ returns c =
     let h = element-in _ _ e in
     let m = rw (as-written (written-name .ensures)) at (sym (c .before .same-name .ensures) ∙ c .if2 .taken) in
     v .inv (v .at + elementSize) (more (a .s .now) (v .at) (v .at + 1)
-    (λ f. findFrom f (a .text .now) (a .s .now) (v .at) (a .name)) (λ f. v .at + elementSize) (omega arith) (omega arith)
+    (λ f. findFrom f (a .text .now) (a .s .now) (v .at) (a .name))
+    (λ f. v .at + elementSize) (omega arith) (omega arith)
     (λ f. find-here f (a .text .now) (a .s .now) (v .at) (a .name) e m) (λ g h. refl))
 
 add-past-inner : tie.Need-add-past-inner Inv-loop μ-loop
@@ -67,14 +68,16 @@ loop-again c =
     let m = rw (as-written (written-name .ensures)) at (sym (same-name .ensures) ∙ c .before .if2 .left) in
     λ r q. v .inv r (more (a .s .now) (v .at) (c .past-inner .result)
     (λ f. findFrom f (a .text .now) (a .s .now) (v .at) (a .name))
-    (λ f. findFrom f (a .text .now) (a .s .now) (c .past-inner .result) (a .name)) (omega arith) (omega (arith, c .past-inner .ensures .1))
+    (λ f. findFrom f (a .text .now) (a .s .now) (c .past-inner .result) (a .name)) (omega arith)
+    (omega (arith, c .past-inner .ensures .1))
     (λ f. find-next f (a .text .now) (a .s .now) (v .at) (a .name) e m ∙ rw (c .past-inner .ensures .0)) q)
 
 returns-2 : tie.Need-returns-2 Inv-loop μ-loop
 returns-2 c =
     let a = c .before .before .before .before .before .args in
     let v = c .before .before .loop in
-    v .inv nowhere (λ g h. sym (find-none g (a .text .now) (a .s .now) (v .at) (a .name) (sym (c .before .is-element .ensures) ∙ c .if1 .left)))
+    v .inv nowhere (λ g h. sym
+    (find-none g (a .text .now) (a .s .now) (v .at) (a .name) (sym (c .before .is-element .ensures) ∙ c .if1 .left)))
 
 pub find-spec : {M : Type 1} → statement M
 find-spec =

@@ -11,8 +11,10 @@ use Rattle.enumerations.proofs.list_end.Tie as tie
 use Rattle.book.specs.Sizes.{elementSize, listSize}
 
 abbrev Inv-loop : tie.InvT-loop
-Inv-loop s list at₀ inner₀ records₀ at inner records = (list ≤ at) × (inner ≤ at) × (records ≤ at) × (records ≤ length s)
-    × ((r : End) → ((g : ℕ) → length s - at < g → r ≡ endFrom g s at inner records) → (f : ℕ) → length s - list < f → r ≡ endFrom f s list 0 0)
+Inv-loop s list at₀ inner₀ records₀ at inner records =
+    (list ≤ at) × (inner ≤ at) × (records ≤ at) × (records ≤ length s)
+    × ((r : End) → ((g : ℕ) → length s - at < g → r ≡ endFrom g s at inner records) → (f : ℕ)
+    → length s - list < f → r ≡ endFrom f s list 0 0)
 
 abbrev μ-loop : tie.MeasureT-loop
 μ-loop s list at₀ inner₀ records₀ at inner records = length s - at
@@ -53,7 +55,8 @@ returns c =
     let s = c .before .before .before .before .before .before .args .s .now in
     let e : End = record { at = v .at + 1; records = v .records + 1 } in (
       v .inv .4 e (more s (v .at) (v .at + 1) (λ f. endFrom f s (v .at) (v .inner) (v .records)) (λ f. e) (omega arith)
-          (omega arith) (λ f. end-last f s (v .at) (v .inner) (v .records) (omega arith) (if1 .left) (c .before .if2 .left) (c .if3 .taken)) (λ g h. refl)),
+          (omega arith) (λ f. end-last f s (v .at) (v .inner) (v .records) (omega arith) (if1 .left)
+          (c .before .if2 .left) (c .if3 .taken)) (λ g h. refl)),
       omega arith,
       omega arith,
     )
@@ -69,7 +72,8 @@ loop-again-3 c =
       omega arith,
       λ r q. v .inv .4 r (more s (v .at) (v .at + 1) (λ f. endFrom f s (v .at) (v .inner) (v .records))
           (λ f. endFrom f s (v .at + 1) (v .inner - 1) (v .records + 1)) (omega arith) (omega arith)
-          (λ f. end-close f s (v .at) (v .inner) (v .records) (omega arith) (if1 .left) (c .before .if2 .left) (c .if3 .left)) q),
+          (λ f. end-close f s (v .at) (v .inner) (v .records) (omega arith) (if1 .left)
+          (c .before .if2 .left) (c .if3 .left)) q),
     )
 
 returns-2 : tie.Need-returns-2 Inv-loop μ-loop

@@ -20,7 +20,8 @@ unfolding pastInner
 returns c =
     let s = c .before .before .before .before in
     let is-opening = c .before .before .is-opening in (
-      rw (sym (is-opening .ensures) ∙ c .before .if1 .taken) (ap (λ (e : End). e .at) (c .list-end .ensures .0 (length (s .args .s .now) + 1) (omega arith))),
+      rw (sym (is-opening .ensures) ∙ c .before .if1 .taken)
+          (ap (λ (e : End). e .at) (c .list-end .ensures .0 (length (s .args .s .now) + 1) (omega arith))),
       omega (arith, c .list-end .ensures .1),
     )
 

@@ -8,8 +8,10 @@ use Rattle.enumerations.proofs.same_name.Tie as tie
 same-part-requires : tie.Need-same-part-requires
 same-part-requires c κs =
     let is-within = c .before .before .before .is-within in
-    let if1 = c .before .before .if1 in
-    (leb-true _ _ (sym (is-within .ensures) ∙ if1 .taken), leb-true _ _ (sym (c .before .is-within2 .ensures) ∙ c .if2 .taken))
+    let if1 = c .before .before .if1 in (
+      leb-true _ _ (sym (is-within .ensures) ∙ if1 .taken),
+      leb-true _ _ (sym (c .before .is-within2 .ensures) ∙ c .if2 .taken),
+    )
 
 returns : tie.Need-returns
 returns c =
@@ -18,7 +20,8 @@ returns c =
     let if1 = c .before .before .before .if1 in
     let is-within2 = c .before .before .is-within2 in
     c .same-part .ensures
-    ∙ sym (names-in _ (s .args .a) (s .args .b) (sym (is-within .ensures) ∙ if1 .taken) (sym (is-within2 .ensures) ∙ c .before .if2 .taken))
+    ∙ sym (names-in _ (s .args .a) (s .args .b) (sym (is-within .ensures) ∙ if1 .taken)
+    (sym (is-within2 .ensures) ∙ c .before .if2 .taken))
 
 returns-2 : tie.Need-returns-2
 returns-2 c =

@@ -18,7 +18,8 @@ returns : tie.Need-returns
 returns c =
     let s = c .before .before .before .before .before .before in
     let list-end = c .before .before .list-end in
-    λ t e h. size-stands t (s .args .s .now) e (s .args .at) h (list-end .result) (list-end .ensures .0 (length (s .args .s .now) + 1) (omega arith))
+    λ t e h. size-stands t (s .args .s .now) e (s .args .at) h (list-end .result)
+    (list-end .ensures .0 (length (s .args .s .now) + 1) (omega arith))
 
 returns-2 : tie.Need-returns-2
 returns-2 c =
@@ -28,4 +29,5 @@ returns-2 c =
 pub size-of-spec : {M : Type 1} → statement M
 size-of-spec =
     tie.close
-    (tie.spec (λ c κs. search needs) add-list-end list-end-requires (λ c. search needs) (λ c. search needs) returns returns-2)
+    (tie.spec (λ c κs. search needs) add-list-end list-end-requires (λ c. search needs)
+    (λ c. search needs) returns returns-2)

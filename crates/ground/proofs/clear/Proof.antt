@@ -18,8 +18,11 @@ abbrev μ-loop : tie.MeasureT-loop
 loop-again : tie.Need-loop-again Inv-loop μ-loop
 loop-again c =
     let v = c .before .loop in
-    let d = c .before .before .args .out .now in
-    (omega arith, length-set (v .out) (v .i) 0 ∙ v .inv .1, ap (λ (l : List ℕ). set l (v .i) 0) (v .inv .2) ∙ fill-more (v .i) 0 d (omega arith))
+    let d = c .before .before .args .out .now in (
+      omega arith,
+      length-set (v .out) (v .i) 0 ∙ v .inv .1,
+      ap (λ (l : List ℕ). set l (v .i) 0) (v .inv .2) ∙ fill-more (v .i) 0 d (omega arith),
+    )
 
 same-length : tie.Need-same-length Inv-loop μ-loop
 same-length c = c .before .loop .inv .1

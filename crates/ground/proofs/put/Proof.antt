@@ -22,13 +22,16 @@ slice-write-out : tie.Need-slice-write-out Inv-loop μ-loop
 slice-write-out c =
     let a = c .before .before .before .args in
     let v = c .before .before .loop in
-    omega (arith, ap length (v .inv .1), length-paste (a .out .now) (a .at) (a .src .now) (v .i) (omega arith) (omega arith))
+    omega
+    (arith, ap length (v .inv .1), length-paste (a .out .now) (a .at) (a .src .now) (v .i) (omega arith) (omega arith))
 
 loop-again : tie.Need-loop-again Inv-loop μ-loop
 loop-again c =
     let a = c .before .before .before .args in
-    let v = c .before .before .loop in
-    (omega arith, rw (v .inv .1, add-one) (paste-suc (a .out .now) (a .at) (a .src .now) (v .i) 0 (omega arith) (omega arith)))
+    let v = c .before .before .loop in (
+      omega arith,
+      rw (v .inv .1, add-one) (paste-suc (a .out .now) (a .at) (a .src .now) (v .i) 0 (omega arith) (omega arith)),
+    )
 
 same-length : tie.Need-same-length Inv-loop μ-loop
 same-length c =

@@ -10,10 +10,10 @@ use Rattle.ground.proofs.put2.Statement.{statement}
 use Rattle.ground.proofs.put2.Tie as tie
 
 abbrev Inv-loop : tie.InvT-loop
-Inv-loop out₀ at src i₀ out i = (i ≤ length src) × (out ≡ paste out₀ at src i)
+Inv-loop out₀ at src k₀ out k = (k ≤ length src) × (out ≡ paste out₀ at src k)
 
 abbrev μ-loop : tie.MeasureT-loop
-μ-loop out₀ at src i₀ out i = length src - i
+μ-loop out₀ at src k₀ out k = length src - k
 
 loop-holds : tie.Need-loop-holds Inv-loop μ-loop
 loop-holds c = (omega arith, paste-zero (c .args .out .now) (c .args .at) (c .args .src .now))
@@ -22,25 +22,28 @@ slice-write-out : tie.Need-slice-write-out Inv-loop μ-loop
 slice-write-out c =
     let a = c .before .before .before .args in
     let v = c .before .before .loop in
-    omega (arith, ap length (v .inv .1), length-paste (a .out .now) (a .at) (a .src .now) (v .i) (omega arith) (omega arith))
+    omega
+    (arith, ap length (v .inv .1), length-paste (a .out .now) (a .at) (a .src .now) (v .k) (omega arith) (omega arith))
 
 loop-again : tie.Need-loop-again Inv-loop μ-loop
 loop-again c =
     let a = c .before .before .before .args in
-    let v = c .before .before .loop in
-    (omega arith, rw (v .inv .1, add-one) (paste-suc (a .out .now) (a .at) (a .src .now) (v .i) 0 (omega arith) (omega arith)))
+    let v = c .before .before .loop in (
+      omega arith,
+      rw (v .inv .1, add-one) (paste-suc (a .out .now) (a .at) (a .src .now) (v .k) 0 (omega arith) (omega arith)),
+    )
 
 same-length : tie.Need-same-length Inv-loop μ-loop
 same-length c =
     let a = c .before .before .args in
     let v = c .before .loop in
-    ap length (v .inv .1) ∙ length-paste (a .out .now) (a .at) (a .src .now) (v .i) (omega arith) (omega arith)
+    ap length (v .inv .1) ∙ length-paste (a .out .now) (a .at) (a .src .now) (v .k) (omega arith) (omega arith)
 
 returns : tie.Need-returns Inv-loop μ-loop
 returns c =
     let a = c .before .before .args in
     let v = c .before .loop in
-    v .inv .1 ∙ paste-done (a .out .now) (a .at) (a .src .now) (v .i) (omega arith)
+    v .inv .1 ∙ paste-done (a .out .now) (a .at) (a .src .now) (v .k) (omega arith)
 
 pub put2-spec : {M : Type 1} → statement M
 put2-spec =

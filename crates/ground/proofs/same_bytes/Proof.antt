@@ -21,18 +21,23 @@ returns : tie.Need-returns Inv-loop μ-loop
 returns c =
     let loop = c .before .before .before .before .loop in
     let a = c .before .before .before .before .before .args in
-    sym (loop .inv .1 ∙ same-stop (a .s .now) (a .i) (a .t .now) (a .j) (a .n) (loop .k) (omega arith) (omega arith) (omega arith) (c .if1 .taken))
+    sym (loop .inv .1 ∙ same-stop (a .s .now) (a .i) (a .t .now) (a .j) (a .n) (loop .k) (omega arith) (omega arith)
+    (omega arith) (c .if1 .taken))
 
 loop-again : tie.Need-loop-again Inv-loop μ-loop
 loop-again c =
     let loop = c .before .before .before .before .loop in
-    let a = c .before .before .before .before .before .args in
-    (omega arith, loop .inv .1 ∙ same-go (a .s .now) (a .i) (a .t .now) (a .j) (a .n) (loop .k) (omega arith) (omega arith) (omega arith) (c .if1 .left))
+    let a = c .before .before .before .before .before .args in (
+      omega arith,
+      loop .inv .1 ∙ same-go (a .s .now) (a .i) (a .t .now) (a .j) (a .n) (loop .k) (omega arith)
+          (omega arith) (omega arith) (c .if1 .left),
+    )
 
 returns-2 : tie.Need-returns-2 Inv-loop μ-loop
 returns-2 c =
     let a = c .before .before .args in
-    sym (c .before .loop .inv .1 ∙ same-done (a .s .now) (a .i) (a .t .now) (a .j) (a .n) (c .before .loop .k) (omega arith))
+    sym (c .before .loop .inv .1
+    ∙ same-done (a .s .now) (a .i) (a .t .now) (a .j) (a .n) (c .before .loop .k) (omega arith))
 
 pub same-bytes-spec : {M : Type 1} → statement M
 same-bytes-spec =

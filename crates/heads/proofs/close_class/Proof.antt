@@ -3,7 +3,8 @@ use Prim.Native.Nat.{_+_}
 use Rattle.state.specs.Parts.{indexIn}
 use Rattle.state.proofs.JudgeLaws.{small}
 use Rattle.state.proofs.RoomLaws.{definition-rows}
-use Rattle.heads.proofs.EndLaws.{own-inside, own-bytes, class-there, close-inside, close-class-other, close-class-over, close-class-fine}
+use Rattle.heads.proofs.EndLaws.{own-inside, own-bytes, class-there, close-inside, close-class-other}
+use Rattle.heads.proofs.EndLaws.{close-class-over, close-class-fine}
 use native.Mathlib.Omega.{arith}
 use borrow.Author.Needs.{needs}
 use Rattle.heads.proofs.close_class.Statement.{statement}
@@ -20,8 +21,10 @@ unfolding indexIn
 same-name-requires c κs =
     let start = c .before .before .before .before .before .before in
     let (s, n, hs, rs, k, q) = start .pre .1 .1 in
-    let (d, ec, sy) = class-there (start .args .text .now) s (start .args .st) (start .args .book .now) _ _ _ hs k (start .pre .1 .0) in (
-      close-inside (start .args .text .now) s n (start .args .st) (start .args .book .now) _ _ _ hs rs (start .args .name) k q (start .pre .0 .1),
+    let (d, ec, sy) =
+    class-there (start .args .text .now) s (start .args .st) (start .args .book .now) _ _ _ hs k (start .pre .1 .0) in (
+      close-inside (start .args .text .now) s n (start .args .st) (start .args .book .now) _ _ _ hs rs
+          (start .args .name) k q (start .pre .0 .1),
       own-inside (start .args .text .now) d _ _ (c .open-name .ensures (start .args .text .now) d sy) sy,
     )
 
@@ -32,9 +35,17 @@ end-class-requires c κs =
     let open-name = c .before .before .before .before .before .open-name in
     let if2 = c .before .before .if2 in
     let (s, n, hs, rs, k, q) = start .pre .1 .1 in
-    let (d, ec, sy) = class-there (start .args .text .now) s (start .args .st) (start .args .book .now) _ _ _ hs k (start .pre .1 .0) in (
-      (own-inside (start .args .text .now) d _ _ (open-name .ensures (start .args .text .now) d sy) sy, start .pre .0 .1),
-      (if2 .taken, small (start .args .text .now) s (start .args .st) (start .args .book .now) _ _ _ hs k, start .pre .0 .2),
+    let (d, ec, sy) =
+    class-there (start .args .text .now) s (start .args .st) (start .args .book .now) _ _ _ hs k (start .pre .1 .0) in (
+      (
+        own-inside (start .args .text .now) d _ _ (open-name .ensures (start .args .text .now) d sy) sy,
+        start .pre .0 .1,
+      ),
+      (
+        if2 .taken,
+        small (start .args .text .now) s (start .args .st) (start .args .book .now) _ _ _ hs k,
+        start .pre .0 .2,
+      ),
     )
 
 returns : tie.Need-returns
@@ -48,12 +59,14 @@ returns c =
     let if2 = c .before .before .before .before .before .before .before .if2 in
     let end-class = c .before .before .before .before .end-class in
     λ s n hs rs k q.
-    let (d, ec, sy) = class-there (start .args .text .now) s (start .args .st) (start .args .book .now) _ _ _ hs k (start .pre .1 .0) in
+    let (d, ec, sy) =
+    class-there (start .args .text .now) s (start .args .st) (start .args .book .now) _ _ _ hs k (start .pre .1 .0) in
     close-class-fine (start .args .text .now) s n (start .args .st) (start .args .book .now) _ _ _ hs rs
     (start .args .name) k q (start .pre .0 .1) (open-name .result) d
     (own-bytes (start .args .text .now) d _ _ (open-name .ensures (start .args .text .now) d sy) sy) ec _
     (same-name .ensures) _ _ _ _ _ _ (if1 .taken) (if2 .taken) refl (end-class .ensures .0)
-    (λ f. end-class .ensures .1 s d hs k ec (own-bytes (start .args .text .now) d _ _ (open-name .ensures (start .args .text .now) d sy) sy) f)
+    (λ f. end-class .ensures .1 s d hs k ec
+    (own-bytes (start .args .text .now) d _ _ (open-name .ensures (start .args .text .now) d sy) sy) f)
 
 returns-2 : tie.Need-returns-2
 unfolding indexIn
@@ -63,7 +76,8 @@ returns-2 c =
     let same-name = c .before .before .before .same-name in
     let if1 = c .before .before .if1 in
     λ s n hs rs k q.
-    let (d, ec, sy) = class-there (start .args .text .now) s (start .args .st) (start .args .book .now) _ _ _ hs k (start .pre .1 .0) in
+    let (d, ec, sy) =
+    class-there (start .args .text .now) s (start .args .st) (start .args .book .now) _ _ _ hs k (start .pre .1 .0) in
     close-class-over (start .args .text .now) s n (start .args .st) (start .args .book .now) _ _ _ hs rs
     (start .args .name) k q (start .pre .0 .1) (open-name .result) d
     (own-bytes (start .args .text .now) d _ _ (open-name .ensures (start .args .text .now) d sy) sy) ec _
@@ -76,7 +90,8 @@ returns-3 c =
     let open-name = c .before .before .before .open-name in
     let same-name = c .before .before .same-name in
     λ s n hs rs k q.
-    let (d, ec, sy) = class-there (start .args .text .now) s (start .args .st) (start .args .book .now) _ _ _ hs k (start .pre .1 .0) in
+    let (d, ec, sy) =
+    class-there (start .args .text .now) s (start .args .st) (start .args .book .now) _ _ _ hs k (start .pre .1 .0) in
     close-class-other (start .args .text .now) s n (start .args .st) (start .args .book .now) _ _ _ hs rs
     (start .args .name) k q (start .pre .0 .1) (open-name .result) d
     (own-bytes (start .args .text .now) d _ _ (open-name .ensures (start .args .text .now) d sy) sy) ec _

@@ -16,7 +16,8 @@ declare-requires : tie.Need-declare-requires
 declare-requires c κs =
     let s = c .before .before .before .before .before .before .before .before .before .before in (
       s .pre .1 .2,
-      topic-narrow (s .args .text .now) (s .args .st) (s .args .name) _ (s .pre .0 .0) (s .pre .0 .1) (s .pre .1 .0) (s .pre .0 .2) (s .pre .1 .1),
+      topic-narrow (s .args .text .now) (s .args .st) (s .args .name) _ (s .pre .0 .0) (s .pre .0 .1) (s .pre .1 .0)
+          (s .pre .0 .2) (s .pre .1 .1),
       s .pre .0 .0,
       omega (arith, s .pre .1 .0, s .pre .0 .2, s .pre .1 .1 .rows),
     )
@@ -50,14 +51,16 @@ returns c =
     let name-record = back .before .before .name-record in
     let put = c .before .before .before .before .before .before .before .before .before .put in
     let declare = c .before .before .before .before .before .declare in (
-      c .in-topic .ensures ∙ ap (λ (u : State). inTopicBy u (start .args .name) (start .args .st .extent .records + 1)) (c .before .declared .ensures),
+      c .in-topic .ensures ∙ ap (λ (u : State). inTopicBy u (start .args .name) (start .args .st .extent .records + 1))
+          (c .before .declared .ensures),
       λ s n hs k e h o f.
           topic-declared (start .args .text .now) s (start .args .st) (start .args .book .now) _ _ _ hs k n
           (start .args .name) e h o _ _ (name-record .ensures) (put .ensures) (start .pre .1 .0)
           _ (declare .ensures .0)
           (definition-rows (start .args .st) (start .args .work .now) (start .pre .1 .2)
           (start .args .st .listing .count + 2) (omega arith)) _ (declare .ensures .1)
-          _ (declare .ensures .2 (known (s .decls)) (newTopic s n) (k .chained) (k .held .all-defs) (ap (bytesOf (start .args .text .now)) e ∙ h .there)) f,
+          _ (declare .ensures .2 (known (s .decls)) (newTopic s n) (k .chained) (k .held .all-defs)
+          (ap (bytesOf (start .args .text .now)) e ∙ h .there)) f,
     )
 
 pub declare-topic-spec : {M : Type 1} → statement M

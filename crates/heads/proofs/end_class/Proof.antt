@@ -19,12 +19,15 @@ returns c =
     let make-known = c .before .before .before .make-known in (
       c .closed .ensures,
       λ s d hs k e b f.
-          class-ended (start .args .text .now) s (start .args .st) (start .args .book .now) _ _ _ hs k d e _ _ refl (put .ensures) (start .pre .1 .0)
+          class-ended (start .args .text .now) s (start .args .st) (start .args .book .now) _ _ _ hs k d e _ _ refl
+          (put .ensures) (start .pre .1 .0)
           _ (make-known .ensures .0 ∙ close .ensures .0)
-          (definition-rows (start .args .st) (start .args .work .now) (start .pre .1 .2) (start .args .st .listing .count + 2) (omega arith))
+          (definition-rows (start .args .st) (start .args .work .now) (start .pre .1 .2)
+          (start .args .st .listing .count + 2) (omega arith))
           _ (make-known .ensures .1 ∙ close .ensures .1)
           _ (make-known .ensures .2 (known (s .decls)) d
-          (subst (λ (z : List ℕ). Chains (known (s .decls)) z) (sym (close .ensures .2)) (k .chained)) (k .held .all-defs) b) f,
+          (subst (λ (z : List ℕ). Chains (known (s .decls)) z) (sym (close .ensures .2)) (k .chained))
+          (k .held .all-defs) b) f,
     )
 
 pub end-class-spec : {M : Type 1} → statement M

@@ -22,7 +22,8 @@ same-name-requires : tie.Need-same-name-requires
 same-name-requires c κs =
     let start = c .before .before .before .before .before .before .before in
     let (s, n, hs, rs, k, q) = start .pre .1 in (
-      close-inside (start .args .text .now) s n (start .args .st) (start .args .book .now) _ _ _ hs rs (start .args .name) k q (start .pre .0 .1),
+      close-inside (start .args .text .now) s n (start .args .st) (start .args .book .now) _ _ _ hs rs
+          (start .args .name) k q (start .pre .0 .1),
       k .model .inside,
     )
 

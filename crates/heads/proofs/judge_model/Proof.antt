@@ -30,7 +30,8 @@ returns-2 : tie.Need-returns-2
 returns-2 c =
     let start = c .before .before .before .before .before in
     λ s n strings w hs rs k q. model-over (start .args .text .now) s n strings (start .args .st)
-    (start .args .book .now) _ _ _ hs rs (start .args .head) k q (start .pre .0 .1) _ _ (omega (arith, c .before .if1 .left)) (c .refused .ensures)
+    (start .args .book .now) _ _ _ hs rs (start .args .head) k q (start .pre .0 .1) _ _
+    (omega (arith, c .before .if1 .left)) (c .refused .ensures)
 
 pub judge-model-spec : {M : Type 1} → statement M
 judge-model-spec =

@@ -49,32 +49,38 @@ calls t = (
 
 abbrev fits-in-Inv-loop : fits-in-lts.InvT-loop
 fits-in-Inv-loop text s own base left table g at₀ at =
-    Gathered text s g table → (e b : Enum) → Reads text s e own → Reads text s b base → Deep left e → Rest text s left e b at
+    Gathered text s g table → (e b : Enum) → Reads text s e own → Reads text s b base
+    → Deep left e → Rest text s left e b at
 
 abbrev fits-in-μ-loop : fits-in-lts.MeasureT-loop
 fits-in-μ-loop text s own base left table g at₀ at = length s - at
 
-fits-in-loop-holds : (t : ℕ) → fits-in-lts.Need-loop-holds (calls t) (fits-in-at t) fits-in.Post fits-in-Inv-loop fits-in-μ-loop
+fits-in-loop-holds : (t : ℕ)
+    → fits-in-lts.Need-loop-holds (calls t) (fits-in-at t) fits-in.Post fits-in-Inv-loop fits-in-μ-loop
 fits-in-loop-holds t c = λ G e b u w d. rest-start _ _ _ e b _ u d
 
-fits-in-held-element-requires : (t : ℕ) → fits-in-lts.Need-held-element-requires (calls t) (fits-in-at t) fits-in.Post fits-in-Inv-loop fits-in-μ-loop
+fits-in-held-element-requires : (t : ℕ)
+    → fits-in-lts.Need-held-element-requires (calls t) (fits-in-at t) fits-in.Post fits-in-Inv-loop fits-in-μ-loop
 fits-in-held-element-requires t c κs =
     let s = c .before .before .before .before .before .before in
     (element-in _ _ (sym (c .before .is-element .ensures) ∙ c .if1 .taken) .0, s .pre .1 .1)
 
-fits-in-add-past-inner : (t : ℕ) → fits-in-lts.Need-add-past-inner (calls t) (fits-in-at t) fits-in.Post fits-in-Inv-loop fits-in-μ-loop
+fits-in-add-past-inner : (t : ℕ)
+    → fits-in-lts.Need-add-past-inner (calls t) (fits-in-at t) fits-in.Post fits-in-Inv-loop fits-in-μ-loop
 fits-in-add-past-inner t c =
     let is-element = c .before .before .is-element in
     omega (arith, element-in _ _ (sym (is-element .ensures) ∙ c .before .if1 .taken))
 
-fits-in-loop-less : (t : ℕ) → fits-in-lts.Need-loop-less (calls t) (fits-in-at t) fits-in.Post fits-in-Inv-loop fits-in-μ-loop
+fits-in-loop-less : (t : ℕ)
+    → fits-in-lts.Need-loop-less (calls t) (fits-in-at t) fits-in.Post fits-in-Inv-loop fits-in-μ-loop
 fits-in-loop-less t c =
     let is-element = c .before .before .before .before .before .is-element in
     let if1 = c .before .before .before .before .if1 in
     let past-inner = c .before .before .past-inner in
     omega (arith, element-in _ _ (sym (is-element .ensures) ∙ if1 .taken), past-inner .ensures .1)
 
-fits-in-loop-again : (t : ℕ) → fits-in-lts.Need-loop-again (calls t) (fits-in-at t) fits-in.Post fits-in-Inv-loop fits-in-μ-loop
+fits-in-loop-again : (t : ℕ)
+    → fits-in-lts.Need-loop-again (calls t) (fits-in-at t) fits-in.Post fits-in-Inv-loop fits-in-μ-loop
 fits-in-loop-again t c =
     let s = c .before .before .before .before .before .before .before .before .before .before in
     let loop = c .before .before .before .before .before .before .loop in
@@ -85,10 +91,12 @@ fits-in-loop-again t c =
     let a = s .args in
     λ G e b u w d.
     let S = stepped (a .text .now) (a .s .now) (s .pre .1 .0) (a .left) e b (loop .at) (past-inner .result) (a .base)
-    (held-element .result) (loop .inv G e b u w d) (sym (is-element .ensures) ∙ if1 .taken) w (held-element .ensures G) (past-inner .ensures .0) in
+    (held-element .result) (loop .inv G e b u w d) (sym (is-element .ensures) ∙ if1 .taken) w (held-element .ensures G)
+    (past-inner .ensures .0) in
     S .goes (ap (λ (k : Held). by k (fitsIn (S .i) (S .j))) (c .enum-told .given .1))
 
-fits-in-returns : (t : ℕ) → fits-in-lts.Need-returns (calls t) (fits-in-at t) fits-in.Post fits-in-Inv-loop fits-in-μ-loop
+fits-in-returns : (t : ℕ)
+    → fits-in-lts.Need-returns (calls t) (fits-in-at t) fits-in.Post fits-in-Inv-loop fits-in-μ-loop
 fits-in-returns t c =
     let s = c .before .before .before .before .before .before .before .before .before .before in
     let loop = c .before .before .before .before .before .before .loop in
@@ -99,10 +107,12 @@ fits-in-returns t c =
     let a = s .args in
     λ G e b u w d.
     let S = stepped (a .text .now) (a .s .now) (s .pre .1 .0) (a .left) e b (loop .at) (past-inner .result) (a .base)
-    (held-element .result) (loop .inv G e b u w d) (sym (is-element .ensures) ∙ if1 .taken) w (held-element .ensures G) (past-inner .ensures .0) in
+    (held-element .result) (loop .inv G e b u w d) (sym (is-element .ensures) ∙ if1 .taken) w (held-element .ensures G)
+    (past-inner .ensures .0) in
     sym (S .stops (ap (λ (k : Held). by k (fitsIn (S .i) (S .j))) (c .enum-told2 .given .1)))
 
-fits-in-returns-2 : (t : ℕ) → fits-in-lts.Need-returns-2 (calls t) (fits-in-at t) fits-in.Post fits-in-Inv-loop fits-in-μ-loop
+fits-in-returns-2 : (t : ℕ)
+    → fits-in-lts.Need-returns-2 (calls t) (fits-in-at t) fits-in.Post fits-in-Inv-loop fits-in-μ-loop
 fits-in-returns-2 t c =
     let s = c .before .before .before .before .before .before .before .before .before .before .before in
     let loop = c .before .before .before .before .before .before .before .loop in
@@ -113,25 +123,30 @@ fits-in-returns-2 t c =
     let a = s .args in
     λ G e b u w d.
     let S = stepped (a .text .now) (a .s .now) (s .pre .1 .0) (a .left) e b (loop .at) (past-inner .result) (a .base)
-    (held-element .result) (loop .inv G e b u w d) (sym (is-element .ensures) ∙ if1 .taken) w (held-element .ensures G) (past-inner .ensures .0) in
+    (held-element .result) (loop .inv G e b u w d) (sym (is-element .ensures) ∙ if1 .taken) w (held-element .ensures G)
+    (past-inner .ensures .0) in
     absurd (omega (arith, S .deeper (c .before .enum-told3 .given .1) .2, c .if2 .taken))
 
-fits-in-sub-fits-in : (t : ℕ) → fits-in-lts.Need-sub-fits-in (calls t) (fits-in-at t) fits-in.Post fits-in-Inv-loop fits-in-μ-loop
+fits-in-sub-fits-in : (t : ℕ)
+    → fits-in-lts.Need-sub-fits-in (calls t) (fits-in-at t) fits-in.Post fits-in-Inv-loop fits-in-μ-loop
 fits-in-sub-fits-in t c = omega (arith, c .if2 .left)
 
-fits-in-fits-in-requires : (t : ℕ) → fits-in-lts.Need-fits-in-requires (calls t) (fits-in-at t) fits-in.Post fits-in-Inv-loop fits-in-μ-loop
+fits-in-fits-in-requires : (t : ℕ)
+    → fits-in-lts.Need-fits-in-requires (calls t) (fits-in-at t) fits-in.Post fits-in-Inv-loop fits-in-μ-loop
 fits-in-fits-in-requires t c κs =
     let s = c .before .before .before .before .before .before .before .before .before .before .before in
     (omega (arith, s .pre .0, c .if2 .left), s .pre .1)
 
-fits-in-loop-less-2 : (t : ℕ) → fits-in-lts.Need-loop-less-2 (calls t) (fits-in-at t) fits-in.Post fits-in-Inv-loop fits-in-μ-loop
+fits-in-loop-less-2 : (t : ℕ)
+    → fits-in-lts.Need-loop-less-2 (calls t) (fits-in-at t) fits-in.Post fits-in-Inv-loop fits-in-μ-loop
 fits-in-loop-less-2 t c =
     let is-element = c .before .before .before .before .before .before .before .before .is-element in
     let if1 = c .before .before .before .before .before .before .before .if1 in
     let past-inner = c .before .before .before .before .before .past-inner in
     omega (arith, element-in _ _ (sym (is-element .ensures) ∙ if1 .taken), past-inner .ensures .1)
 
-fits-in-loop-again-2 : (t : ℕ) → fits-in-lts.Need-loop-again-2 (calls t) (fits-in-at t) fits-in.Post fits-in-Inv-loop fits-in-μ-loop
+fits-in-loop-again-2 : (t : ℕ)
+    → fits-in-lts.Need-loop-again-2 (calls t) (fits-in-at t) fits-in.Post fits-in-Inv-loop fits-in-μ-loop
 fits-in-loop-again-2 t c =
     let s = c .before .before .before .before .before .before .before .before .before .before .before .before .before in
     let loop = c .before .before .before .before .before .before .before .before .before .loop in
@@ -143,12 +158,14 @@ fits-in-loop-again-2 t c =
     let a = s .args in
     λ G e b u w d.
     let S = stepped (a .text .now) (a .s .now) (s .pre .1 .0) (a .left) e b (loop .at) (past-inner .result) (a .base)
-    (held-element .result) (loop .inv G e b u w d) (sym (is-element .ensures) ∙ if1 .taken) w (held-element .ensures G) (past-inner .ensures .0) in
+    (held-element .result) (loop .inv G e b u w d) (sym (is-element .ensures) ∙ if1 .taken) w (held-element .ensures G)
+    (past-inner .ensures .0) in
     let D = S .deeper (enum-told3 .given .1) in
     S .goes (ap (λ (k : Held). by k (fitsIn (S .i) (S .j))) (enum-told3 .given .1)
     ∙ sym (c .before .fits-in .ensures G (S .i) (S .j) (D .0) (D .1) (D .3)) ∙ c .if3 .taken)
 
-fits-in-returns-3 : (t : ℕ) → fits-in-lts.Need-returns-3 (calls t) (fits-in-at t) fits-in.Post fits-in-Inv-loop fits-in-μ-loop
+fits-in-returns-3 : (t : ℕ)
+    → fits-in-lts.Need-returns-3 (calls t) (fits-in-at t) fits-in.Post fits-in-Inv-loop fits-in-μ-loop
 fits-in-returns-3 t c =
     let s = c .before .before .before .before .before .before .before .before .before .before .before .before .before in
     let loop = c .before .before .before .before .before .before .before .before .before .loop in
@@ -160,17 +177,20 @@ fits-in-returns-3 t c =
     let a = s .args in
     λ G e b u w d.
     let S = stepped (a .text .now) (a .s .now) (s .pre .1 .0) (a .left) e b (loop .at) (past-inner .result) (a .base)
-    (held-element .result) (loop .inv G e b u w d) (sym (is-element .ensures) ∙ if1 .taken) w (held-element .ensures G) (past-inner .ensures .0) in
+    (held-element .result) (loop .inv G e b u w d) (sym (is-element .ensures) ∙ if1 .taken) w (held-element .ensures G)
+    (past-inner .ensures .0) in
     let D = S .deeper (enum-told3 .given .1) in
     sym (S .stops (ap (λ (k : Held). by k (fitsIn (S .i) (S .j))) (enum-told3 .given .1)
     ∙ sym (c .before .fits-in .ensures G (S .i) (S .j) (D .0) (D .1) (D .3)) ∙ c .if3 .left))
 
-fits-in-returns-4 : (t : ℕ) → fits-in-lts.Need-returns-4 (calls t) (fits-in-at t) fits-in.Post fits-in-Inv-loop fits-in-μ-loop
+fits-in-returns-4 : (t : ℕ)
+    → fits-in-lts.Need-returns-4 (calls t) (fits-in-at t) fits-in.Post fits-in-Inv-loop fits-in-μ-loop
 fits-in-returns-4 t c =
     let loop = c .before .before .before .loop in
     let is-element = c .before .before .is-element in
     λ G e b u w d. c .others-fit .ensures
-    ∙ rw (u .«is_final», w .«is_final») (sym (finished _ _ _ e b _ (loop .inv G e b u w d) (sym (is-element .ensures) ∙ c .before .if1 .left)))
+    ∙ rw (u .«is_final», w .«is_final»)
+    (sym (finished _ _ _ e b _ (loop .inv G e b u w d) (sym (is-element .ensures) ∙ c .before .if1 .left)))
 
 pub +fits-in-spec : {M : Type 1} → statement M
 +fits-in-spec = close μ-fits-in λ t. fits-in-lts.spec (calls t)

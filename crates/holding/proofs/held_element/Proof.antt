@@ -16,10 +16,12 @@ returns c =
     let inner-at = c .before .before .inner-at in
     let a = c .before .before .before .before .before .before .before .before .before .args in
     λ G.
-    let e : find-in .result ≡ findFrom (length (a .s .now) + 1) (a .text .now) (a .s .now) (a .base .list) (written (a .s .now) (a .at)) = find-in .ensures G
+    let e : find-in .result ≡ findFrom (length (a .s .now) + 1) (a .text .now) (a .s .now) (a .base .list)
+    (written (a .s .now) (a .at)) = find-in .ensures G
     ∙ rw (as-written (written-name .ensures)) in
     pair-found (a .text .now) (a .s .now) (a .at) (a .base) (find-in .result) e (if1 .taken) (inner-at .result)
-    (c .before .inner-at2 .result) (c .held-inside .result) (inner-at .ensures) (c .before .inner-at2 .ensures) (c .held-inside .ensures)
+    (c .before .inner-at2 .result) (c .held-inside .result) (inner-at .ensures)
+    (c .before .inner-at2 .ensures) (c .held-inside .ensures)
 
 returns-2 : tie.Need-returns-2
 returns-2 c =
@@ -27,7 +29,8 @@ returns-2 c =
     let find-in = c .before .before .find-in in
     let a = c .before .before .before .before .before .before .before .args in
     λ G.
-    let e : find-in .result ≡ findFrom (length (a .s .now) + 1) (a .text .now) (a .s .now) (a .base .list) (written (a .s .now) (a .at)) = find-in .ensures G
+    let e : find-in .result ≡ findFrom (length (a .s .now) + 1) (a .text .now) (a .s .now) (a .base .list)
+    (written (a .s .now) (a .at)) = find-in .ensures G
     ∙ rw (as-written (written-name .ensures)) in
     pair-misfit (a .text .now) (a .s .now) (a .at) (a .base) (find-in .result) e (c .before .if1 .left) (c .if2 .taken)
 
@@ -37,7 +40,8 @@ returns-3 c =
     let find-in = c .before .before .find-in in
     let a = c .before .before .before .before .before .before .before .args in
     λ G.
-    let e : find-in .result ≡ findFrom (length (a .s .now) + 1) (a .text .now) (a .s .now) (a .base .list) (written (a .s .now) (a .at)) = find-in .ensures G
+    let e : find-in .result ≡ findFrom (length (a .s .now) + 1) (a .text .now) (a .s .now) (a .base .list)
+    (written (a .s .now) (a .at)) = find-in .ensures G
     ∙ rw (as-written (written-name .ensures)) in
     pair-fits (a .text .now) (a .s .now) (a .at) (a .base) (find-in .result) e (c .before .if1 .left) (c .if2 .left)
 

@@ -1,6 +1,7 @@
 use mathlib.Core.Path.{refl}
 use Rattle.judge.specs.Judging.{Answers}
-use Rattle.judge.proofs.UnitLaws.{by-header, by-model, by-topic, by-class, by-domain, by-attribute, by-close, by-mark, a-header, a-model, a-topic, a-class, a-domain, an-attribute, a-close}
+use Rattle.judge.proofs.UnitLaws.{by-header, by-model, by-topic, by-class, by-domain, by-attribute, by-close}
+use Rattle.judge.proofs.UnitLaws.{by-mark, a-header, a-model, a-topic, a-class, a-domain, an-attribute, a-close}
 use native.Mathlib.Omega.{arith}
 use borrow.Author.Needs.{needs}
 use Rattle.judge.proofs.judge.Statement.{statement}
@@ -50,8 +51,10 @@ judge-attribute-requires c κs =
     let s = c .before .before .before .before .before .before .before .before .before .before .before .before .before in
     let unit6 = c .before .before .before .before .before .unit6 in
     let (i, v, k, m) = s .pre .1 .1 in
-    let (n, p, w, h) = an-attribute v m (unit6 .given .1) in
-    ((s .pre .0 .text-short, s .pre .0 .book-short, s .pre .0 .scratch-short, s .pre .1 .0 .0, s .pre .1 .0 .1), (s .pre .0 .tables-wide, (i, n, p, w, k, h)))
+    let (n, p, w, h) = an-attribute v m (unit6 .given .1) in (
+      (s .pre .0 .text-short, s .pre .0 .book-short, s .pre .0 .scratch-short, s .pre .1 .0 .0, s .pre .1 .0 .1),
+      (s .pre .0 .tables-wide, (i, n, p, w, k, h)),
+    )
 
 judge-close-requires : tie.Need-judge-close-requires
 judge-close-requires c κs =
@@ -64,44 +67,51 @@ judge-close-requires c κs =
 returns : tie.Need-returns
 returns c =
     let unit = c .before .before .unit in
-    λ s v k m. by-header (Answers _ _ s _ _ _ _ _) v m (unit .given .1) (λ x h. record { as-judged = c .judge-header .ensures s x _ _ _ _ k h })
+    λ s v k m. by-header (Answers _ _ s _ _ _ _ _) v m (unit .given .1)
+    (λ x h. record { as-judged = c .judge-header .ensures s x _ _ _ _ k h })
 
 returns-2 : tie.Need-returns-2
 returns-2 c =
     let unit2 = c .before .before .before .before .before .unit2 in
     let judge-model = c .before .before .judge-model in
-    λ s v k m. by-model (Answers _ _ s _ _ _ _ _) v m (unit2 .given .1) (λ n q h. record { as-judged = judge-model .ensures s n q _ _ _ k h })
+    λ s v k m. by-model (Answers _ _ s _ _ _ _ _) v m (unit2 .given .1)
+    (λ n q h. record { as-judged = judge-model .ensures s n q _ _ _ k h })
 
 returns-3 : tie.Need-returns-3
 returns-3 c =
     let unit3 = c .before .before .before .before .before .before .before .before .unit3 in
     let judge-topic = c .before .before .before .before .judge-topic in
-    λ s v k m. by-topic (Answers _ _ s _ _ _ _ _) v m (unit3 .given .1) (λ n h. record { as-judged = judge-topic .ensures s n _ _ k h })
+    λ s v k m. by-topic (Answers _ _ s _ _ _ _ _) v m (unit3 .given .1)
+    (λ n h. record { as-judged = judge-topic .ensures s n _ _ k h })
 
 returns-4 : tie.Need-returns-4
 returns-4 c =
     let unit4 = c .before .before .before .before .before .before .before .before .before .before .before .unit4 in
     let judge-class = c .before .before .before .before .before .before .judge-class in
-    λ s v k m. by-class (Answers _ _ s _ _ _ _ _) v m (unit4 .given .1) (λ q n p b h. record { as-judged = judge-class .ensures s q n p b _ k h })
+    λ s v k m. by-class (Answers _ _ s _ _ _ _ _) v m (unit4 .given .1)
+    (λ q n p b h. record { as-judged = judge-class .ensures s q n p b _ k h })
 
 returns-5 : tie.Need-returns-5
 returns-5 c =
     let unit5 = c .before .before .before .before .before .before .before .before .before .before .before .unit5 in
     let judge-domain = c .before .before .before .before .before .before .judge-domain in
-    λ s v k m. by-domain (Answers _ _ s _ _ _ _ _) v m (unit5 .given .1) (λ n p b w h. record { as-judged = judge-domain .ensures s n p b w _ k h })
+    λ s v k m. by-domain (Answers _ _ s _ _ _ _ _) v m (unit5 .given .1)
+    (λ n p b w h. record { as-judged = judge-domain .ensures s n p b w _ k h })
 
 returns-6 : tie.Need-returns-6
 returns-6 c =
     let back = c .before .before .before .before .before .before .before .before .before .before in
     let unit6 = back .before .before .before .before .unit6 in
     let judge-attribute = c .before .before .before .before .before .before .before .before .judge-attribute in
-    λ s v k m. by-attribute (Answers _ _ s _ _ _ _ _) v m (unit6 .given .1) (λ n p w h. record { as-judged = judge-attribute .ensures s n p w k h })
+    λ s v k m. by-attribute (Answers _ _ s _ _ _ _ _) v m (unit6 .given .1)
+    (λ n p w h. record { as-judged = judge-attribute .ensures s n p w k h })
 
 returns-7 : tie.Need-returns-7
 returns-7 c =
     let unit7 = c .before .before .before .before .before .before .before .before .unit7 in
     let judge-close = c .before .before .before .before .judge-close in
-    λ s v k m. by-close (Answers _ _ s _ _ _ _ _) v m (unit7 .given .1) (λ n h. record { as-judged = judge-close .ensures s n _ _ k h })
+    λ s v k m. by-close (Answers _ _ s _ _ _ _ _) v m (unit7 .given .1)
+    (λ n h. record { as-judged = judge-close .ensures s n _ _ k h })
 
 returns-8 : tie.Need-returns-8
 returns-8 c =

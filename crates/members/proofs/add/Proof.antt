@@ -21,7 +21,8 @@ returns c =
       omega arith,
       λ ms g h a k e fg fh w. put-in (s .args .text .now) ms (s .args .rows .now) (s .args .total) k
           (s .args .q) a e g h (s .args .hand .now) (s .args .n) fh _ _ _ (member .ensures .0) (member2 .ensures .0)
-          (find-attribute .ensures .1 ms g k fg) (c .before .if3 .taken) _ (c .member3 .ensures .0) (omega arith) (omega arith),
+          (find-attribute .ensures .1 ms g k fg) (c .before .if3 .taken) _
+          (c .member3 .ensures .0) (omega arith) (omega arith),
     )
 
 returns-2 : tie.Need-returns-2
@@ -44,7 +45,8 @@ returns-3 c =
       omega arith,
       omega arith,
       λ ms g h a k e fg fh w.
-          let v = told-inside (s .args .text .now) a _ (s .args .text .now) (k .tells (s .args .q) a e) _ _ (member .ensures .0) (member2 .ensures .0) in
+          let v = told-inside (s .args .text .now) a _ (s .args .text .now) (k .tells (s .args .q) a e) _ _
+          (member .ensures .0) (member2 .ensures .0) in
           absurd (omega (arith, c .if2 .left)),
     )
 

@@ -12,16 +12,23 @@ use Rattle.members.proofs.add_own.Tie as tie
 
 abbrev Inv-loop : tie.InvT-loop
 Inv-loop text rows total first last hand₀ count n₀ q₀ hand n q = (first ≤ q) × (n ≤ most) × (count ≤ n) × Hand hand
-    × ((ms g own more : List Attribute) → Members text ms rows total → Filled ms hand₀ count g → drop first ms ≡ own ++ more
-    → last ≡ first + length own → Unlike own → length (nearestTo g own) ≤ most → Filled ms hand n (nearestTo g (take (q - first) own)))
+    × ((ms g own more : List Attribute) → Members text ms rows total
+    → Filled ms hand₀ count g → drop first ms ≡ own ++ more
+    → last ≡ first + length own → Unlike own → length (nearestTo g own) ≤ most
+    → Filled ms hand n (nearestTo g (take (q - first) own)))
 
 abbrev μ-loop : tie.MeasureT-loop
 μ-loop text rows total first last hand₀ count n₀ q₀ hand n q = last - q
 
 loop-holds : tie.Need-loop-holds Inv-loop μ-loop
 loop-holds c =
-    let s = c .before .before .before in
-    (omega arith, omega arith, omega arith, s .pre .4, λ ms g own more k f e l u w. own-none ms g own (s .args .first) (s .args .count) _ f)
+    let s = c .before .before .before in (
+      omega arith,
+      omega arith,
+      omega arith,
+      s .pre .4,
+      λ ms g own more k f e l u w. own-none ms g own (s .args .first) (s .args .count) _ f,
+    )
 
 loop-again : tie.Need-loop-again Inv-loop μ-loop
 loop-again c =

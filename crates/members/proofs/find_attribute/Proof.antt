@@ -13,7 +13,8 @@ use Rattle.members.proofs.find_attribute.Tie as tie
 
 abbrev Inv-loop : tie.InvT-loop
 Inv-loop text rows total hand count name i₀ i = (i ≤ count)
-    × ((ms h : List Attribute) → Members text ms rows total → Filled ms hand count h → slotOf (bytesOf text name) h ≡ slotFrom (bytesOf text name) i (drop i h))
+    × ((ms h : List Attribute) → Members text ms rows total → Filled ms hand count h
+    → slotOf (bytesOf text name) h ≡ slotFrom (bytesOf text name) i (drop i h))
 
 abbrev μ-loop : tie.MeasureT-loop
 μ-loop text rows total hand count name i₀ i = count - i

@@ -24,7 +24,8 @@ returns c =
     let a = s .args in
     let v : a .n < most = s .pre .2 (c .if1 .taken) in (
       omega arith,
-      λ ms h b e k t f. hold-new ms (a .hand .now) (a .n) h b (a .q) (a .number) (a .r) e k t f (c .if1 .taken) v (s .pre .5),
+      λ ms h b e k t f.
+          hold-new ms (a .hand .now) (a .n) h b (a .q) (a .number) (a .r) e k t f (c .if1 .taken) v (s .pre .5),
     )
 
 slice-write-hand-4 : tie.Need-slice-write-hand-4
@@ -37,7 +38,8 @@ returns-2 c =
     let s = c .before in
     let a = s .args in (
       omega arith,
-      λ ms h b e k t f. hold-old ms (a .hand .now) (a .n) h b (a .q) (a .number) (a .r) e k t f (c .if1 .left) (omega arith) (omega arith) (s .pre .5),
+      λ ms h b e k t f. hold-old ms (a .hand .now) (a .n) h b (a .q) (a .number) (a .r) e k t f (c .if1 .left)
+          (omega arith) (omega arith) (s .pre .5),
     )
 
 pub hold-spec : {M : Type 1} → statement M

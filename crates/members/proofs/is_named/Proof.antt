@@ -12,7 +12,8 @@ returns c =
     let member = c .before .before .before .before .member in
     let member2 = c .before .before .before .member2 in
     λ w a s. c .same-name .ensures
-    ∙ told (start .args .text .now) a _ (bytesOf (start .args .text .now) (start .args .name)) s _ _ (member .ensures .0) (member2 .ensures .0)
+    ∙ told (start .args .text .now) a _ (bytesOf (start .args .text .now) (start .args .name)) s _ _
+    (member .ensures .0) (member2 .ensures .0)
 
 returns-2 : tie.Need-returns-2
 returns-2 c =
@@ -20,7 +21,8 @@ returns-2 c =
     let member = c .before .before .before .member in
     let member2 = c .before .before .member2 in
     λ w a s.
-    let v = told-inside (start .args .text .now) a _ (bytesOf (start .args .text .now) (start .args .name)) s _ _ (member .ensures .0) (member2 .ensures .0) in
+    let v = told-inside (start .args .text .now) a _ (bytesOf (start .args .text .now) (start .args .name)) s _ _
+    (member .ensures .0) (member2 .ensures .0) in
     absurd (omega (arith, c .if2 .left))
 
 returns-3 : tie.Need-returns-3

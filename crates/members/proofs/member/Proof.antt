@@ -7,8 +7,10 @@ use Rattle.members.specs.Members.{attributeWidth}
 
 returns : tie.Need-returns
 returns c =
-    let s = c .before .before .before in
-    (c .wide2 .ensures .0 ∙ at-row attributeWidth (s .args .rows .now) (s .args .q) (s .args .f) (s .pre .0), c .wide2 .ensures .1)
+    let s = c .before .before .before in (
+      c .wide2 .ensures .0 ∙ at-row attributeWidth (s .args .rows .now) (s .args .q) (s .args .f) (s .pre .0),
+      c .wide2 .ensures .1,
+    )
 
 pub member-spec : {M : Type 1} → statement M
 member-spec =

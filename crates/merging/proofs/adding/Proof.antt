@@ -55,12 +55,14 @@ returns-3 c =
     λ G. c .added .ensures
     ∙ add-new (a .text .now) (a .b .now) (a .scratch .now) (a .p) (written-name .result) (find-in .result)
     (past-inner .result) (sym (is-element .ensures) ∙ if1 .taken) (as-written (written-name .ensures))
-    (find-in .ensures G) (past-inner .ensures .0) (c .before .inner-at .result) (c .before .inner-at .ensures) (if2 .left) (if3 .left)
+    (find-in .ensures G) (past-inner .ensures .0) (c .before .inner-at .result)
+    (c .before .inner-at .ensures) (if2 .left) (if3 .left)
 
 returns-4 : tie.Need-returns-4
 returns-4 c =
     let a = c .before .before .before .before .before .before .args in
-    λ G. add-end (a .text .now) (a .b .now) (a .scratch .now) (a .p) (sym (c .before .is-element .ensures) ∙ c .if1 .left)
+    λ G.
+    add-end (a .text .now) (a .b .now) (a .scratch .now) (a .p) (sym (c .before .is-element .ensures) ∙ c .if1 .left)
 
 pub adding-spec : {M : Type 1} → statement M
 adding-spec =

@@ -30,12 +30,14 @@ returns c =
     λ G. c .shared .ensures
     ∙ copy-element (a .text .now) (a .b .now) (a .scratch .now) (a .p) (written-name .result) (find-in .result)
     (c .before .past-inner .result) (inner-at .result) (inner-at2 .result) (sym (is-element .ensures) ∙ if1 .taken)
-    (as-written (written-name .ensures)) (inner-at .ensures) (find-in .ensures G) (inner-at2 .ensures) (c .before .past-inner .ensures .0)
+    (as-written (written-name .ensures)) (inner-at .ensures) (find-in .ensures G) (inner-at2 .ensures)
+    (c .before .past-inner .ensures .0)
 
 returns-2 : tie.Need-returns-2
 returns-2 c =
     let a = c .before .before .before .before .before .before .args in
-    λ G. copy-end (a .text .now) (a .b .now) (a .scratch .now) (a .p) (sym (c .before .is-element .ensures) ∙ c .if1 .left)
+    λ G.
+    copy-end (a .text .now) (a .b .now) (a .scratch .now) (a .p) (sym (c .before .is-element .ensures) ∙ c .if1 .left)
 
 pub copying-spec : {M : Type 1} → statement M
 copying-spec =

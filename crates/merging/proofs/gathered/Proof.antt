@@ -9,7 +9,9 @@ use Rattle.merging.proofs.gathered.Statement.{statement}
 use Rattle.merging.proofs.gathered.Tie as tie
 
 slice-aggregate-gather : tie.Need-slice-aggregate-gather
-slice-aggregate-gather c = let s = c .before .before .before .before .before in sym (length-take-le _ _ (omega (arith, s .pre .1)))
+slice-aggregate-gather c =
+    let s = c .before .before .before .before .before in
+    sym (length-take-le _ _ (omega (arith, s .pre .1)))
 
 gather-requires : tie.Need-gather-requires
 gather-requires c κs =

@@ -37,14 +37,16 @@ mul-t29 c =
     let back = c .before .before .before .before .before .before .before .before .before .before in
     let s = back .before .before .before .before .before .before .before .before .before in
     let a = s .args in
-    omega (arith, fuel-small (a .n) (length (a .scratch .now)) (omega (arith, s .pre .0 .0, s .pre .0 .2)) (s .pre .0 .3))
+    omega
+    (arith, fuel-small (a .n) (length (a .scratch .now)) (omega (arith, s .pre .0 .0, s .pre .0 .2)) (s .pre .0 .3))
 
 add-t30 : tie.Need-add-t30
 add-t30 c =
     let back = c .before .before .before .before .before .before .before .before .before .before in
     let s = back .before .before .before .before .before .before .before .before .before in
     let a = s .args in
-    omega (arith, fuel-small (a .n) (length (a .scratch .now)) (omega (arith, s .pre .0 .0, s .pre .0 .2)) (s .pre .0 .3))
+    omega
+    (arith, fuel-small (a .n) (length (a .scratch .now)) (omega (arith, s .pre .0 .0, s .pre .0 .2)) (s .pre .0 .3))
 
 run-requires : tie.Need-run-requires
 run-requires c κs =
@@ -54,7 +56,12 @@ run-requires c κs =
     let s = g .before .before .before .before .before .before .before in
     let a = s .args in
     let f = fuel-small (a .n) (length (a .scratch .now)) (omega (arith, s .pre .0 .0, s .pre .0 .2)) (s .pre .0 .3) in (
-      (s .pre .0 .0, omega (arith, b .put-if .kept .0, s .pre .0 .1), omega (arith, first-walk .ensures .depth), omega arith),
+      (
+        s .pre .0 .0,
+        omega (arith, b .put-if .kept .0, s .pre .0 .1),
+        omega (arith, first-walk .ensures .depth),
+        omega arith,
+      ),
       (omega (arith, f, s .pre .0 .2), g .gathered .ensures .0),
     )
 
@@ -74,12 +81,15 @@ returns c =
     let s = g .before .before .before .before .before .before .before in
     let a = s .args in
     λ b e sb se.
-    merged-laid (a .text .now) (a .out .now) (a .scratch .now) (a .n) (a .base) (a .start) (p .put-if .last .0) (r .last .1 .0) (r .result)
+    merged-laid (a .text .now) (a .out .now) (a .scratch .now) (a .n) (a .base) (a .start)
+    (p .put-if .last .0) (r .last .1 .0) (r .result)
     (i .inner-at .result) (p .before .before .before .before .before .inner-at2 .result) (w .result) _ (s .pre .0 .1)
     (s .pre .0 .0) (s .pre .0 .2) (s .pre .0 .3)
     (i .inner-at .ensures) (p .before .before .before .before .before .inner-at2 .ensures) (w .ensures)
-    (p .put-if .ensures ∙ rw (p .before .before .before .flag .ensures, p .before .before .before .before .either .ensures)) (lt-add-one _)
-    (r .ensures (rw (p .put-if .ensures, take-put (a .out .now) (a .n) (a .start) _ (s .pre .0 .0)) (g .gathered .ensures .1 b e sb se))) b e sb se
+    (p .put-if .ensures
+    ∙ rw (p .before .before .before .flag .ensures, p .before .before .before .before .either .ensures)) (lt-add-one _)
+    (r .ensures (rw (p .put-if .ensures, take-put (a .out .now) (a .n) (a .start) _ (s .pre .0 .0))
+    (g .gathered .ensures .1 b e sb se))) b e sb se
 
 pub merged-spec : {M : Type 1} → statement M
 merged-spec =

@@ -19,14 +19,19 @@ slice-aggregate-put-if : tie.Need-slice-aggregate-put-if
 slice-aggregate-put-if c =
     let s = c .before .before .before .before .before .before in
     let piece-of = c .before .before .before .before .piece-of in
-    let h = piece-is (piece-of .result) (s .args .e) (piece-of .ensures) in sym (length-take-le _ _ (omega (arith, h .short, h .eight)))
+    let h = piece-is (piece-of .result) (s .args .e) (piece-of .ensures) in
+    sym (length-take-le _ _ (omega (arith, h .short, h .eight)))
 
 put-if-requires : tie.Need-put-if-requires
 put-if-requires c κs =
     let s = c .before .before .before .before .before .before in
     let piece-of = c .before .before .before .before .piece-of in
     let h = piece-is (piece-of .result) (s .args .e) (piece-of .ensures) in
-    omega (arith, h .short, length-take-le (piece-of .result .len) (piece-of .result .bytes) (omega (arith, h .short, h .eight)))
+    omega (
+      arith,
+      h .short,
+      length-take-le (piece-of .result .len) (piece-of .result .bytes) (omega (arith, h .short, h .eight)),
+    )
 
 add-t11 : tie.Need-add-t11
 add-t11 c =
@@ -45,8 +50,11 @@ returns c =
     let s = c .before .before .before .before .before .before .before .before .before .before .before .before in
     let piece-of = c .before .before .before .before .before .before .before .before .before .before .piece-of in
     let put-if = c .before .before .before .before .before .put-if in
-    let h = piece-is (piece-of .result) (s .args .e) (piece-of .ensures) in
-    (h .size (s .args .size), put-if .ensures ∙ ap (λ (l : List ℕ). putAt (s .args .out .now) (s .args .start + s .args .size .bytes) l) (h .taken))
+    let h = piece-is (piece-of .result) (s .args .e) (piece-of .ensures) in (
+      h .size (s .args .size),
+      put-if .ensures
+          ∙ ap (λ (l : List ℕ). putAt (s .args .out .now) (s .args .start + s .args .size .bytes) l) (h .taken),
+    )
 
 pub put-emit-spec : {M : Type 1} → statement M
 put-emit-spec =

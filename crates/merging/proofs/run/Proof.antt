@@ -5,7 +5,8 @@ use borrow.Author.Tests.{not-true, not-false}
 use Rattle.merging.specs.Steps.{lookMove}
 use Rattle.merging.specs.Walks.{topOf}
 use Rattle.merging.specs.Merging.{BothGathered}
-use Rattle.merging.proofs.RunLaws.{Bounded, bounded-step, SoFar, far-start, far-step, far-barred, far-done, far-out}
+use Rattle.merging.proofs.RunLaws.{Bounded, bounded-step, SoFar, far-start, far-step, far-barred, far-done}
+use Rattle.merging.proofs.RunLaws.{far-out}
 use native.Mathlib.Omega.{arith}
 use borrow.Author.Needs.{needs}
 use Rattle.merging.proofs.run.Statement.{statement}
@@ -14,7 +15,8 @@ use Rattle.merging.proofs.run.Tie as tie
 abbrev Inv-loop : tie.InvT-loop
 Inv-loop text out₀ n scratch tables g start w₀ size₀ left₀ out w size left =
     Bounded out₀ start out size left w
-    × (BothGathered text (take n out₀) scratch g tables → SoFar text (take n out₀) scratch out₀ n start size₀ left₀ w₀ out size left w)
+    × (BothGathered text (take n out₀) scratch g tables
+    → SoFar text (take n out₀) scratch out₀ n start size₀ left₀ w₀ out size left w)
 
 abbrev μ-loop : tie.MeasureT-loop
 μ-loop text out₀ n scratch tables g start w₀ size₀ left₀ out w size left = left
@@ -25,7 +27,8 @@ loop-holds c =
     let a = s .args in
     let r = a .course in (
       record { same-size = refl; fewer = s .pre .0 .3; deep = s .pre .0 .2; room = s .pre .1 .0 },
-      λ G. far-start (a .text .now) (a .scratch .now) (a .out .now) (a .n) (r .start) (r .begun) (r .fuel) (r .first) (s .pre .0 .0),
+      λ G. far-start (a .text .now) (a .scratch .now) (a .out .now) (a .n) (r .start) (r .begun)
+          (r .fuel) (r .first) (s .pre .0 .0),
     )
 
 same-length : tie.Need-same-length Inv-loop μ-loop
@@ -59,7 +62,8 @@ top-requires : tie.Need-top-requires Inv-loop μ-loop
 top-requires c κs = (omega (arith, c .before .if1 .left), c .before .before .before .loop .inv .0 .deep)
 
 look-requires : tie.Need-look-requires Inv-loop μ-loop
-look-requires c κs = c .before .before .before .before .before .before .before .before .before .before .before .pre .1 .1
+look-requires c κs =
+    c .before .before .before .before .before .before .before .before .before .before .before .pre .1 .1
 
 same-length-2 : tie.Need-same-length-2 Inv-loop μ-loop
 same-length-2 c = c .before .before .before .before .before .before .before .loop .inv .0 .same-size
@@ -105,7 +109,8 @@ loop-again c =
     let r = a .course in
     let k = c .before .before .before .before .before .before .before .look in
     let p = c .before .before .before .put-emit in
-    let t = c .before .before .before .before .before .before .before .before .before .before .before .loop-test .taken in (
+    let t =
+    c .before .before .before .before .before .before .before .before .before .before .before .loop-test .taken in (
       bounded-step (a .out .now) (r .start) (v .out) (v .size) (v .left) (v .w) (v .inv .0) t (k .result .emit)
           (p .last .0) (p .result) (c .moved .result) (p .ensures .0) (p .ensures .1) (c .moved .ensures .1),
       λ G. let e : k .result ≡ lookMove (a .text .now) (take (a .n) (a .out .now)) (a .scratch .now) (topOf (v .w)) =
@@ -127,7 +132,8 @@ returns-3 c =
     let a = s .args in
     let r = a .course in
     λ G. far-out (a .text .now) (take (a .n) (a .out .now)) (a .scratch .now) (a .out .now) (a .n) (r .start)
-    (r .begun) (r .fuel) (r .first) (v .out) (v .size) (v .left) (v .w) (v .inv .1 G) (omega (arith, c .loop-test .left))
+    (r .begun) (r .fuel) (r .first) (v .out) (v .size) (v .left) (v .w) (v .inv .1 G)
+    (omega (arith, c .loop-test .left))
 
 pub run-spec : {M : Type 1} → statement M
 run-spec =

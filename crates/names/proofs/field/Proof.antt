@@ -7,10 +7,13 @@ use Rattle.names.specs.Index.{definitionWidth}
 
 returns : tie.Need-returns
 returns c =
-    let s = c .before .before .before in
-    (c .wide2 .ensures .0 ∙ at-row definitionWidth (s .args .index .now) (s .args .p) (s .args .f) (s .pre .0), c .wide2 .ensures .1)
+    let s = c .before .before .before in (
+      c .wide2 .ensures .0 ∙ at-row definitionWidth (s .args .index .now) (s .args .p) (s .args .f) (s .pre .0),
+      c .wide2 .ensures .1,
+    )
 
 pub field-spec : {M : Type 1} → statement M
 field-spec =
     tie.close
-    (tie.spec (λ c. search needs) (λ c. search needs) (λ c. search needs) (λ c. search needs) (λ c κs. search needs) returns)
+    (tie.spec (λ c. search needs) (λ c. search needs) (λ c. search needs) (λ c. search needs)
+    (λ c κs. search needs) returns)

@@ -6,14 +6,16 @@ use Rattle.rules.specs.Declarations.{Def}
 use Rattle.names.specs.Index.{Known}
 use Rattle.names.specs.Chains.{Chains, keyOf}
 use Rattle.names.specs.References.{bytesOf}
-use Rattle.names.proofs.ChainLaws.{Behind, behind-start, behind-none, chain-within, chain-hit, chain-on, chain-up, key-below}
+use Rattle.names.proofs.ChainLaws.{Behind, behind-start, behind-none, chain-within, chain-hit, chain-on}
+use Rattle.names.proofs.ChainLaws.{chain-up, key-below}
 use native.Mathlib.Omega.{arith}
 use borrow.Author.Needs.{needs}
 use Rattle.names.proofs.find.Statement.{statement}
 use Rattle.names.proofs.find.Tie as tie
 
 abbrev Inv-loop : tie.InvT-loop
-Inv-loop text index chains count name low high p₀ p = (ks : List Def) → Known text ks index count → Chains ks chains → Behind ks (bytesOf text name) low high p
+Inv-loop text index chains count name low high p₀ p =
+    (ks : List Def) → Known text ks index count → Chains ks chains → Behind ks (bytesOf text name) low high p
 
 abbrev μ-loop : tie.MeasureT-loop
 μ-loop text index chains count name low high p₀ p = count + 1 - p
@@ -24,7 +26,8 @@ loop-holds c =
     let key-of = c .before .before .key-of in
     λ ks k z. behind-start ks (bytesOf (s .args .text .now) (s .args .name)) (s .args .low) (s .args .high) _
     (c .wide2 .ensures .0 ∙ ap (λ (i : ℕ). getD (s .args .chains .now) i 0) (key-of .ensures .0)
-    ∙ z .heads (keyOf (bytesOf (s .args .text .now) (s .args .name))) (key-below _ _ (key-of .ensures .0) (key-of .ensures .1)))
+    ∙ z .heads (keyOf (bytesOf (s .args .text .now) (s .args .name)))
+    (key-below _ _ (key-of .ensures .0) (key-of .ensures .1)))
 
 returns : tie.Need-returns Inv-loop μ-loop
 returns c =
@@ -66,7 +69,8 @@ returns-3 c =
           (c .before .wide22 .ensures .0))
           (chain-up (s .args .text .now) ks (s .args .index .now) (s .args .count) k (s .args .chains .now) z
           (bytesOf (s .args .text .now) (s .args .name)) (s .args .low) (s .args .high) (loop .p) (loop .inv ks k z)
-          (loop-test .taken) _ (is-hit .ensures) (if2 .left) (c .before .wide22 .result) (c .before .wide22 .ensures .0) (c .if3 .taken)),
+          (loop-test .taken) _ (is-hit .ensures) (if2 .left) (c .before .wide22 .result)
+          (c .before .wide22 .ensures .0) (c .if3 .taken)),
     )
 
 loop-again : tie.Need-loop-again Inv-loop μ-loop

@@ -10,7 +10,8 @@ returns : tie.Need-returns
 returns c =
     let start = c .before .before .before .before in (
       c .find .ensures .0,
-      λ s k z h. c .find .ensures .1 (known (s .decls)) k z ∙ at-hand s (bytesOf (start .args .text .now) (start .args .name)) (start .args .home) h,
+      λ s k z h. c .find .ensures .1 (known (s .decls)) k z
+          ∙ at-hand s (bytesOf (start .args .text .now) (start .args .name)) (start .args .home) h,
     )
 
 pub find-bare-spec : {M : Type 1} → statement M

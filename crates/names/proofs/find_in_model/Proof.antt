@@ -9,8 +9,11 @@ use Rattle.names.proofs.find_in_model.Tie as tie
 
 returns : tie.Need-returns
 returns c =
-    let start = c .before .before .before .before in
-    (c .find .ensures .0, λ s k z. c .find .ensures .1 (known (s .decls)) k z ∙ at-home s (bytesOf (start .args .text .now) (start .args .name)) none 0 refl)
+    let start = c .before .before .before .before in (
+      c .find .ensures .0,
+      λ s k z. c .find .ensures .1 (known (s .decls)) k z
+          ∙ at-home s (bytesOf (start .args .text .now) (start .args .name)) none 0 refl,
+    )
 
 pub find-in-model-spec : {M : Type 1} → statement M
 find-in-model-spec = tie.close (tie.spec (λ c κs. search needs) returns)

@@ -12,7 +12,8 @@ returns c =
     let start = c .before .before .before .before .before in (
       omega arith,
       λ s k z. topic-none (start .args .text .now) s (start .args .index .now) (start .args .count) k
-          (bytesOf (start .args .text .now) (start .args .name)) _ _ (c .before .find-in-model .ensures .1 s k z) (c .if1 .taken),
+          (bytesOf (start .args .text .now) (start .args .name)) _ _
+          (c .before .find-in-model .ensures .1 s k z) (c .if1 .taken),
     )
 
 returns-2 : tie.Need-returns-2

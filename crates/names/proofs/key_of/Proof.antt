@@ -10,7 +10,8 @@ use Rattle.names.proofs.key_of.Statement.{statement}
 use Rattle.names.proofs.key_of.Tie as tie
 
 abbrev Inv-loop : tie.InvT-loop
-Inv-loop text offset len k₀ i₀ k i = (i ≤ len) × (k < keys) × (keyOf (part text offset len) ≡ keyFrom k (part text (offset + i) (len - i)))
+Inv-loop text offset len k₀ i₀ k i =
+    (i ≤ len) × (k < keys) × (keyOf (part text offset len) ≡ keyFrom k (part text (offset + i) (len - i)))
 
 abbrev μ-loop : tie.MeasureT-loop
 μ-loop text offset len k₀ i₀ k i = len - i
@@ -25,16 +26,19 @@ loop-again c =
     let loop-test = c .before .before .loop-test in (
       omega arith,
       omega arith,
-      loop .inv .2 ∙ key-next (s .args .text .now) (s .args .name .offset) (s .args .name .len) (loop .i) (loop .k) (loop-test .taken) (s .pre)
+      loop .inv .2 ∙ key-next (s .args .text .now) (s .args .name .offset) (s .args .name .len) (loop .i)
+          (loop .k) (loop-test .taken) (s .pre)
           ∙ ap (λ (b : ℕ). keyFrom ((loop .k * 31 + b) % keys)
-          (part (s .args .text .now) (s .args .name .offset + (loop .i + 1)) (s .args .name .len - (loop .i + 1)))) (sym (c .wide .ensures .0)),
+          (part (s .args .text .now) (s .args .name .offset + (loop .i + 1)) (s .args .name .len - (loop .i + 1))))
+          (sym (c .wide .ensures .0)),
     )
 
 returns : tie.Need-returns Inv-loop μ-loop
 returns c =
     let s = c .before .before .before in (
       sym (c .before .loop .inv .2
-          ∙ key-end (s .args .text .now) (s .args .name .offset) (s .args .name .len) (c .before .loop .i) (c .before .loop .k) (omega arith)),
+          ∙ key-end (s .args .text .now) (s .args .name .offset) (s .args .name .len) (c .before .loop .i)
+          (c .before .loop .k) (omega arith)),
       c .before .loop .inv .1,
     )
 

@@ -1,6 +1,7 @@
 use mathlib.Core.Path.{refl}
 use mathlib.Core.Option.{none}
-use Rattle.names.proofs.BaseLaws.{bare-inside, two-inside, three-inside, bare-named, two-named, two-other, three-named, three-other}
+use Rattle.names.proofs.BaseLaws.{bare-inside, two-inside, three-inside, bare-named, two-named, two-other}
+use Rattle.names.proofs.BaseLaws.{three-named, three-other}
 use native.Mathlib.Omega.{arith}
 use borrow.Author.Needs.{needs}
 use Rattle.names.proofs.resolve.Statement.{statement}
@@ -41,7 +42,8 @@ find-in-topic-requires : tie.Need-find-in-topic-requires
 find-in-topic-requires c κs =
     let s = c .before .before .before .before .before .before .before .before in
     let r3 = c .before .before .before .r3 in
-    let (m, p, n) = three-inside (s .args .text .now) (s .args .r) _ _ _ (r3 .given .1) (s .pre .1) in (p, n, omega arith, omega arith)
+    let (m, p, n) = three-inside (s .args .text .now) (s .args .r) _ _ _ (r3 .given .1) (s .pre .1) in
+    (p, n, omega arith, omega arith)
 
 returns-2 : tie.Need-returns-2
 returns-2 c =
@@ -56,8 +58,11 @@ returns-2 c =
 returns-3 : tie.Need-returns-3
 returns-3 c =
     let start = c .before .before .before .before .before .before .before in
-    let r = c .before .before .r in
-    (c .find-bare .ensures .0, λ s k z h m. bare-named (start .args .text .now) (start .args .r) s _ _ (r .given .1) (c .find-bare .ensures .1 s k z h))
+    let r = c .before .before .r in (
+      c .find-bare .ensures .0,
+      λ s k z h m.
+          bare-named (start .args .text .now) (start .args .r) s _ _ (r .given .1) (c .find-bare .ensures .1 s k z h),
+    )
 
 returns-4 : tie.Need-returns-4
 returns-4 c =

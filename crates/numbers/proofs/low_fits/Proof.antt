@@ -10,14 +10,23 @@ use Rattle.numbers.proofs.low_fits.Statement.{statement}
 use Rattle.numbers.proofs.low_fits.Tie as tie
 
 rounded-requires : tie.Need-rounded-requires
-rounded-requires c κs = let s = c .before .before in (rw (toZ-ofZ (s .fits .v)) (s .pre .1 .0), ten-range _ (omega arith) (c .ten-to .ensures))
+rounded-requires c κs =
+    let s = c .before .before in
+    (rw (toZ-ofZ (s .fits .v)) (s .pre .1 .0), ten-range _ (omega arith) (c .ten-to .ensures))
 
 returns : tie.Need-returns
 returns c =
     let t = c .before in
     let f = t .before .before .fits in
     let r = c .rounded in
-    rw (toZ-ofZ (f .bound), kept (r .result) (r .ok), r .ensures, toZ-ofZ (f .v), t .ten-to .ensures, lt-ltb _ _ (t .before .if1 .taken))
+    rw (
+      toZ-ofZ (f .bound),
+      kept (r .result) (r .ok),
+      r .ensures,
+      toZ-ofZ (f .v),
+      t .ten-to .ensures,
+      lt-ltb _ _ (t .before .if1 .taken),
+    )
 
 returns-2 : tie.Need-returns-2
 returns-2 c =
@@ -25,7 +34,14 @@ returns-2 c =
     let s = t .before .before in
     let b = lowered (s .args .bound) (s .fits .bound) (s .pre .1 .1) in
     let d = c .floor-div in
-    rw (toZ-ofZ (s .fits .v), kept (d .result) (d .ok), d .ensures, b .1, t .ten-to2 .ensures, le-ltb _ _ (t .before .if1 .left))
+    rw (
+      toZ-ofZ (s .fits .v),
+      kept (d .result) (d .ok),
+      d .ensures,
+      b .1,
+      t .ten-to2 .ensures,
+      le-ltb _ _ (t .before .if1 .left),
+    )
 
 pub low-fits-spec : {M : Type 1} → statement M
 low-fits-spec =
@@ -37,5 +53,6 @@ low-fits-spec =
     returns
     (λ c κs. search needs)
     (λ c. let s = c .before .before in lowered (s .args .bound) (s .fits .bound) (s .pre .1 .1) .0)
-    (λ c κs. let a = c .before .before .args in omega (arith, ten-range (a .base-decimals - a .decimals) (omega arith) (c .ten-to2 .ensures)))
+    (λ c κs. let a = c .before .before .args in
+    omega (arith, ten-range (a .base-decimals - a .decimals) (omega arith) (c .ten-to2 .ensures)))
     returns-2)

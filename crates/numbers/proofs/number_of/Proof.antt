@@ -7,7 +7,9 @@ use Rattle.numbers.proofs.number_of.Statement.{statement}
 use Rattle.numbers.proofs.number_of.Tie as tie
 
 cast-n : tie.Need-cast-n
-cast-n c = let s = c .before .before .before in record { sfits = omega (arith, written-small (s .args .part .now) (s .pre)) }
+cast-n c =
+    let s = c .before .before .before in
+    record { sfits = omega (arith, written-small (s .args .part .now) (s .pre)) }
 
 sub-value : tie.Need-sub-t6
 sub-value c =

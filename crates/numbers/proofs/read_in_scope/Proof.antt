@@ -9,7 +9,9 @@ use Rattle.numbers.proofs.read_in_scope.Statement.{statement}
 use Rattle.numbers.proofs.read_in_scope.Tie as tie
 
 rounded-requires : tie.Need-rounded-requires
-rounded-requires c κs = let s = c .before .before in (rw (toZ-ofZ (s .fits .value)) (s .pre .2), ten-range _ (omega arith) (c .ten-to .ensures))
+rounded-requires c κs =
+    let s = c .before .before in
+    (rw (toZ-ofZ (s .fits .value)) (s .pre .2), ten-range _ (omega arith) (c .ten-to .ensures))
 
 returns : tie.Need-returns
 returns c =
@@ -46,7 +48,8 @@ returns-3 c =
     let k = le-div-iff-mul-le (ten-range _ (omega arith) p .0) .0 (i .if2 .left) in
     let e = rw (toZ-ofZ (s .fits .value)) at (z .size .ensures) in
     let w = rw (toZ-ofZ (s .fits .value)) at (c .times .ensures) in
-    rw (kept (c .times .result) (c .times .ok)) (scales (s .args .value) _ _ (s .pre) (t .before .if1 .left) p (rw (← e) (omega arith)) w)
+    rw (kept (c .times .result) (c .times .ok))
+    (scales (s .args .value) _ _ (s .pre) (t .before .if1 .left) p (rw (← e) (omega arith)) w)
 
 pub read-in-scope-spec : {M : Type 1} → statement M
 read-in-scope-spec =

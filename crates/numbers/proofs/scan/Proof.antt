@@ -1,4 +1,5 @@
--- The invariant: the digits and decimals of the whole are those so far with the bytes to come, for whose digits there is room.
+-- The invariant: the digits and decimals of the whole are those so far with the bytes to come, for
+-- whose digits there is room.
 use Prim.Native.Nat.{_-_, _≤_}
 use lib.ListN.{length, drop, drop-of-length-le}
 use borrow.Author.Needs.{needs}
@@ -22,13 +23,17 @@ loop-again : tie.Need-loop-again Inv-loop μ-loop
 loop-again c =
     let d = c .before in
     let t = d .before .before in
-    let l = t .before .loop in
-    (search needs, scanned-next _ (l .i) (l .value) (l .decimals) (t .loop-test .taken) (l .inv .1) (d .with-digit .ensures) (c .with-dot .ensures))
+    let l = t .before .loop in (
+      search needs,
+      scanned-next _ (l .i) (l .value) (l .decimals) (t .loop-test .taken) (l .inv .1)
+          (d .with-digit .ensures) (c .with-dot .ensures),
+    )
 
 returns : tie.Need-returns Inv-loop μ-loop
 returns c =
     let l = c .before in
-    scanned-whole (rw (drop-of-length-le (l .before .before .args .part .now) (c .loop-test .left)) at (l .loop .inv .1))
+    scanned-whole
+    (rw (drop-of-length-le (l .before .before .args .part .now) (c .loop-test .left)) at (l .loop .inv .1))
 
 pub scan-spec : {M : Type 1} → statement M
 scan-spec =

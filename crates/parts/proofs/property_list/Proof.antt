@@ -37,7 +37,8 @@ loop-again c =
     let with = c .before .before .before .before .with in
     let expect = c .before .before .before .expect in
     loop-on (s .args .text .now) (s .args .attribute) _ _ _ _ _ _ _ (loop .inv)
-    (sym (is-property .ensures) ∙ if1 .taken) (expect .ensures) (c .before .if2 .taken) (c .expect2 .ensures) (with .ensures)
+    (sym (is-property .ensures) ∙ if1 .taken) (expect .ensures) (c .before .if2 .taken)
+    (c .expect2 .ensures) (with .ensures)
 
 returns : tie.Need-returns Inv-loop μ-loop
 returns c =
@@ -49,7 +50,8 @@ returns c =
     let with = c .before .before .before .before .with in
     let expect = c .before .before .before .expect in
     list-end (s .args .text .now) (s .args .attribute) _ _ _ _ (loop .inv) (none-written .ensures)
-    (sym (is-property .ensures) ∙ if1 .taken) (with .ensures) (expect .ensures) (c .before .if2 .left) (c .expect3 .ensures)
+    (sym (is-property .ensures) ∙ if1 .taken) (with .ensures) (expect .ensures)
+    (c .before .if2 .left) (c .expect3 .ensures)
 
 returns-2 : tie.Need-returns-2 Inv-loop μ-loop
 returns-2 c =

@@ -23,7 +23,8 @@ returns-2 c =
     let expect2 = c .before .before .before .before .before .expect2 in
     let expect3 = c .before .before .before .before .expect3 in
     let if2 = c .before .before .if2 in
-    two-parts (expect .ensures) (c .before .name-of4 .ensures) (if1 .taken) (expect2 .ensures) (expect3 .ensures) (c .name-of5 .ensures) (if2 .left)
+    two-parts (expect .ensures) (c .before .name-of4 .ensures) (if1 .taken) (expect2 .ensures) (expect3 .ensures)
+    (c .name-of5 .ensures) (if2 .left)
 
 returns-3 : tie.Need-returns-3
 returns-3 c = one-part (c .before .before .before .expect .ensures) (c .name-of6 .ensures) (c .before .if1 .left)

@@ -14,10 +14,12 @@ abbrev Inv-loop : tie.InvT-loop
 Inv-loop text book₀ work₀ hand₀ scratch₀ tables₀ stage₀ book work hand scratch tables stage =
     (length book ≡ length book₀) × (length work ≡ length work₀) × (length hand ≡ length hand₀)
     × (length scratch ≡ length scratch₀) × (length tables ≡ length tables₀)
-    × Suffice (length text) (stage .state .listing .layout) (length work₀) × Runs text (length book₀) stage book work hand
+    × Suffice (length text) (stage .state .listing .layout) (length work₀)
+    × Runs text (length book₀) stage book work hand
 
 abbrev μ-loop : tie.MeasureT-loop
-μ-loop text book₀ work₀ hand₀ scratch₀ tables₀ stage₀ book work hand scratch tables stage = length text - stage .next .place
+μ-loop text book₀ work₀ hand₀ scratch₀ tables₀ stage₀ book work hand scratch tables stage =
+    length text - stage .next .place
 
 loop-holds : tie.Need-loop-holds Inv-loop μ-loop
 loop-holds c =
@@ -99,8 +101,15 @@ loop-again c =
     let step = back .before .before .before .step in
     let i = back .before .before .before .before .before .before .before .before .before .loop .inv in
     let k = back .before .before .before .step .kept in
-    let (R, p, q, e) = on-turn _ _ _ _ _ _ _ _ _ (i .0) (c .before .t2 .given .1) (step .ensures) in
-    (k .1 .0 ∙ i .0, k .1 .1 .0 ∙ i .1, k .1 .1 .1 .0 ∙ i .2, k .1 .1 .1 .1 .0 ∙ i .3, k .1 .1 .1 .1 .1 .0 ∙ i .4, suffices refl e (i .5), R)
+    let (R, p, q, e) = on-turn _ _ _ _ _ _ _ _ _ (i .0) (c .before .t2 .given .1) (step .ensures) in (
+      k .1 .0 ∙ i .0,
+      k .1 .1 .0 ∙ i .1,
+      k .1 .1 .1 .0 ∙ i .2,
+      k .1 .1 .1 .1 .0 ∙ i .3,
+      k .1 .1 .1 .1 .1 .0 ∙ i .4,
+      suffices refl e (i .5),
+      R,
+    )
 
 pub run-spec : {M : Type 1} → statement M
 run-spec =

@@ -15,10 +15,15 @@ read-unit-requires c κs =
 returns : tie.Need-returns
 returns c =
     let back = c .before .before .before .before .before .before .before .before .before .before in
-    let s = back .before .before .before .before .before .before .before in
-    let read-unit = c .before .before .before .before .before .before .before .read-unit in
-    let s2 = c .before .before .before .s2 in
-    over-ends (s .pre .1 .1) (read-unit .ensures) (s2 .given .1) (sym (c .before .is-over .ensures) ∙ c .if1 .taken)
+    let s = back .before .before .before .before .before .before .before .before in
+    let read-unit = c .before .before .before .before .before .before .before .before .read-unit in
+    let s2 = c .before .before .before .before .s2 in
+    let is-over = c .before .before .is-over in
+    let a = s .args in
+    let R = s .pre .1 .1 in
+    over-ends R (read-unit .ensures) (s2 .given .1) (sym (is-over .ensures) ∙ c .before .if1 .taken)
+    (c .accepted .ensures (a .g .state) (R .state) (a .text .now) (a .book .now) (a .work .now) (a .hand .now) refl
+    (R .keeps))
 
 judge-requires : tie.Need-judge-requires
 judge-requires c κs =
@@ -30,8 +35,11 @@ judge-requires c κs =
     let if1 = c .before .before .before .before .before .if1 in
     let R = s .pre .1 .1 in
     let G = given R (read-unit .ensures) (s .pre .0 .text-short) (s2 .given .1) (sym (is-over .ensures) ∙ if1 .left) in
-    let ample = s .pre .1 .0 .0 (s .args .g .state) refl (omega (arith, R .few, R .within)) (omega (arith, few-records R, s .pre .0 .book-short)) in
-    (loaned refl (read-unit .kept .1 .0) refl (s .pre .0), ((ample, s .pre .1 .0 .1), (R .state, G .unit, R .keeps, G .comes)))
+    let ample = s .pre .1 .0 .0 (s .args .g .state) refl (omega (arith, R .few, R .within))
+    (omega (arith, few-records R, s .pre .0 .book-short)) in (
+      loaned refl (read-unit .kept .1 .0) refl (s .pre .0),
+      ((ample, s .pre .1 .0 .1), (R .state, G .unit, R .keeps, G .comes)),
+    )
 
 returns-2 : tie.Need-returns-2
 returns-2 c =
@@ -61,6 +69,7 @@ step-spec =
     read-unit-requires
     (λ c. search needs)
     (λ c. search needs)
+    (λ c κs. search needs)
     (λ c κs. search needs)
     (λ c. search needs)
     returns

@@ -10,8 +10,11 @@ use Rattle.state.proofs.extends.Tie as tie
 named-requires : tie.Need-named-requires
 named-requires c κs =
     let s = c .before .before .before .before .before in
-    let (b, e, f) = s .pre .1 in
-    (s .pre .0 .0, extends-inside (s .args .text .now) b (s .args .base) _ (c .before .base .given .1) e f, s .pre .0 .1)
+    let (b, e, f) = s .pre .1 in (
+      s .pre .0 .0,
+      extends-inside (s .args .text .now) b (s .args .base) _ (c .before .base .given .1) e f,
+      s .pre .0 .1,
+    )
 
 returns : tie.Need-returns
 returns c =

@@ -10,7 +10,8 @@ returns c = λ t ks n d b w k es q. ruling-none t ks _ n k d b _ _ w q (c .if1 .
 returns-2 : tie.Need-returns-2
 returns-2 c =
     let if1 = c .before .before .if1 in
-    λ t ks n d b w k es q. ruling-sort t ks _ n k d b _ _ w q (if1 .left) _ (c .before .sort-of .ensures t) _ es (c .if2 .taken)
+    λ t ks n d b w k es q.
+    ruling-sort t ks _ n k d b _ _ w q (if1 .left) _ (c .before .sort-of .ensures t) _ es (c .if2 .taken)
 
 returns-3 : tie.Need-returns-3
 returns-3 c =
@@ -19,7 +20,8 @@ returns-3 c =
     let if2 = c .before .before .before .if2 in
     let flags-of = c .before .before .flags-of in
     λ t ks n d b w k es q. ruling-final t ks _ n k d b _ _ w q (if1 .left) _ (sort-of .ensures t) _ es (if2 .left) _
-    (λ d y. c .before .is-final .ensures (d .abstract) (d .final) false (d .mandatory) (flags-of .ensures t d y)) (c .if3 .taken)
+    (λ d y. c .before .is-final .ensures (d .abstract) (d .final) false (d .mandatory) (flags-of .ensures t d y))
+    (c .if3 .taken)
 
 returns-4 : tie.Need-returns-4
 returns-4 c =
@@ -28,7 +30,8 @@ returns-4 c =
     let if2 = c .before .before .before .if2 in
     let flags-of = c .before .before .flags-of in
     λ t ks n d b w k es q. ruling-fine t ks _ n k d b _ _ w q (if1 .left) _ (sort-of .ensures t) _ es (if2 .left) _
-    (λ d y. c .before .is-final .ensures (d .abstract) (d .final) false (d .mandatory) (flags-of .ensures t d y)) (c .if3 .left)
+    (λ d y. c .before .is-final .ensures (d .abstract) (d .final) false (d .mandatory) (flags-of .ensures t d y))
+    (c .if3 .left)
 
 pub extends-ruling-spec : {M : Type 1} → statement M
 extends-ruling-spec =

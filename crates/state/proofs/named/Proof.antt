@@ -17,8 +17,12 @@ resolve-requires c κs =
     let s = c .before .before .before .before .before in
     let p = s .pre in
     let st = s .args .st in
-    let w = s .args .work .now in
-    (p .0, p .1, definition-rows st w (p .2) (st .listing .count) (omega arith), links st w (p .2) (st .listing .count) (omega arith))
+    let w = s .args .work .now in (
+      p .0,
+      p .1,
+      definition-rows st w (p .2) (st .listing .count) (omega arith),
+      links st w (p .2) (st .listing .count) (omega arith),
+    )
 
 returns : tie.Need-returns
 unfolding indexIn chainsIn

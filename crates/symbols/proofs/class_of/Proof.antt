@@ -1,8 +1,9 @@
 use mathlib.Core.Path.{refl}
 use mathlib.Core.List.{List, [], _∷_}
 use Prim.Native.Nat.{ℕ}
-use Rattle.symbols.specs.declared.Class.the-variants.{Letter, Digit, Sign, Quote, Comment, Punctuation, Separator, Other}
-use Rattle.symbols.specs.Scans.{classOf}
+use Rattle.symbols.specs.declared.Class.the-variants.{Letter, Digit, Sign, Quote, Comment, Punctuation, Separator}
+use Rattle.symbols.specs.declared.Class.the-variants.{Other}
+use Rattle.symbols.specs.Begins.{classOf}
 use Rattle.symbols.proofs.ClassLaws.{class-is, class-key}
 use native.Mathlib.Omega.{arith}
 use Rattle.symbols.proofs.class_of.Statement.{statement}

@@ -2,7 +2,7 @@ use mathlib.Core.Path.{_≡_, sym, _∙_}
 use Prim.Native.Nat.{_+_, _-_, _≤_, _<_}
 use lib.ListN.{length, drop}
 use Rattle.rules.specs.Symbols.{quote}
-use Rattle.symbols.specs.Scans.{stepAt}
+use Rattle.scans.specs.Scans.{stepAt}
 use Rattle.symbols.proofs.StringLaws.{step-in, string-closed, string-bad, string-open, string-on}
 use native.Mathlib.Omega.{arith}
 use borrow.Author.Needs.{needs}
@@ -10,7 +10,8 @@ use Rattle.symbols.proofs.string.Statement.{statement}
 use Rattle.symbols.proofs.string.Tie as tie
 
 abbrev Inv-loop : tie.InvT-loop
-Inv-loop text at i₀ i = (at < i) × (i ≤ length text) × (quote (drop (at + 1) text) 0 0 ≡ quote (drop i text) 0 (i - (at + 1)))
+Inv-loop text at i₀ i =
+    (at < i) × (i ≤ length text) × (quote (drop (at + 1) text) 0 0 ≡ quote (drop i text) 0 (i - (at + 1)))
 
 abbrev μ-loop : tie.MeasureT-loop
 μ-loop text at i₀ i = length text - i
@@ -24,7 +25,8 @@ returns : tie.Need-returns Inv-loop μ-loop
 returns c =
     let a = c .before .before .before .before .before .before .args in
     let v = c .before .before .before .before .loop in
-    c .make .ensures ∙ sym (string-closed (a .text .now) (a .at) (v .i) (omega arith) (v .inv .2) (omega arith) (c .before .if1 .taken))
+    c .make .ensures
+    ∙ sym (string-closed (a .text .now) (a .at) (v .i) (omega arith) (v .inv .2) (omega arith) (c .before .if1 .taken))
 
 returns-2 : tie.Need-returns-2 Inv-loop μ-loop
 returns-2 c =
@@ -33,7 +35,8 @@ returns-2 c =
     let a = c .before .before .before .before .before .before .before .before .args in
     let v = c .before .before .before .before .before .before .loop in
     c .faulty .ensures
-    ∙ sym (string-bad (a .text .now) (a .at) (v .i) (omega arith) (v .inv .2) (omega arith) (if1 .left) (sym (step .ensures) ∙ c .before .if2 .taken))
+    ∙ sym (string-bad (a .text .now) (a .at) (v .i) (omega arith) (v .inv .2) (omega arith) (if1 .left)
+    (sym (step .ensures) ∙ c .before .if2 .taken))
 
 add-i-2 : tie.Need-add-i-2 Inv-loop μ-loop
 add-i-2 c =

@@ -14,8 +14,10 @@ returns : tie.Need-returns
 returns c =
     let a = c .before .before .before .before .args in
     let e = c .before .before .word-end in
-    let l : a .at + (e .result - a .at) ≤ length (a .text .now) = omega (arith, e .ensures, run-le isWordByte (a .text .now) (a .at + 1) (omega arith)) in
-    rw (← e .ensures) (c .make .ensures ∙ sym (word-large (a .text .now) (a .at) (e .result - a .at) l (c .before .if1 .taken)))
+    let l : a .at + (e .result - a .at)
+    ≤ length (a .text .now) = omega (arith, e .ensures, run-le isWordByte (a .text .now) (a .at + 1) (omega arith)) in
+    rw (← e .ensures)
+    (c .make .ensures ∙ sym (word-large (a .text .now) (a .at) (e .result - a .at) l (c .before .if1 .taken)))
 
 word-code-requires : tie.Need-word-code-requires
 word-code-requires c κs =
@@ -28,9 +30,11 @@ returns-2 c =
     let word-code = c .before .before .word-code in
     let a = c .before .before .before .before .before .before .args in
     let e = c .before .before .before .before .word-end in
-    let l : a .at + (e .result - a .at) ≤ length (a .text .now) = omega (arith, e .ensures, run-le isWordByte (a .text .now) (a .at + 1) (omega arith)) in
+    let l : a .at + (e .result - a .at)
+    ≤ length (a .text .now) = omega (arith, e .ensures, run-le isWordByte (a .text .now) (a .at + 1) (omega arith)) in
     rw (← e .ensures)
-    (c .make2 .ensures ∙ sym (word-reserved (a .text .now) (a .at) (e .result - a .at) l (if1 .left) (sym (word-code .ensures) ∙ c .before .if2 .taken)))
+    (c .make2 .ensures ∙ sym (word-reserved (a .text .now) (a .at) (e .result - a .at) l (if1 .left)
+    (sym (word-code .ensures) ∙ c .before .if2 .taken)))
 
 returns-3 : tie.Need-returns-3
 returns-3 c =
@@ -38,11 +42,13 @@ returns-3 c =
     let a = c .before .before .before .before .before .before .args in
     let e = c .before .before .before .before .word-end in
     let k = c .before .before .word-code in
-    let l : a .at + (e .result - a .at) ≤ length (a .text .now) = omega (arith, e .ensures, run-le isWordByte (a .text .now) (a .at + 1) (omega arith)) in
+    let l : a .at + (e .result - a .at)
+    ≤ length (a .text .now) = omega (arith, e .ensures, run-le isWordByte (a .text .now) (a .at + 1) (omega arith)) in
     rw (← e .ensures)
     (c .make3 .ensures
     ∙ ap (λ x. made x 5 (a .at) (e .result - a .at)) (k .ensures)
-    ∙ sym (word-other (a .text .now) (a .at) (e .result - a .at) l (if1 .left) (λ q. c .before .if2 .left (k .ensures ∙ q))))
+    ∙ sym
+    (word-other (a .text .now) (a .at) (e .result - a .at) l (if1 .left) (λ q. c .before .if2 .left (k .ensures ∙ q))))
 
 pub word-spec : {M : Type 1} → statement M
 word-spec =

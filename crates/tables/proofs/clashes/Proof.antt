@@ -15,7 +15,8 @@ returns c =
     λ es F N. record {
       says = found-old (c .before .seek .result) _
           (c .before .seek .ensures es (a .at) F
-          ∙ ap (λ (n : Part). seekIn (a .text .now) (a .s .now) (a .list) n es) (as-written (written-name .ensures))) (c .if1 .taken);
+          ∙ ap (λ (n : Part). seekIn (a .text .now) (a .s .now) (a .list) n es) (as-written (written-name .ensures)))
+          (c .if1 .taken);
       more = λ e. never (sym e);
     }
 
@@ -28,7 +29,8 @@ returns-2 c =
     let a = c .before .before .before .before .before .before .before .before .before .before .before .args in
     λ es F N. record {
       says = found-new (seek .result) _
-          (seek .ensures es (a .at) F ∙ ap (λ (n : Part). seekIn (a .text .now) (a .s .now) (a .list) n es) (as-written (written-name .ensures))) (if1 .left);
+          (seek .ensures es (a .at) F ∙ ap (λ (n : Part). seekIn (a .text .now) (a .s .now) (a .list) n es)
+          (as-written (written-name .ensures))) (if1 .left);
       more = λ e. enter .ensures es F N;
     }
 

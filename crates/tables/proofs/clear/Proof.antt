@@ -24,8 +24,11 @@ slice-write-table c = omega (arith, c .before .loop .inv .1)
 
 loop-again : tie.Need-loop-again Inv-loop μ-loop
 loop-again c =
-    let v = c .before .loop in
-    (omega arith, length-set (v .table) (v .i) 0 ∙ v .inv .1, zero-more (v .table) (v .i) (v .inv .2) (omega (arith, v .inv .1)))
+    let v = c .before .loop in (
+      omega arith,
+      length-set (v .table) (v .i) 0 ∙ v .inv .1,
+      zero-more (v .table) (v .i) (v .inv .2) (omega (arith, v .inv .1)),
+    )
 
 same-length : tie.Need-same-length Inv-loop μ-loop
 same-length c = c .before .loop .inv .1

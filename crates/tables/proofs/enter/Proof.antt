@@ -27,7 +27,8 @@ returns c =
     λ es F N. filled-more (a .text .now) (a .s .now) (a .g) (a .table .now) (s .pre .0) (a .list) (a .at)
     (c .before .key-of .result) (slot-of .result) N
     (c .before .key-of .ensures .0
-    ∙ ap (keyOf (a .text .now) (a .g .keys) (a .list)) (as-written (written-name .ensures))) (c .before .key-of .ensures .1) (slot-of .ensures) es F
+    ∙ ap (keyOf (a .text .now) (a .g .keys) (a .list)) (as-written (written-name .ensures)))
+    (c .before .key-of .ensures .1) (slot-of .ensures) es F
 
 returns-2 : tie.Need-returns-2
 returns-2 c = λ es F N. absurd (omega (arith, N .room, c .before .slot-of .ensures, c .if1 .left))

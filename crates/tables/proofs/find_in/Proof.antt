@@ -10,7 +10,8 @@ use Rattle.tables.proofs.find_in.Tie as tie
 returns : tie.Need-returns
 returns c =
     let a = c .before .before .before .before .before .args in
-    λ G. found-hit (a .text .now) (a .s .now) (a .g) (a .table .now) (a .list) (a .name) (c .before .seek .result) (c .before .seek .ensures) G (c .if1 .taken)
+    λ G. found-hit (a .text .now) (a .s .now) (a .g) (a .table .now) (a .list) (a .name) (c .before .seek .result)
+    (c .before .seek .ensures) G (c .if1 .taken)
 
 returns-2 : tie.Need-returns-2
 returns-2 c =

@@ -20,7 +20,8 @@ returns c =
       some = omega arith;
       small = omega arith;
       room = λ t e u.
-          let q = list-past t (s .args .s .now) e (s .args .at) (c .before .list-end .result) (c .before .list-end .ensures .0) u in
+          let q = list-past t (s .args .s .now) e (s .args .at) (c .before .list-end .result)
+          (c .before .list-end .ensures .0) u in
           (omega arith, omega arith);
     }
 

@@ -27,9 +27,11 @@ loop-again c =
     let a = s .args in (
       omega arith,
       omega arith,
-      loop .inv .2 ∙ hash-next (a .text .now) (a .name .start) (a .name .len) (loop .i) (loop .k) (loop-test .taken) (s .pre)
+      loop .inv .2
+          ∙ hash-next (a .text .now) (a .name .start) (a .name .len) (loop .i) (loop .k) (loop-test .taken) (s .pre)
           ∙ ap (λ (b : ℕ). hashFrom ((loop .k * 131 + b) % 16777216)
-          (part (a .text .now) (a .name .start + (loop .i + 1)) (a .name .len - (loop .i + 1)))) (sym (c .wide .ensures .0)),
+          (part (a .text .now) (a .name .start + (loop .i + 1)) (a .name .len - (loop .i + 1))))
+          (sym (c .wide .ensures .0)),
     )
 
 returns : tie.Need-returns Inv-loop μ-loop

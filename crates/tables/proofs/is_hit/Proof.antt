@@ -32,7 +32,8 @@ returns c =
     let a = c .before .before .before .before .before .before .before .before .before .before .before .args in
     c .same-name .ensures ∙ ap (sameNames (a .text .now) (a .name)) (as-written (c .before .written-name .ensures))
     ∙ hit-name (a .text .now) (a .s .now) (a .g) (a .table .now) (a .p) (a .list) (a .name)
-    (ap (λ (m : ℕ). eqb m (a .list + 1)) (sym (cell .ensures .0)) ∙ sym (is-number .ensures) ∙ if1 .taken) (sym (is-element .ensures) ∙ if2 .taken)
+    (ap (λ (m : ℕ). eqb m (a .list + 1)) (sym (cell .ensures .0)) ∙ sym (is-number .ensures) ∙ if1 .taken)
+    (sym (is-element .ensures) ∙ if2 .taken)
 
 returns-2 : tie.Need-returns-2
 returns-2 c =
@@ -41,7 +42,8 @@ returns-2 c =
     let if1 = c .before .before .if1 in
     let a = c .before .before .before .before .before .before .before .before .before .args in
     hit-element (a .text .now) (a .s .now) (a .g) (a .table .now) (a .p) (a .list) (a .name)
-    (ap (λ (m : ℕ). eqb m (a .list + 1)) (sym (cell .ensures .0)) ∙ sym (is-number .ensures) ∙ if1 .taken) (sym (c .before .is-element .ensures) ∙ c .if2 .left)
+    (ap (λ (m : ℕ). eqb m (a .list + 1)) (sym (cell .ensures .0)) ∙ sym (is-number .ensures) ∙ if1 .taken)
+    (sym (c .before .is-element .ensures) ∙ c .if2 .left)
 
 returns-3 : tie.Need-returns-3
 returns-3 c =

@@ -74,7 +74,8 @@ loop-again c =
     let a = c .before .before .before .before .before .before .before .before .before .before .before .before .args in (
       c .before .cell .ensures .1,
       λ es p F. behind-on (a .text .now) (a .s .now) (a .g) (a .table .now) (a .list) (a .name) es (loop .x)
-          (loop .inv .1 es p F) (loop-test .taken) (sym (is-hit .ensures) ∙ if1 .left) (c .before .cell .result) (c .before .cell .ensures .0),
+          (loop .inv .1 es p F) (loop-test .taken) (sym (is-hit .ensures) ∙ if1 .left) (c .before .cell .result)
+          (c .before .cell .ensures .0),
     )
 
 returns-3 : tie.Need-returns-3 Inv-loop μ-loop

@@ -13,7 +13,8 @@ returns c =
     let d = c .before .before .d in
     let args = back .before .before .before .args in
     λ w e s. c .broken-if .ensures
-    ∙ element-listed (args .text .now) (args .scratch .now) _ (sym (is-listed .ensures) ∙ if1 .taken) (λ g k. sym (d .given .1) ∙ doubled .ensures g k) w e s
+    ∙ element-listed (args .text .now) (args .scratch .now) _ (sym (is-listed .ensures) ∙ if1 .taken)
+    (λ g k. sym (d .given .1) ∙ doubled .ensures g k) w e s
 
 returns-2 : tie.Need-returns-2
 returns-2 c =

@@ -1,5 +1,5 @@
 use mathlib.Core.Path.{sym, _∙_}
-use Rattle.types.proofs.ValueLaws.{meant-valued}
+use Rattle.types.proofs.MeaningLaws.{meant-valued}
 use Rattle.numbers.proofs.SignedLaws.{kept}
 use native.Mathlib.Omega.{arith}
 use borrow.Author.Needs.{needs}

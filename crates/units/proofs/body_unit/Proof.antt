@@ -1,4 +1,5 @@
-use Rattle.units.proofs.StepLaws.{body-topic, body-class, body-domains, body-domain, body-close, mark-steps, where-place}
+use Rattle.units.proofs.StepLaws.{body-topic, body-class, body-domains, body-domain, body-close, mark-steps}
+use Rattle.units.proofs.StepLaws.{where-place}
 use Rattle.readers.proofs.CodeLaws.{is-word}
 use Rattle.units.specs.declared.Where.the-variants.{Body}
 use Rattle.rules.specs.Bytes.{ascii}
@@ -12,7 +13,8 @@ returns : tie.Need-returns
 returns c =
     let s = c .before .before .before .before .before in
     let opens-topic = c .before .before .opens-topic in
-    body-topic (s .args .in-topic) (s .args .run) (sym (opens-topic .ensures) ∙ c .before .if1 .taken) (c .topic .ensures _)
+    body-topic (s .args .in-topic) (s .args .run)
+    (sym (opens-topic .ensures) ∙ c .before .if1 .taken) (c .topic .ensures _)
 
 returns-2 : tie.Need-returns-2
 returns-2 c =
@@ -21,7 +23,8 @@ returns-2 c =
     let if1 = c .before .before .before .if1 in
     let is-class = c .before .before .is-class in
     body-class (s .args .in-topic) (s .args .run) (sym (opens-topic .ensures) ∙ if1 .left)
-    (sym (is-class .ensures) ∙ c .before .if2 .taken) (c .class .ensures _ (sym (is-class .ensures) ∙ c .before .if2 .taken))
+    (sym (is-class .ensures) ∙ c .before .if2 .taken)
+    (c .class .ensures _ (sym (is-class .ensures) ∙ c .before .if2 .taken))
 
 returns-3 : tie.Need-returns-3
 returns-3 c =
@@ -32,7 +35,8 @@ returns-3 c =
     let if2 = c .before .before .before .if2 in
     body-domains (s .args .in-topic) (s .args .run) (sym (opens-topic .ensures) ∙ if1 .left)
     (sym (is-class .ensures) ∙ if2 .left) (c .before .if3 .taken)
-    (mark-steps _ (ascii "DOMAIN") 74 _ (where-place (Body (s .args .in-topic) true)) (is-word (ascii "DOMAIN") 74 refl) (c .ended .ensures))
+    (mark-steps _ (ascii "DOMAIN") 74 _ (where-place (Body (s .args .in-topic) true))
+    (is-word (ascii "DOMAIN") 74 refl) (c .ended .ensures))
 
 returns-4 : tie.Need-returns-4
 returns-4 c =
@@ -59,7 +63,8 @@ returns-5 c =
     let if3 = c .before .before .before .if3 in
     let allowed = c .before .before .allowed in
     body-close (s .args .in-topic) (s .args .run) (sym (opens-topic .ensures) ∙ if1 .left)
-    (sym (is-class .ensures) ∙ if2 .left) (if3 .left) (sym (allowed .ensures) ∙ c .before .if4 .left) (c .body-end .ensures _)
+    (sym (is-class .ensures) ∙ if2 .left) (if3 .left)
+    (sym (allowed .ensures) ∙ c .before .if4 .left) (c .body-end .ensures _)
 
 pub body-unit-spec : {M : Type 1} → statement M
 body-unit-spec =

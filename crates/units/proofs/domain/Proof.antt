@@ -17,7 +17,8 @@ read-written-requires c κs =
     let read-extends = c .before .before .before .before .before .read-extends in
     let expect2 = c .before .before .before .expect2 in (
       held (expected (is-mark "=" (omega arith) (omega arith)) (expect2 .ensures))
-          (held (read-extends .ensures) (held (read-properties .ensures) (held (expected is-name (expect .ensures)) (s .pre .0)))),
+          (held (read-extends .ensures)
+          (held (read-properties .ensures) (held (expected is-name (expect .ensures)) (s .pre .0)))),
       s .pre .1,
     )
 

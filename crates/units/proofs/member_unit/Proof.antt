@@ -13,7 +13,8 @@ returns c =
     let s = c .before .before .before .before .before in
     let allowed = c .before .before .allowed in
     members-open (s .args .in-topic) (s .args .first) (sym (allowed .ensures) ∙ c .before .if1 .taken)
-    (mark-steps _ (ascii "ATTRIBUTE") 75 _ (where-place (Members (s .args .in-topic) false)) (is-word (ascii "ATTRIBUTE") 75 refl) (c .ended .ensures))
+    (mark-steps _ (ascii "ATTRIBUTE") 75 _ (where-place (Members (s .args .in-topic) false))
+    (is-word (ascii "ATTRIBUTE") 75 refl) (c .ended .ensures))
 
 returns-2 : tie.Need-returns-2
 returns-2 c =
@@ -22,14 +23,16 @@ returns-2 c =
     let if1 = c .before .before .before .before .before .before .if1 in
     let if2 = c .before .before .before .before .if2 in
     let attribute = c .before .before .attribute in
-    members-attribute (s .args .in-topic) (s .args .first) (sym (allowed .ensures) ∙ if1 .left) (if2 .taken) (attribute .ensures)
+    members-attribute (s .args .in-topic) (s .args .first) (sym (allowed .ensures) ∙ if1 .left)
+    (if2 .taken) (attribute .ensures)
 
 returns-3 : tie.Need-returns-3
 returns-3 c =
     let s = c .before .before .before .before .before .before .before in
     let allowed = c .before .before .before .before .allowed in
     let if1 = c .before .before .before .if1 in
-    members-close (s .args .in-topic) (s .args .first) (sym (allowed .ensures) ∙ if1 .left) (c .before .if2 .left) (c .close .ensures _)
+    members-close (s .args .in-topic) (s .args .first) (sym (allowed .ensures) ∙ if1 .left)
+    (c .before .if2 .left) (c .close .ensures _)
 
 pub member-unit-spec : {M : Type 1} → statement M
 member-unit-spec =

@@ -15,7 +15,8 @@ returns c =
     let name-of = c .before .before .before .name-of in
     let name-of2 = c .before .before .name-of2 in
     λ o. model-steps o _ (expect .ensures) (expect2 .ensures) (name-of .ensures) (language-part .ensures)
-    (expect3 .ensures) (expect4 .ensures) (name-of2 .ensures) (expect5 .ensures) (expect6 .ensures) (c .before .name-of3 .ensures) (c .ended .ensures)
+    (expect3 .ensures) (expect4 .ensures) (name-of2 .ensures) (expect5 .ensures) (expect6 .ensures)
+    (c .before .name-of3 .ensures) (c .ended .ensures)
 
 pub model-spec : {M : Type 1} → statement M
 model-spec =

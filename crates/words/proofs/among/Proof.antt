@@ -13,7 +13,8 @@ use Rattle.words.proofs.among.Tie as tie
 
 abbrev Inv-loop : tie.InvT-loop
 Inv-loop text at len list i₀ i =
-    (i ≤ length list) × ((l : List (List ℕ)) → list ≡ rows l → areLong len l ≡ true → (r : List (List ℕ)) × Left (part text at len) list len i l r)
+    (i ≤ length list) × ((l : List (List ℕ)) → list ≡ rows l → areLong len l ≡ true
+    → (r : List (List ℕ)) × Left (part text at len) list len i l r)
 
 abbrev μ-loop : tie.MeasureT-loop
 μ-loop text at len list i₀ i = length list - i
@@ -27,7 +28,10 @@ returns c =
     let a = c .before .before .before .before .before .args in
     λ l e g.
     let x = loop .inv .1 l e g in
-    absurd (omega (arith, row-fits (part (a .text .now) (a .at) (a .len)) (a .list .now) (a .len) (loop .i) l (x .0) (omega arith) (x .1)))
+    absurd (omega (
+      arith,
+      row-fits (part (a .text .now) (a .at) (a .len)) (a .list .now) (a .len) (loop .i) l (x .0) (omega arith) (x .1),
+    ))
 
 returns-2 : tie.Need-returns-2 Inv-loop μ-loop
 returns-2 c =
@@ -55,7 +59,8 @@ returns-3 c =
     let a = c .before .before .before .before .args in
     λ l e g.
     let x = c .before .loop .inv .1 l e g in
-    rows-done (part (a .text .now) (a .at) (a .len)) (a .list .now) (a .len) (c .before .loop .i) l (x .0) (omega arith) (x .1)
+    rows-done (part (a .text .now) (a .at) (a .len)) (a .list .now) (a .len)
+    (c .before .loop .i) l (x .0) (omega arith) (x .1)
 
 pub among-spec : {M : Type 1} → statement M
 among-spec =

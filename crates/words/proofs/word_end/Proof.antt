@@ -19,13 +19,15 @@ loop-again : tie.Need-loop-again Inv-loop μ-loop
 loop-again c =
     let s = c .before .before .before .before .before .before in
     let v = c .before .before .before .before .loop in
-    v .inv ∙ run-go isWordByte (s .args .text .now) (v .i) (omega arith) (sym (c .before .is-word-byte .ensures) ∙ c .if1 .taken)
+    v .inv ∙ run-go isWordByte (s .args .text .now) (v .i) (omega arith)
+    (sym (c .before .is-word-byte .ensures) ∙ c .if1 .taken)
 
 returns : tie.Need-returns Inv-loop μ-loop
 returns c =
     let s = c .before .before .before .before .before .before in
     let v = c .before .before .before .before .loop in
-    sym (v .inv ∙ run-stop isWordByte (s .args .text .now) (v .i) (omega arith) (sym (c .before .is-word-byte .ensures) ∙ c .if1 .left))
+    sym (v .inv ∙ run-stop isWordByte (s .args .text .now) (v .i) (omega arith)
+    (sym (c .before .is-word-byte .ensures) ∙ c .if1 .left))
 
 returns-2 : tie.Need-returns-2 Inv-loop μ-loop
 returns-2 c =

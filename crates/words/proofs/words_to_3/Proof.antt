@@ -27,7 +27,8 @@ returns-3 : tie.Need-returns-3
 returns-3 c =
     let s = c .before .before in
     let a = s .args in
-    no-length 0 4 ((3 ∷ []) ∷ (2 ∷ []) ∷ []) (a .text .now) (a .at) (a .len) refl (s .pre .0) (omega arith) (omega arith) (c .match .rest)
+    no-length 0 4 ((3 ∷ []) ∷ (2 ∷ []) ∷ []) (a .text .now) (a .at) (a .len) refl (s .pre .0) (omega arith)
+    (omega arith) (c .match .rest)
 
 pub words-to-3-spec : {M : Type 1} → statement M
 words-to-3-spec =

@@ -1,4 +1,4 @@
-use Rattle.types.proofs.TypeLaws.{typed-valued}
+use Rattle.fitting.proofs.ValueLaws.{typed-valued}
 use Rattle.written.proofs.WrittenLaws.{laid-early, laid-whole, laid-misfit}
 use native.Mathlib.Omega.{arith}
 use borrow.Author.Needs.{needs}

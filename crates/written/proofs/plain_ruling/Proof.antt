@@ -59,7 +59,8 @@ returns-5 c =
     let q = c .before .before .before in
     let a = q .before .args in
     let p = q .type-ruling in
-    λ t v b m g f x y. plain-unbased (a .over .based) (a .w .place) v b (p .result) (p .ensures v m g) (omega arith) (c .if2 .left)
+    λ t v b m g f x y.
+    plain-unbased (a .over .based) (a .w .place) v b (p .result) (p .ensures v m g) (omega arith) (c .if2 .left)
 
 pub plain-ruling-spec : {M : Type 1} → statement M
 plain-ruling-spec =

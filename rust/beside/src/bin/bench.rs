@@ -5,10 +5,7 @@
 
 use std::time::{Duration, Instant};
 
-use beside::{printed, Checker};
-use cases::{ordinary, stretched};
-
-const LONGEST: usize = 65_535;
+use beside::{printed, texts, Checker, LONGEST};
 
 /// The least time of one check, in microseconds: runs for a tenth of a second,
 /// and five times at least.
@@ -44,13 +41,12 @@ fn line(word: &str, text: &[u8], half: &[u8], book: &mut [u8]) {
 
 fn main() {
     let mut book = vec![0; LONGEST];
-    println!("| text | bytes | answer | archive, µs | Rust checker, µs | archive / Rust | archive, ns a byte | growth |");
+    println!(
+        "| text | bytes | answer | archive, µs | Rust checker, µs | archive / Rust \
+         | archive, ns a byte | growth |"
+    );
     println!("|---|---|---|---|---|---|---|---|");
-    for size in [4_096, 60_000] {
-        let word = format!("ordinary model of {} KB", size / 1_000);
-        line(&word, &ordinary(size), &ordinary(size / 2), &mut book);
-    }
-    for ((word, text), (_, half)) in stretched(LONGEST).iter().zip(stretched(LONGEST / 2)) {
+    for ((word, text), (_, half)) in texts(1).iter().zip(texts(2)) {
         line(word, text, &half, &mut book);
     }
 }

@@ -21,16 +21,18 @@ const OPENED: [(&str, &str); 7] = [
     ("Symbols", "symbolOf symbolAt"),
     (
         "Grammar",
-        "propertiesFrom properties reference extends closeFinal enumeration textLength textType rangeType typeOf typeOrReference written",
+        "propertiesFrom properties reference extends closeFinal enumeration textLength textType rangeType typeOf \
+         typeOrReference written",
     ),
     (
         "Units",
-        "headerUnit modelUnit topicUnit classUnit domainUnit attributeUnit endUnit wordStep bodyEnd bodyUnit memberUnit lastStep unitAt",
+        "headerUnit modelUnit topicUnit classUnit domainUnit attributeUnit endUnit wordStep bodyEnd bodyUnit \
+         memberUnit lastStep unitAt",
     ),
     (
         "Judge",
-        "newTopic newClass newDomain newAttribute withAttribute extendsRules classRules domainTo16 domainRules attributeTo16 \
-         attributeRules judge",
+        "newTopic newClass newDomain newAttribute withAttribute extendsRules classRules domainTo16 domainRules \
+         attributeTo16 attributeRules judge",
     ),
     ("Check", "run"),
     ("Numbers", "readNumber"),

@@ -105,7 +105,7 @@ const WIDE: [(u8, &str, &str); 20] = [
 ];
 
 /// Bodies with a mark that stand by themselves.
-const BODIES: [(u8, &str); 28] = [
+const BODIES: [(u8, &str); 32] = [
     (0, "DOMAIN A=4..4;"),
     (14, "DOMAIN A=^5..4;"),
     (14, "DOMAIN A=^1..2.0;"),
@@ -134,6 +134,14 @@ const BODIES: [(u8, &str); 28] = [
     (0, "CLASS K=END K;CLASS L EXTENDS M.K=END L;"),
     (10, "CLASS K=END K;CLASS L EXTENDS ^N.K=END L;"),
     (15, "DOMAIN A=^(FINAL);"),
+    (4, "DOMAIN A=TEXT*^5000000000;"),
+    (5, "DOMAIN A=TEXT*^5.0;"),
+    (5, "CLASS C EXTENDS a.b.c^.d=END C;"),
+    (
+        0,
+        "TOPIC T=DOMAIN a(ABSTRACT)=NUMERIC;b EXTENDS M.T.a=1..2;c=(r,s(x:FINAL),t(FINAL));STRUCTURE S=END S;\
+         CLASS C(FINAL)=ATTRIBUTE p:MANDATORY TEXT*10;u:M.T.c;v:S;END C;END T;",
+    ),
 ];
 
 /// Two places for one number in one unit: the first is named.

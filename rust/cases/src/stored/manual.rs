@@ -116,7 +116,8 @@ const ENUMERATIONS: [(u8, &str); 14] = [
     ),
     (
         17,
-        "DOMAIN Paint=(red,yellow,green);More EXTENDS Paint=(green(light,dark:FINAL));Most EXTENDS More=^(green(pale));",
+        "DOMAIN Paint=(red,yellow,green);More EXTENDS Paint=(green(light,dark:FINAL));\
+         Most EXTENDS More=^(green(pale));",
     ),
     (
         17,
@@ -177,9 +178,17 @@ const ANNEXES: [(u8, &str); 14] = [
         "STRUCTURE Piece(ABSTRACT)=End:MANDATORY TEXT;END Piece;STRUCTURE First(FINAL) EXTENDS Piece=END First;\
          STRUCTURE Straight(FINAL) EXTENDS Piece=END Straight;",
     ),
-    (12, "STRUCTURE Piece=END Piece;STRUCTURE First(FINAL) EXTENDS Piece=END First;STRUCTURE Next EXTENDS ^First=END Next;"),
+    (
+        12,
+        "STRUCTURE Piece=END Piece;STRUCTURE First(FINAL) EXTENDS Piece=END First;\
+         STRUCTURE Next EXTENDS ^First=END Next;",
+    ),
     (13, "STRUCTURE Arc=^Radius:NUMERIC;END Arc;"),
-    (0, "TOPIC Land=CLASS Parcel=Number:1..99999;END Parcel;END Land;TOPIC Places=CLASS Place=Label:TEXT*30;END Place;END Places;"),
+    (
+        0,
+        "TOPIC Land=CLASS Parcel=Number:1..99999;END Parcel;END Land;\
+         TOPIC Places=CLASS Place=Label:TEXT*30;END Place;END Places;",
+    ),
     (8, "TOPIC Places=CLASS Place=Label:TEXT*30;END Place;END ^Place;"),
     (6, "DOMAIN Days=^FORMAT BASED ON Date(Year);"),
 ];

@@ -16,7 +16,8 @@ returns-2 c =
     let s = c .before .before .before .before .before .before .before .before .before in
     let if2 = c .before .before .before .before .if2 in
     let type-by = c .before .before .type-by in
-    not-alone (s .args .based) (s .args .or-reference) (λ z k. fail-r (s .args .based) (is-no semicolon (if2 .left) z k)) (type-by .ensures)
+    not-alone (s .args .based) (s .args .or-reference)
+    (λ z k. fail-r (s .args .based) (is-no semicolon (if2 .left) z k)) (type-by .ensures)
 
 returns-3 : tie.Need-returns-3
 returns-3 c =

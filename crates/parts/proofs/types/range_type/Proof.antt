@@ -16,7 +16,8 @@ returns c =
     let expect = c .before .before .before .before .expect in
     let expect2 = c .before .before .before .expect2 in
     let number = c .before .before .number in
-    range-reads (expect .ensures) (expect2 .ensures) (c .expect3 .ensures) (number .ensures) (c .before .number2 .ensures)
+    range-reads (expect .ensures) (expect2 .ensures) (c .expect3 .ensures)
+    (number .ensures) (c .before .number2 .ensures)
 
 pub range-type-spec : {M : Type 1} → statement M
 range-type-spec =

@@ -14,20 +14,23 @@ returns c =
     let if1 = c .before .before .before .before .before .before .if1 in
     let whole-number = c .before .before .before .before .before .whole-number in
     let w = c .before .before .before .w in
-    λ m q. long-length m (if1 .taken) (sym (whole-number .ensures) ∙ w .given .1) (c .before .if2 .taken) (c .faulty .ensures)
+    λ m q.
+    long-length m (if1 .taken) (sym (whole-number .ensures) ∙ w .given .1) (c .before .if2 .taken) (c .faulty .ensures)
 
 returns-2 : tie.Need-returns-2
 returns-2 c =
     let if1 = c .before .before .before .before .before .before .if1 in
     let whole-number = c .before .before .before .before .before .whole-number in
     let w = c .before .before .before .w in
-    λ m q. rw q (good-length m (if1 .taken) (sym (whole-number .ensures) ∙ w .given .1) (c .before .if2 .left) (c .expect .ensures))
+    λ m q. rw q
+    (good-length m (if1 .taken) (sym (whole-number .ensures) ∙ w .given .1) (c .before .if2 .left) (c .expect .ensures))
 
 returns-3 : tie.Need-returns-3
 returns-3 c =
     let if1 = c .before .before .before .before .if1 in
     let whole-number = c .before .before .before .whole-number in
-    λ m q. no-length m (not-whole (if1 .taken) (sym (whole-number .ensures) ∙ c .before .enum-told .given .1)) (c .faulty2 .ensures)
+    λ m q. no-length m (not-whole (if1 .taken) (sym (whole-number .ensures) ∙ c .before .enum-told .given .1))
+    (c .faulty2 .ensures)
 
 returns-4 : tie.Need-returns-4
 returns-4 c = λ m q. no-length m (not-number (c .before .if1 .left)) (c .faulty3 .ensures)

@@ -10,7 +10,8 @@ text-length-requires : tie.Need-text-length-requires
 text-length-requires c κs =
     let s = c .before .before .before .before .before in
     let expect = c .before .before .before .expect in
-    held (expected (is-mark "*" (omega arith) (omega arith)) (c .expect2 .ensures)) (held-behind (s .pre) (expect .ensures))
+    held (expected (is-mark "*" (omega arith) (omega arith)) (c .expect2 .ensures))
+    (held-behind (s .pre) (expect .ensures))
 
 returns : tie.Need-returns
 returns c =

@@ -17,12 +17,14 @@ returns-2 : tie.Need-returns-2
 returns-2 c =
     let s = c .before .before .before .before .before .before .before in
     let number-at = c .before .before .number-at in
-    whole-no (s .args .text .now) (s .args .place) (s .args .len) (s .pre .0 .1) (λ h. c .if2 .left (number-at .ensures .1 ∙ h))
+    whole-no (s .args .text .now) (s .args .place) (s .args .len) (s .pre .0 .1)
+    (λ h. c .if2 .left (number-at .ensures .1 ∙ h))
 
 returns-3 : tie.Need-returns-3
 returns-3 c =
     let s = c .before .before .before .before in
-    whole-signed (s .args .text .now) (s .args .place) (s .args .len) (s .pre .0 .1) (sym (c .before .is-digit .ensures) ∙ c .if1 .left)
+    whole-signed (s .args .text .now) (s .args .place) (s .args .len) (s .pre .0 .1)
+    (sym (c .before .is-digit .ensures) ∙ c .if1 .left)
 
 pub whole-number-spec : {M : Type 1} → statement M
 whole-number-spec =

@@ -14,7 +14,8 @@ returns c =
     let with-definition = c .before .before .with-definition in
     whole _ _ _ _ _ _ (longer .ensures) (with-definition .ensures)
     (c .holding .ensures
-    ∙ ap (λ (l : Listing). holding (s .args .self .context) false (s .args .self .context .«in_hand») (l .count)) (with-definition .ensures))
+    ∙ ap (λ (l : Listing). holding (s .args .self .context) false (s .args .self .context .«in_hand») (l .count))
+    (with-definition .ensures))
 
 pub closed-spec : {M : Type 1} → statement M
 closed-spec =

@@ -16,10 +16,13 @@ returns c =
     let l = s .args .st .listing .layout in
     let p = c .before .before .enter-member in (
       before-back (l .rows) (l .chains - l .rows) w (p .last .0)
-          (omega (arith, a .definitions, a .attributes, a .links, a .within)) (p .kept .0) (l .index) (l .rows - l .index) (omega (arith, a .definitions)),
-      part-back (l .rows) (l .chains - l .rows) w (p .last .0) (omega (arith, a .definitions, a .attributes, a .links, a .within)) (p .kept .0) ∙ p .ensures,
+          (omega (arith, a .definitions, a .attributes, a .links, a .within)) (p .kept .0) (l .index)
+          (l .rows - l .index) (omega (arith, a .definitions)),
+      part-back (l .rows) (l .chains - l .rows) w (p .last .0)
+          (omega (arith, a .definitions, a .attributes, a .links, a .within)) (p .kept .0) ∙ p .ensures,
       after-back (l .rows) (l .chains - l .rows) w (p .last .0)
-          (omega (arith, a .definitions, a .attributes, a .links, a .within)) (p .kept .0) (l .chains) (l .end - l .chains) (omega (arith, a .attributes)),
+          (omega (arith, a .definitions, a .attributes, a .links, a .within)) (p .kept .0) (l .chains)
+          (l .end - l .chains) (omega (arith, a .attributes)),
     )
 
 pub enter-member-spec : {M : Type 1} → statement M

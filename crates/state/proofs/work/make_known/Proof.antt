@@ -22,10 +22,12 @@ returns c =
           (omega (arith, a .definitions, a .attributes, a .links, a .within)) (p .kept .0) (l .index)
           (l .rows - l .index) (omega (arith, a .definitions, a .attributes)),
       before-back (l .chains) (l .end - l .chains) w (p .last .0)
-          (omega (arith, a .definitions, a .attributes, a .links, a .within)) (p .kept .0) (l .rows) (l .chains - l .rows) (omega (arith, a .attributes)),
+          (omega (arith, a .definitions, a .attributes, a .links, a .within)) (p .kept .0) (l .rows)
+          (l .chains - l .rows) (omega (arith, a .attributes)),
       λ ks d h e q.
           subst (λ (z : List ℕ). Chains (ks ++ (d ∷ [])) z)
-          (sym (part-back (l .chains) (l .end - l .chains) w (p .last .0) (omega (arith, a .definitions, a .attributes, a .links, a .within)) (p .kept .0)))
+          (sym (part-back (l .chains) (l .end - l .chains) w (p .last .0)
+          (omega (arith, a .definitions, a .attributes, a .links, a .within)) (p .kept .0)))
           (p .ensures ks d h (omega arith) (k .ensures .0 ∙ ap keyOf q)),
     )
 

@@ -6,7 +6,9 @@ use lib.ListN.{length, getD}
 use Rattle.rules.specs.Symbols.{symbolAt}
 use Rattle.symbols.specs.Cut.{cut}
 use Rattle.symbols.proofs.GapLaws.{comment-ahead}
-use Rattle.symbols.proofs.BeginLaws.{symbol-end, symbol-letter, symbol-digit, sign-no-digit, symbol-sign, symbol-quote, symbol-mark, symbol-none, symbol-apart, symbol-passed, symbol-open, symbol-slash}
+use Rattle.symbols.proofs.BeginLaws.{symbol-end, symbol-letter, symbol-digit, sign-no-digit, symbol-sign}
+use Rattle.symbols.proofs.BeginLaws.{symbol-quote, symbol-mark, symbol-none, symbol-apart, symbol-passed}
+use Rattle.symbols.proofs.BeginLaws.{symbol-open, symbol-slash}
 use borrow.Author.Needs.{needs}
 use Rattle.symbols.proofs.Cursor.next.Statement.{statement}
 use Rattle.symbols.proofs.Cursor.next.Tie as tie
@@ -75,7 +77,10 @@ loop-less c =
     let p = c .before .before .before in
     let v = p .before .before .before .before .before .before in
     let j = c .before .p .given in
-    omega (arith, comment-ahead (v .before .before .args .text .now) (v .loop .at) (j .0 .0) (sym (p .comment .ensures) ∙ j .1))
+    omega (
+      arith,
+      comment-ahead (v .before .before .args .text .now) (v .loop .at) (j .0 .0) (sym (p .comment .ensures) ∙ j .1),
+    )
 
 loop-again : tie.Need-loop-again Inv-loop μ-loop
 loop-again c =
@@ -125,13 +130,13 @@ returns-7 c =
 
 loop-again-2 : tie.Need-loop-again-2 Inv-loop μ-loop
 loop-again-2 c =
-    let k = c .before .before in
+    let k = c .before .before .before in
     let v = k .before .before .before in
     let t = v .before .before .args .text .now in
     let h = k .before .before .loop-test .taken in
     let l : getD t (v .loop .at) 0 < 256 = omega (arith, k .before .shared-slice-known2 .given (v .loop .at)) in
-    let e = sym (k .class-of .ensures) ∙ c .enum-told9 .given .1 in
-    v .loop .inv ∙ symbol-apart t (v .loop .at) h l e
+    let e = sym (k .class-of .ensures) ∙ c .before .enum-told9 .given .1 in
+    v .loop .inv ∙ symbol-apart t (v .loop .at) h l e ∙ ap (symbolAt t) (sym (c .separators-end .ensures))
 
 returns-8 : tie.Need-returns-8 Inv-loop μ-loop
 returns-8 c =
@@ -146,7 +151,8 @@ returns-8 c =
 returns-9 : tie.Need-returns-9 Inv-loop μ-loop
 returns-9 c =
     let v = c .before .before in
-    c .stop .ensures ∙ sym (ap cut (v .loop .inv) ∙ symbol-end (v .before .before .args .text .now) (v .loop .at) (c .before .loop-test .left))
+    c .stop .ensures ∙ sym
+    (ap cut (v .loop .inv) ∙ symbol-end (v .before .before .args .text .now) (v .loop .at) (c .before .loop-test .left))
 
 pub next-spec : {M : Type 1} → statement M
 next-spec =
@@ -185,6 +191,7 @@ next-spec =
     returns-7
     (λ c. search needs)
     (λ c. search needs)
+    (λ c κs. search needs)
     (λ c. search needs)
     loop-again-2
     (λ c. search needs)

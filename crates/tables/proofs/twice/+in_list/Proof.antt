@@ -7,7 +7,8 @@ use Rattle.enumerations.specs.Standing.{Deep, ListAt}
 use Rattle.tables.specs.Tables.{Entry, InGrid, Filled}
 use Rattle.enumerations.proofs.ListLaws.{element-in, opening-in, as-written}
 use Rattle.tables.proofs.TwiceLaws.{past-in}
-use Rattle.tables.proofs.CheckedLaws.{Going, going-start, going-end, clash-twice, has-room, going-plain, inner-twice, inner-past}
+use Rattle.tables.proofs.CheckedLaws.{Going, going-start, going-end, clash-twice, has-room, going-plain}
+use Rattle.tables.proofs.CheckedLaws.{inner-twice, inner-past}
 use native.Mathlib.Omega.{arith}
 use borrow.Author.Needs.{needs}
 use Prim.Native.Nat.{ℕ, _<_}
@@ -62,21 +63,24 @@ in-list-Inv-loop text s list left table₀ g at₀ table at =
 abbrev in-list-μ-loop : in-list-lts.MeasureT-loop
 in-list-μ-loop text s list left table₀ g at₀ table at = length s - at
 
-in-list-loop-holds : (t : ℕ) → in-list-lts.Need-loop-holds (calls t) (in-list-at t) in-list.Post in-list-Inv-loop in-list-μ-loop
+in-list-loop-holds : (t : ℕ)
+    → in-list-lts.Need-loop-holds (calls t) (in-list-at t) in-list.Post in-list-Inv-loop in-list-μ-loop
 in-list-loop-holds t c =
     let s = c .before .before .before in
     let a = s .args in (
       omega arith,
       omega (arith, s .pre .1 .1),
       refl,
-      λ e es l d i F. going-start (a .text .now) (a .s .now) (a .g) (s .pre .1 .2) (a .left) e es (a .list) l i (a .table .now) d F,
+      λ e es l d i F.
+          going-start (a .text .now) (a .s .now) (a .g) (s .pre .1 .2) (a .left) e es (a .list) l i (a .table .now) d F,
     )
 
 in-list-written-name-requires : (t : ℕ)
     → in-list-lts.Need-written-name-requires (calls t) (in-list-at t) in-list.Post in-list-Inv-loop in-list-μ-loop
 in-list-written-name-requires t c κs = element-in _ _ (sym (c .before .is-element .ensures) ∙ c .if1 .taken) .0
 
-in-list-add-next : (t : ℕ) → in-list-lts.Need-add-next (calls t) (in-list-at t) in-list.Post in-list-Inv-loop in-list-μ-loop
+in-list-add-next : (t : ℕ)
+    → in-list-lts.Need-add-next (calls t) (in-list-at t) in-list.Post in-list-Inv-loop in-list-μ-loop
 in-list-add-next t c =
     let is-element = c .before .before .is-element in
     omega (arith, element-in _ _ (sym (is-element .ensures) ∙ c .before .if1 .taken))
@@ -94,13 +98,15 @@ in-list-clashes-requires t c κs =
       s .pre .1 .2,
     )
 
-in-list-same-length : (t : ℕ) → in-list-lts.Need-same-length (calls t) (in-list-at t) in-list.Post in-list-Inv-loop in-list-μ-loop
+in-list-same-length : (t : ℕ)
+    → in-list-lts.Need-same-length (calls t) (in-list-at t) in-list.Post in-list-Inv-loop in-list-μ-loop
 in-list-same-length t c =
     let loop = c .before .before .before .before .before .before .before .before .loop in
     let clashes = c .before .before .before .clashes in
     clashes .kept .1 .1 .0 ∙ loop .inv .2
 
-in-list-returns : (t : ℕ) → in-list-lts.Need-returns (calls t) (in-list-at t) in-list.Post in-list-Inv-loop in-list-μ-loop
+in-list-returns : (t : ℕ)
+    → in-list-lts.Need-returns (calls t) (in-list-at t) in-list.Post in-list-Inv-loop in-list-μ-loop
 in-list-returns t c =
     let s = c .before .before .before .before .before .before .before .before .before .before .before .before in
     let is-element = c .before .before .before .before .before .before .before .is-element in
@@ -112,7 +118,8 @@ in-list-returns t c =
       tt,
       λ e es l d i F. clash-twice (a .text .now) (a .s .now) (a .g) (s .pre .1 .2) (a .left) e es (a .list) l i
           (v .table) (v .at) (v .inv .3 e es l d i F) (v .inv .0) (sym (is-element .ensures) ∙ if1 .taken)
-          (clashes .last .1 .1 .0) (clashes .result) (clashes .ensures) (c .if2 .taken) (written-name .result) (as-written (written-name .ensures)),
+          (clashes .last .1 .1 .0) (clashes .result) (clashes .ensures) (c .if2 .taken) (written-name .result)
+          (as-written (written-name .ensures)),
     )
 
 in-list-same-length-2 : (t : ℕ)
@@ -122,7 +129,8 @@ in-list-same-length-2 t c =
     let clashes = c .before .before .before .before .before .before .clashes in
     clashes .kept .1 .1 .0 ∙ loop .inv .2
 
-in-list-returns-2 : (t : ℕ) → in-list-lts.Need-returns-2 (calls t) (in-list-at t) in-list.Post in-list-Inv-loop in-list-μ-loop
+in-list-returns-2 : (t : ℕ)
+    → in-list-lts.Need-returns-2 (calls t) (in-list-at t) in-list.Post in-list-Inv-loop in-list-μ-loop
 in-list-returns-2 t c =
     let back = c .before .before .before .before .before .before .before .before .before .before in
     let s = back .before .before .before .before .before in
@@ -139,7 +147,8 @@ in-list-returns-2 t c =
             arith,
             has-room (a .text .now) (a .s .now) (a .g) (s .pre .1 .2) (a .left) e es (a .list) l i
                 (v .table) (v .at) (v .inv .3 e es l d i F) (v .inv .0) (sym (is-element .ensures) ∙ if1 .taken)
-                (clashes .last .1 .1 .0) (clashes .result) (clashes .ensures) (if2 .left) (sym (is-opening .ensures) ∙ c .before .if3 .taken),
+                (clashes .last .1 .1 .0) (clashes .result) (clashes .ensures) (if2 .left)
+                (sym (is-opening .ensures) ∙ c .before .if3 .taken),
             c .if4 .taken,
           )),
     )
@@ -165,7 +174,10 @@ in-list-in-list-requires t c κs =
     let if3 = c .before .before .if3 in (
       omega (arith, s .pre .0, c .before .if4 .left),
       (
-        record { some = s .pre .1 .0 .some; fits = omega (arith, s .pre .1 .0 .fits, loop .inv .2, clashes .kept .1 .1 .0) },
+        record {
+          some = s .pre .1 .0 .some;
+          fits = omega (arith, s .pre .1 .0 .fits, loop .inv .2, clashes .kept .1 .1 .0);
+        },
         omega (arith, opening-in _ _ (sym (is-opening .ensures) ∙ if3 .taken)),
         s .pre .1 .2,
       ),
@@ -180,7 +192,8 @@ in-list-same-length-3 t c =
     let in-list = c .before .before .before .before .before .in-list in
     in-list .kept .1 .1 .1 .1 .0 ∙ clashes .kept .1 .1 .0 ∙ loop .inv .2
 
-in-list-returns-3 : (t : ℕ) → in-list-lts.Need-returns-3 (calls t) (in-list-at t) in-list.Post in-list-Inv-loop in-list-μ-loop
+in-list-returns-3 : (t : ℕ)
+    → in-list-lts.Need-returns-3 (calls t) (in-list-at t) in-list.Post in-list-Inv-loop in-list-μ-loop
 in-list-returns-3 t c =
     let back = c .before .before .before .before .before .before .before .before .before .before in
     let s = back .before .before .before .before .before .before .before .before .before .before .before .before in
@@ -201,15 +214,21 @@ in-list-returns-3 t c =
           (in-list .ensures .1) _ (c .before .c .given .1),
     )
 
-in-list-loop-less : (t : ℕ) → in-list-lts.Need-loop-less (calls t) (in-list-at t) in-list.Post in-list-Inv-loop in-list-μ-loop
+in-list-loop-less : (t : ℕ)
+    → in-list-lts.Need-loop-less (calls t) (in-list-at t) in-list.Post in-list-Inv-loop in-list-μ-loop
 in-list-loop-less t c =
     let back = c .before .before .before .before .before .before .before .before .before .before in
     let is-element = back .before .before .before .before .before .before .before .is-element in
     let if1 = back .before .before .before .before .before .before .if1 in
     let in-list = c .before .before .before .before .before .in-list in
-    omega (arith, element-in _ _ (sym (is-element .ensures) ∙ if1 .taken), past-in _ _ _ _ (c .before .c2 .given .1) (in-list .ensures .0))
+    omega (
+      arith,
+      element-in _ _ (sym (is-element .ensures) ∙ if1 .taken),
+      past-in _ _ _ _ (c .before .c2 .given .1) (in-list .ensures .0),
+    )
 
-in-list-loop-again : (t : ℕ) → in-list-lts.Need-loop-again (calls t) (in-list-at t) in-list.Post in-list-Inv-loop in-list-μ-loop
+in-list-loop-again : (t : ℕ)
+    → in-list-lts.Need-loop-again (calls t) (in-list-at t) in-list.Post in-list-Inv-loop in-list-μ-loop
 in-list-loop-again t c =
     let back = c .before .before .before .before .before .before .before .before .before .before in
     let s = back .before .before .before .before .before .before .before .before .before .before .before .before in
@@ -233,7 +252,8 @@ in-list-loop-again t c =
           (in-list .ensures .1) _ (c .before .c2 .given .1),
     )
 
-in-list-loop-less-2 : (t : ℕ) → in-list-lts.Need-loop-less-2 (calls t) (in-list-at t) in-list.Post in-list-Inv-loop in-list-μ-loop
+in-list-loop-less-2 : (t : ℕ)
+    → in-list-lts.Need-loop-less-2 (calls t) (in-list-at t) in-list.Post in-list-Inv-loop in-list-μ-loop
 in-list-loop-less-2 t c =
     let is-element = c .before .before .before .before .before .before .before .before .before .is-element in
     let if1 = c .before .before .before .before .before .before .before .before .if1 in
@@ -255,14 +275,16 @@ in-list-loop-again-2 t c =
       clashes .kept .1 .1 .0 ∙ v .inv .2,
       λ e es l d i F. going-plain (a .text .now) (a .s .now) (a .g) (s .pre .1 .2) (a .left) e es (a .list) l i
           (v .table) (v .at) (v .inv .3 e es l d i F) (v .inv .0) (sym (is-element .ensures) ∙ if1 .taken)
-          (clashes .last .1 .1 .0) (clashes .result) (clashes .ensures) (if2 .left) (sym (c .before .is-opening .ensures) ∙ c .if3 .left),
+          (clashes .last .1 .1 .0) (clashes .result) (clashes .ensures) (if2 .left)
+          (sym (c .before .is-opening .ensures) ∙ c .if3 .left),
     )
 
 in-list-same-length-4 : (t : ℕ)
     → in-list-lts.Need-same-length-4 (calls t) (in-list-at t) in-list.Post in-list-Inv-loop in-list-μ-loop
 in-list-same-length-4 t c = c .before .before .before .loop .inv .2
 
-in-list-returns-4 : (t : ℕ) → in-list-lts.Need-returns-4 (calls t) (in-list-at t) in-list.Post in-list-Inv-loop in-list-μ-loop
+in-list-returns-4 : (t : ℕ)
+    → in-list-lts.Need-returns-4 (calls t) (in-list-at t) in-list.Post in-list-Inv-loop in-list-μ-loop
 in-list-returns-4 t c =
     let s = c .before .before .before .before .before .before .before in
     let is-element = c .before .before .is-element in
@@ -277,7 +299,8 @@ in-list-same-length-5 : (t : ℕ)
     → in-list-lts.Need-same-length-5 (calls t) (in-list-at t) in-list.Post in-list-Inv-loop in-list-μ-loop
 in-list-same-length-5 t c = c .before .before .before .loop .inv .2
 
-in-list-returns-5 : (t : ℕ) → in-list-lts.Need-returns-5 (calls t) (in-list-at t) in-list.Post in-list-Inv-loop in-list-μ-loop
+in-list-returns-5 : (t : ℕ)
+    → in-list-lts.Need-returns-5 (calls t) (in-list-at t) in-list.Post in-list-Inv-loop in-list-μ-loop
 in-list-returns-5 t c =
     let s = c .before .before .before .before .before .before .before in
     let is-element = c .before .before .is-element in

@@ -8,7 +8,10 @@ use Rattle.tables.proofs.twice.gather.Tie as tie
 entered-requires : tie.Need-entered-requires
 entered-requires c κs =
     let s = c .before .before .before .before .before in (
-      record { some = c .before .grid-of .ensures .some; fits = omega (arith, c .before .grid-of .ensures .small, s .pre .1) },
+      record {
+        some = c .before .grid-of .ensures .some;
+        fits = omega (arith, c .before .grid-of .ensures .small, s .pre .1);
+      },
       s .pre .0,
       c .before .grid-of .ensures,
     )
@@ -21,10 +24,14 @@ returns c =
     let s = a .before .before .before .before in
     let g = a .grid-of in
     let z : Sized (g .result) (clear .last .0) =
-    record { some = g .ensures .some; fits = omega (arith, g .ensures .small, s .pre .1, entered .kept .1 .1 .1 .0, clear .kept .0) } in
+    record {
+      some = g .ensures .some;
+      fits = omega (arith, g .ensures .small, s .pre .1, entered .kept .1 .1 .1 .0, clear .kept .0);
+    } in
     record {
       sized = z;
-      gathered = λ e u. none-gathered (s .args .text .now) (s .args .s .now) (g .result) (clear .last .0) z (λ i h. clear .ensures i (omega arith));
+      gathered = λ e u. none-gathered (s .args .text .now) (s .args .s .now) (g .result) (clear .last .0) z
+          (λ i h. clear .ensures i (omega arith));
     }
 
 returns-2 : tie.Need-returns-2

@@ -15,7 +15,8 @@ returns c =
     let size-of = c .before .before .before .before .size-of in
     let copy-if = c .before .before .copy-if in
     let args = s .args in
-    λ t e k. again-laid t (args .out .now) _ (args .used) (args .at) (args .from) _ e (s .pre .1) k (size-of .ensures t e k) (copy-if .ensures)
+    λ t e k. again-laid t (args .out .now) _ (args .used) (args .at) (args .from) _ e (s .pre .1) k
+    (size-of .ensures t e k) (copy-if .ensures)
 
 pub again-spec : {M : Type 1} → statement M
 again-spec =

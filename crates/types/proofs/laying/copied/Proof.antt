@@ -21,7 +21,8 @@ returns c =
     let size-of = c .before .before .before .before .before .before .size-of in
     let put-if = c .before .before .put-if in
     let args = c .before .before .before .before .before .before .before .before .before .args in
-    λ t e k. copied-laid t (args .scratch .now) (args .out .now) _ (args .at) _ e k (size-of .ensures t e k) (λ w. put-if .ensures ∙ put-fits _ _ _ w)
+    λ t e k. copied-laid t (args .scratch .now) (args .out .now) _ (args .at) _ e k (size-of .ensures t e k)
+    (λ w. put-if .ensures ∙ put-fits _ _ _ w)
 
 returns-2 : tie.Need-returns-2
 returns-2 c =

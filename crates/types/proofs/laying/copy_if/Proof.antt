@@ -15,4 +15,5 @@ returns-4 c = λ g h. absurd (omega arith)
 pub copy-if-spec : {M : Type 1} → statement M
 copy-if-spec =
     tie.close
-    (tie.spec returns returns-2 (λ c. search needs) (λ c κs. search needs) (λ c. search needs) (λ c. search needs) returns-4)
+    (tie.spec returns returns-2 (λ c. search needs) (λ c κs. search needs) (λ c. search needs)
+    (λ c. search needs) returns-4)

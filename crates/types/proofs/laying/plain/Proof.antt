@@ -1,4 +1,4 @@
-use Rattle.types.proofs.ValueLaws.{held-small, sized-range}
+use Rattle.fitting.proofs.ValueLaws.{held-small, sized-range}
 use Rattle.types.proofs.LayLaws.{nothing-laid}
 use native.Mathlib.Omega.{arith}
 use borrow.Author.Needs.{needs}
@@ -33,10 +33,14 @@ returns-3 c =
     rw (enum-told .given .1) (put-record3 .ensures)
 
 returns-4 : tie.Need-returns-4
-returns-4 c = let args = c .before .before .before .args in rw (c .enum-told2 .given .1) (nothing-laid (args .out .now) (args .at))
+returns-4 c =
+    let args = c .before .before .before .args in
+    rw (c .enum-told2 .given .1) (nothing-laid (args .out .now) (args .at))
 
 returns-5 : tie.Need-returns-5
-returns-5 c = let args = c .before .before .before .args in rw (c .enum-told3 .given .1) (nothing-laid (args .out .now) (args .at))
+returns-5 c =
+    let args = c .before .before .before .args in
+    rw (c .enum-told3 .given .1) (nothing-laid (args .out .now) (args .at))
 
 pub plain-spec : {M : Type 1} → statement M
 plain-spec =

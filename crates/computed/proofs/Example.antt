@@ -1,0 +1,44 @@
+-- The example, its readings and its names hold: each is computed.
+use mathlib.Core.Path.{refl}
+use Rattle.computed.specs.Example.{Checks, Reads, Shows}
+use Rattle.computed.proofs.Computing.{computing}
+
+pub example : Checks
+unfolding computing
+example = record {
+  size = refl;
+  exact = refl;
+  longer = refl;
+  short = refl;
+  empty = refl;
+  no-text = refl;
+  version = refl;
+}
+
+pub readings : Reads
+unfolding computing
+readings = record {
+  too-great = refl;
+  greatest = refl;
+  half = refl;
+  half-below = refl;
+  below-half = refl;
+  decimals = refl;
+  base-decimals = refl;
+  magnitude = refl;
+  nothing = refl;
+}
+
+pub names : Shows
+unfolding computing
+names = record {
+  model = refl;
+  domain = refl;
+  range = refl;
+  none = refl;
+  cut = refl;
+  unknown = refl;
+  last = refl;
+  past = refl;
+  bare = refl;
+}

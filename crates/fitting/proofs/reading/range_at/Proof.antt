@@ -1,0 +1,40 @@
+use borrow.Author.Tests.{le-leb, lt-leb}
+use Rattle.fitting.specs.Places.{rangeAt}
+use Rattle.numbers.proofs.SignedLaws.{kept}
+use borrow.Author.Needs.{needs}
+use Rattle.fitting.proofs.reading.range_at.Statement.{statement}
+use Rattle.fitting.proofs.reading.range_at.Tie as tie
+
+returns : tie.Need-returns
+unfolding rangeAt
+returns c =
+    let if1 = c .before .before .before .before .if1 in
+    let wide = c .before .before .wide in
+    rw (
+      le-leb _ _ (if1 .taken),
+      kept (c .before .signed-at .result) (c .before .signed-at .ok),
+      kept
+          (c .signed-at2 .result) (c .signed-at2 .ok),
+      wide .ensures .0,
+      c .before .signed-at .ensures,
+      c .signed-at2 .ensures,
+    )
+
+returns-2 : tie.Need-returns-2
+unfolding rangeAt
+returns-2 c = rw (lt-leb _ _ (c .if1 .left))
+
+pub range-at-spec : {M : Type 1} → statement M
+range-at-spec =
+    tie.close
+    (tie.spec
+    (λ c. search needs)
+    (λ c. search needs)
+    (λ c. search needs)
+    (λ c κs. search needs)
+    (λ c. search needs)
+    (λ c κs. search needs)
+    (λ c. search needs)
+    (λ c κs. search needs)
+    returns
+    returns-2)

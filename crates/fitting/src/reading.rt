@@ -1,0 +1,84 @@
+// The type whose record is at a place of the book.
+ghost use mathlib.Core.Path.{_≡_};
+ghost use Prim.Native.Nat.{_+_, _≤_};
+ghost use lib.ListN.{length};
+ghost use Rattle.fitting.specs.Places.{signedOf, signedAt, textAt, rangeAt, typingAt};
+use crate::Typing;
+use book::LENGTH_SIZE;
+use book::RANGE_SIZE;
+use ground::get4;
+use ground::wide;
+use ground::wide4;
+
+// Two's complement, of the low and the high half of 64 bits.
+fn signed(low: u32, high: u32) -> i64
+    ensures { λ r. ⌜ r ≡ signedOf low high ⌝ }
+{
+    let l = wide4(low);
+    let h = wide4(high);
+    if h < 2147483648 {
+        return (l + h * 4294967296) as i64;
+    }
+    let n = 4294967295 - l + (4294967295 - h) * 4294967296;
+    -(n as i64) - 1
+}
+
+fn signed_at(book: &[u8], at: usize) -> i64
+    requires { ⌜ at + 8 ≤ length (now book) ⌝ }
+    ensures { λ r. ⌜ r ≡ signedAt (now (book .entry)) at ⌝ }
+{
+    signed(get4(book, at), get4(book, at + 4))
+}
+
+fn text_at(kind: u8, book: &[u8], at: usize) -> Typing
+    requires { ⌜ at ≤ length (now book) ⌝ }
+    ensures { λ r. ⌜ r ≡ textAt kind (now (book .entry)) at ⌝ }
+{
+    if at + LENGTH_SIZE <= book.len() {
+        return Typing::Text {
+            kind,
+            length: wide4(get4(book, at + 1)) as u64,
+        };
+    }
+    Typing::Structure
+}
+
+fn range_at(book: &[u8], at: usize) -> Typing
+    requires { ⌜ at ≤ length (now book) ⌝ }
+    ensures { λ r. ⌜ r ≡ rangeAt (now (book .entry)) at ⌝ }
+{
+    if at + RANGE_SIZE <= book.len() {
+        return Typing::Range {
+            decimals: wide(book[at + 1]) as u64,
+            low: signed_at(book, at + 2),
+            high: signed_at(book, at + 10),
+        };
+    }
+    Typing::Structure
+}
+
+// A structure where there is no type's record.
+pub fn typing_at(book: &[u8], at: usize) -> Typing
+    ensures { λ r. ⌜ r ≡ typingAt (now (book .entry)) at ⌝ }
+{
+    if book.len() <= at {
+        return Typing::Structure;
+    }
+    let k = book[at];
+    if k == 8 {
+        return text_at(8, book, at);
+    }
+    if k == 9 {
+        return text_at(9, book, at);
+    }
+    if k == 10 {
+        return range_at(book, at);
+    }
+    if k == 11 {
+        return Typing::Numeric;
+    }
+    if k == 13 {
+        return Typing::Enumeration { place: at };
+    }
+    Typing::Structure
+}

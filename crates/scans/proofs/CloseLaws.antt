@@ -1,0 +1,24 @@
+-- The first `*/`.
+use mathlib.Core.Path.{_≡_}
+use mathlib.Core.Bool.{true, false}
+use mathlib.Core.List.{List}
+use Prim.Native.Nat.{ℕ, suc, _+_, _≤_, _<_}
+use native.Mathlib.Numerals.{add-one}
+use native.Mathlib.Omega.{arith}
+use lib.ListN.{length, drop, drop-of-length-le}
+use lib.Seq.{drop-cons}
+use Rattle.scans.specs.declared.Pass.the-variants.{To, Open}
+use Rattle.scans.specs.Scans.{twoAt, closeOf}
+use Rattle.ground.proofs.ScanLaws.{next-byte}
+
+module _ (t : List ℕ) (i : ℕ) where
+  pub close-go : i < length t → twoAt t i 42 47 ≡ false → closeOf (drop i t) i ≡ closeOf (drop (i + 1) t) (i + 1)
+  close-go h e = rw (add-one i, drop-cons t i 0 h, next-byte t i, e)
+
+  pub close-stop : i < length t → twoAt t i 42 47 ≡ true → closeOf (drop i t) i ≡ To (i + 2)
+  close-stop h e =
+      let n : i + 2 ≡ suc (suc i) = omega arith in
+      rw (n, drop-cons t i 0 h, next-byte t i, e)
+
+  pub close-done : length t ≤ i → closeOf (drop i t) i ≡ Open
+  close-done h = rw (drop-of-length-le t h)

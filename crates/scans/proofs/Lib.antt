@@ -1,0 +1,2 @@
+pub mod CloseLaws
+pub mod EscapeLaws
