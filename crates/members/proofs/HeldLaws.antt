@@ -1,5 +1,5 @@
 -- What is held stays when the book, the definitions, the attributes and the rows behind the last grow.
-use mathlib.Core.Path.{_≡_, refl, sym, ap, _∙_, subst}
+use mathlib.Core.Path.{_≡_, refl, sym, ap, _∙_}
 use mathlib.Core.Logic.{_⊎_, inl, inr, ⊎-elim}
 use mathlib.Core.Bool.{Bool, true, false}
 use mathlib.Core.Option.{Option, some}
@@ -10,8 +10,7 @@ use lib.ListN.{length, length-append, length-drop, getD, set, take, drop, take-a
 use lib.Seq.{drop-append-le, take-append-le, take-at, drop-at, length-take-le, set-split, drop-set-add, take-set-lt}
 use lib.Dec.{leb}
 use borrow.Author.Tests.{leb-true, leb-false}
-use Rattle.rules.specs.Declarations.{Attribute, Def, inline, tyOf}
-use Rattle.rules.specs.Book.{flags, numberOr, headRecord, typeRecords, useRecords}
+use Rattle.rules.specs.Declarations.{Attribute, Def, tyOf}
 use Rattle.rules.specs.Judge.{naming}
 use Rattle.ground.specs.Parts.{part, splice}
 use Rattle.names.specs.Index.{entry, row, Based, definitionWidth}
@@ -19,9 +18,7 @@ use Rattle.members.specs.Members.{Owns, Indexed, attributeWidth}
 use Rattle.members.specs.Held.{useFor, DefRow, AttributeRow, Held}
 use Rattle.names.proofs.IndexLaws.{nth-within, nth-last, entry-keep, entry-within}
 use Rattle.names.proofs.BaseLaws.{entry-there}
-use Rattle.book.specs.Places.{Stands}
-use Rattle.book.proofs.StandLaws.{stands-more, stands-behind}
-use Rattle.book.specs.Sizes.{headSize}
+use Rattle.book.proofs.StandLaws.{stands-more}
 
 -- ---- what lookups and filling need
 pub indexed : {t b : List ℕ} {ks : List Def} {ms : List Attribute} {x : List ℕ} {count : ℕ} {y : List ℕ} {total : ℕ}
@@ -225,14 +222,6 @@ held-attribute t b v ks ms x count y total h y' ay a r =
 
 -- ---- where types stand
 module _ (t b : List ℕ) (ks : List Def) (a : Attribute) (r : List ℕ) (h : AttributeRow t b ks a r) where
-  -- a type in place
-  pub use-in-place : getD r 5 0 ≡ 0 → Stands b (getD r 3 0 + headSize) (typeRecords (tyOf (a .use-of)))
-  use-in-place z =
-      let u : a .use-of ≡ inline (tyOf (a .use-of)) =
-      sym (h .uses) ∙ ap (λ (k : ℕ). useFor (entry ks k) (tyOf (a .use-of))) z in
-      subst (Stands b (getD r 3 0 + headSize)) (ap useRecords u) (stands-behind b (getD r 3 0) (headRecord 6 (a .name)
-      (flags false (a .final) (a .extended) (a .mandatory)) (numberOr (a .base))) (useRecords (a .use-of)) (h .stands))
-
   -- a domain or structure that is named
   pub use-named : 0 < getD r 5 0 → (d : Def) × (entry ks (getD r 5 0) ≡ some d) × (naming d ≡ a .use-of)
   use-named z =

@@ -89,8 +89,3 @@ module _ (t : List ℕ) (s : State) (v : U.Unit) (o : List ℕ) (st : code.State
       let u = k .used in
       answer (ok s') (ap (room (lent (length o)) (unitPlace v)) e
       ∙ room-within (length o) (unitPlace v) s' m (omega arith)) (st', h, k, g)
-
-  pub judged-ok : (s' : State) → judge s v ≡ ok s' → length o ≤ 65535 → length (book s') ≤ length o
-      → JudgedAs t (ok s') st r o' x z y hs → JudgedAs t (verdict s v o) st r o' x z y hs
-  judged-ok s' e m w h =
-      answer (ok s') (ap (room (lent (length o)) (unitPlace v)) e ∙ room-within (length o) (unitPlace v) s' m w) h
