@@ -1,4 +1,4 @@
--- The answers stand in the order of the code, so that a wrong comparison is refused at the callee's `requires`.
+-- The answers stand in the order of the code: a comparison that scales up is refused where its product must fit.
 use Prim.Native.Nat.{_-_}
 use native.Mathlib.Omega.{arith}
 use mir.Facts.{toZ-ofZ}
@@ -28,6 +28,11 @@ returns c =
       lt-ltb _ _ (t .before .if1 .taken),
     )
 
+floor-div-requires : tie.Need-floor-div-requires
+floor-div-requires c κs =
+    let a = c .before .before .args in
+    omega (arith, ten-range (a .base-decimals - a .decimals) (omega arith) (c .ten-to2 .ensures))
+
 returns-2 : tie.Need-returns-2
 returns-2 c =
     let t = c .before in
@@ -53,6 +58,5 @@ low-fits-spec =
     returns
     (λ c κs. search needs)
     (λ c. let s = c .before .before in lowered (s .args .bound) (s .fits .bound) (s .pre .1 .1) .0)
-    (λ c κs. let a = c .before .before .args in
-    omega (arith, ten-range (a .base-decimals - a .decimals) (omega arith) (c .ten-to2 .ensures)))
+    floor-div-requires
     returns-2)
