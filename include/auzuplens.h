@@ -22,7 +22,7 @@ extern "C" {
 uint64_t auzuplens_check(const uint8_t *text, size_t text_length,
                          uint8_t *book, size_t book_length);
 
-/* The number of the refusal, 1 to 19, or 0: the text is accepted. */
+/* The number of the refusal, 1 to 19 or 22, or 0: the text is accepted. */
 static inline unsigned auzuplens_number(uint64_t answer)
 {
     return (unsigned)(answer >> 48);

@@ -7,25 +7,16 @@ use Prim.Native.Nat.{ℕ}
 use native.Mathlib.Omega.{arith}
 use Rattle.rules.specs.Names as R
 use Rattle.rules.specs.Grammar as G
-use Rattle.rules.specs.Grammar.{Reference, WrittenType}
 use Rattle.rules.specs.Units as U
-use Rattle.rules.specs.Declarations.{Def, isFound, State, known, resolve}
-use Rattle.rules.specs.Judge.{isExtended, hasTwice, referenceIn, resolved}
-use Rattle.rules.specs.All.{AnyIs}
-use Rattle.ground.specs.declared.Reference as code
-use Rattle.names.specs.Index.{entry}
-use Rattle.names.specs.References.{bytesOf, Inside, AllInside}
-use Rattle.parts.specs.Forms.{anyOf, referenceOf}
-use Rattle.parts.specs.declared.types.Meant.{Meant}
-use Rattle.parts.specs.declared.types.Meant.the-variants.{Named}
-use Rattle.wellformed.specs.Fairness.{FairType, FairReference}
+use Rattle.rules.specs.Declarations.{Def, isFound, State}
+use Rattle.rules.specs.Judge.{isExtended, hasTwice, referenceIn}
+use Rattle.names.specs.References.{bytesOf, Inside}
+use Rattle.parts.specs.Forms.{anyOf, optionalOf}
 use Rattle.types.proofs.TypeLaws.{scratched}
 use Rattle.units.specs.declared.AttributeUnit.{AttributeUnit}
 use Rattle.units.specs.declared.Unit.the-variants.{Attribute as V·Attribute}
 use Rattle.state.specs.Keeping.{Comes}
-use Rattle.state.proofs.SharedLaws.{reference-inside}
 use Rattle.attribute_names.specs.Facts.{Given}
-use Rattle.attribute_names.proofs.NameLaws.{named-is}
 
 -- ---- the unit, and where it stands
 pub given : (t : List ℕ) (s : State) (n : R.Name) (p : List (List ℕ)) (w : G.Written) (a : AttributeUnit) (rs : List ℕ)
@@ -61,26 +52,11 @@ module _ (t : List ℕ) (n : R.Name) (p : List (List ℕ)) (w : G.Written) (rs :
   pub is-meant : a .written .meant ≡ anyOf (w .type)
   is-meant = ap (λ (u : AttributeUnit). u .written .meant) (g .is)
 
+  pub is-reference : a .written .reference ≡ optionalOf (referenceIn (w .type))
+  is-reference = ap (λ (u : AttributeUnit). u .written .reference) (g .is)
+
   pub name-inside : Inside t (a .name)
   name-inside = subst (λ (u : AttributeUnit). Inside t (u .name)) (sym (g .is)) (g .named .fits)
 
   pub name-bytes : bytesOf t (a .name) ≡ n .bytes
   name-bytes = ap (λ (u : AttributeUnit). bytesOf t (u .name)) (g .is) ∙ g .named .there
-
--- ---- references
-pub reference-in : (t : List ℕ) (w : Option WrittenType) (m : Meant) (r : code.Reference) → m ≡ Named r → m ≡ anyOf w
-    → AnyIs (FairType t) w → AllInside t r
-reference-in t w m r e h f =
-    let (b, u, q) = named-is m r e w h in
-    reference-inside t b r q (subst (AnyIs (FairType t)) u f)
-
-pub reference-fair : (t : List ℕ) (s : State) (m : Meant) (r : code.Reference) → m ≡ Named r → (w : Option WrittenType)
-    → m ≡ anyOf w → AnyIs (FairType t) w
-    → (p : ℕ) → ((b : Reference) → r ≡ referenceOf b → FairReference t b → entry (known (s .decls)) p ≡ resolve s b)
-    → entry (known (s .decls)) p ≡ resolved s (referenceIn w)
-reference-fair t s m r e w h f p g =
-    let (b, u, q) = named-is m r e w h in
-    rw u (g b q (subst (AnyIs (FairType t)) u f))
-
-pub names-nothing : (s : State) (w : Option WrittenType) → referenceIn w ≡ none → none ≡ resolved s (referenceIn w)
-names-nothing s w e = rw e

@@ -7,8 +7,8 @@ use Prim.Native.Nat.{ℕ, _≤_, _<_}
 use Rattle.rules.specs.Names as R
 use Rattle.rules.specs.Grammar as G
 use Rattle.rules.specs.Grammar.{Reference, WrittenType}
-use Rattle.rules.specs.Declarations.{Def, attributeAt, isFound, State, known}
-use Rattle.rules.specs.Judge.{Rule, isExtended, mayType, referenceIn, resolved}
+use Rattle.rules.specs.Declarations.{Sort, Def, attributeAt, isFound, State, known}
+use Rattle.rules.specs.Judge.{Rule, isExtended, mayStandIn, referenceIn, resolved}
 use Rattle.names.specs.Index.{entry}
 use Rattle.members.specs.Members.{slotOf, most}
 use Rattle.members.specs.Held.{Opened, attributesIn}
@@ -32,10 +32,14 @@ pub record Given (t : List ℕ) (n : R.Name) (p : List (List ℕ)) (w : G.Writte
   pub fair : FairWritten t (isExtended p) w
   pub scratched : Scratched t rs (w .type)
 
--- what a reference that breaks neither 10 nor 11 names
-abbrev pub Refers : Option Reference → Option Def → Type 0
-Refers none g = g ≡ none
-Refers (some r) g = (d : Def) × (g ≡ some d) × (mayType (d .sort) ≡ true)
+-- a reference leads to a definition of some sorts
+abbrev pub LeadsTo : (Sort → Bool) → Option Reference → Option Def → Type 0
+LeadsTo p none g = g ≡ none
+LeadsTo p (some r) g = (d : Def) × (g ≡ some d) × (p (d .sort) ≡ true)
+
+-- what the reference in a type leads to if it breaks neither 10 nor 11: a domain or structure that is named, or a unit
+abbrev pub Refers : Option WrittenType → Option Def → Type 0
+Refers w g = LeadsTo (mayStandIn w) (referenceIn w) g
 
 -- 4 and 9 of the name, and its slot in the open class c
 pub record SlotIs (s : State) (c : Def) (n : R.Name) (extended : Bool) (hs : List ℕ)
@@ -43,15 +47,15 @@ pub record SlotIs (s : State) (c : Def) (n : R.Name) (extended : Bool) (hs : Lis
   pub ruling : r .ruling ≡ rulingOf (nameRules c n extended)
   pub slot : (o : Opened (attributesIn s) hs hand c) → r .slot ≡ slotOf (n .bytes) (o .hand)
 
--- the position of the nearest inherited attribute of the name, and of what a reference names
+-- the position of the nearest inherited attribute of the name, and of what the type's reference leads to
 pub record Reaches (s : State) (c : Def) (n : R.Name) (w : Option WrittenType) (e : Bonds) : Type 0 where
   pub base : entry (attributesIn s) (e .base) ≡ attributeAt (n .bytes) (c .inherited)
-  pub named : entry (known (s .decls)) (e .named) ≡ resolved s (referenceIn w)
+  pub target : entry (known (s .decls)) (e .target) ≡ resolved s (referenceIn w)
 
 -- 10 and 11
 abbrev pub referencesIn : State → Def → R.Name → Bool → Option WrittenType → List Rule
 referencesIn s c n extended w =
-    referenceRules (n .offset) extended (isFound (attributeAt (n .bytes) (c .inherited))) (referenceIn w)
+    referenceRules (n .offset) extended (isFound (attributeAt (n .bytes) (c .inherited))) w
     (resolved s (referenceIn w))
 
 -- the bonds of an attribute are slots and positions that there are; a name that is new breaks 4 where
@@ -59,11 +63,11 @@ referencesIn s c n extended w =
 pub record Within (st : code.State) (e : Bonds) : Type 0 where
   pub slot : e .slot ≤ st .context .«in_hand»
   pub base : e .base ≤ st .listing .total
-  pub named : e .named ≤ st .listing .count
+  pub target : e .target ≤ st .listing .count
   pub few : e .ruling .number ≡ 0 → e .slot ≡ 0 → st .context .«in_hand» < most
 
 -- 4 to 11; behind them the slot of the name in the open class c, the position of the nearest inherited one, and of
--- what a reference names
+-- what the type's reference leads to
 pub record BondsAre (s : State) (c : Def) (n : R.Name) (extended : Bool) (w : Option WrittenType) (hs : List ℕ)
     (hand : ℕ) (e : Bonds) : Type 0 where
   pub ruling : e .ruling ≡ rulingOf

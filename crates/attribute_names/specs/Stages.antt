@@ -5,10 +5,11 @@ use mathlib.Core.List.{List, [], _∷_, _++_}
 use Prim.Native.Nat.{ℕ}
 use lib.Dec.{leb}
 use Rattle.rules.specs.Names.{Name}
-use Rattle.rules.specs.Grammar.{Reference, WrittenType}
+use Rattle.rules.specs.Grammar.{WrittenType}
 use Rattle.rules.specs.Declarations.{Def, attributesOf, attributeAt, isFound, nameCount}
-use Rattle.rules.specs.Judge.{Rule, rule, orNoDef, placeOf, mayType, referenceIn, elementRule}
+use Rattle.rules.specs.Judge.{Rule, rule, elementRule}
 use Rattle.members.specs.Members.{most}
+use Rattle.state.specs.Targets.{targetRules}
 
 -- 4 and 9 of the name
 abbrev pub nameRules : Def → Name → Bool → List Rule
@@ -19,17 +20,11 @@ nameRules c n extended =
     (isFound (attributeAt (n .bytes) (c .own)) || (isFound (attributeAt (n .bytes) (c .inherited)) && not extended))
     ∷ []
 
--- 10 of a reference, and 11
-abbrev pub targetRules : Option Reference → Option Def → List Rule
-targetRules r g =
-    rule 10 (placeOf r) (isFound r && not (isFound g))
-    ∷ rule 11 (placeOf r) (isFound g && not (mayType (orNoDef g .sort))) ∷ []
-
--- 10 and 11; the name stands at p
-abbrev pub referenceRules : ℕ → Bool → Bool → Option Reference → Option Def → List Rule
-referenceRules p extended based r g = rule 10 p (extended && not based) ∷ targetRules r g
+-- 10 and 11; the name stands at p, the reference in the type w leads to g
+abbrev pub referenceRules : ℕ → Bool → Bool → Option WrittenType → Option Def → List Rule
+referenceRules p extended based w g = rule 10 p (extended && not based) ∷ targetRules w g
 
 -- 4 to 11
 abbrev pub rulesTo11 : Def → Name → Bool → Bool → Option WrittenType → Option Def → List Rule
 rulesTo11 c n extended based w g =
-    nameRules c n extended ++ (elementRule w ∷ referenceRules (n .offset) extended based (referenceIn w) g)
+    nameRules c n extended ++ (elementRule w ∷ referenceRules (n .offset) extended based w g)

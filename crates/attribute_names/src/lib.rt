@@ -1,7 +1,7 @@
 // The name of an attribute and what it refers to: 4 by count, 9, 10 and 11.
 use ground::Ruling;
 use members::MOST;
-use parts::types::Meant;
+use parts::types::Written;
 use state::State;
 use units::AttributeUnit;
 ghost use mathlib.Core.Path.{_≡_};
@@ -13,22 +13,22 @@ ghost use lib.ListN.{length};
 ghost use lib.Dec.{eqb};
 ghost use Rattle.rules.specs.Names as R;
 ghost use Rattle.rules.specs.Grammar as G;
-ghost use Rattle.rules.specs.Grammar.{WrittenType};
+ghost use Rattle.rules.specs.Grammar.{Reference, WrittenType};
 ghost use Rattle.rules.specs.Declarations as D;
-ghost use Rattle.rules.specs.Declarations.{Def, Attribute, attributeAt, isFound, sortNumber, known};
-ghost use Rattle.rules.specs.Judge.{isExtended, mayType, referenceIn, resolved};
+ghost use Rattle.rules.specs.Declarations.{Def, Attribute, attributeAt, isFound};
+ghost use Rattle.rules.specs.Judge.{isExtended, referenceIn};
 ghost use Rattle.rules.specs.All.{AnyIs};
 ghost use Rattle.names.specs.Index.{entry, Known, Rows};
 ghost use Rattle.names.specs.References.{Inside};
 ghost use Rattle.members.specs.Members.{Filled, slotOf, most, Hand};
 ghost use Rattle.members.specs.Held.{Opened, Apart, attributesIn};
-ghost use Rattle.parts.specs.Forms.{anyOf};
-ghost use Rattle.wellformed.specs.Fairness.{FairType};
+ghost use Rattle.parts.specs.Forms.{anyOf, optionalOf};
+ghost use Rattle.wellformed.specs.Fairness.{FairReference};
 ghost use Rattle.tables.specs.Tables.{TableFor};
 ghost use Rattle.ground.specs.Rulings.{rulingOf};
 ghost use Rattle.state.specs.Keeping.{Kept};
 ghost use Rattle.state.specs.Parts.{Ample};
-ghost use Rattle.attribute_names.specs.Stages.{nameRules, targetRules, referenceRules};
+ghost use Rattle.attribute_names.specs.Stages.{nameRules, referenceRules};
 ghost use Rattle.attribute_names.specs.Facts.{Given, SlotIs, Reaches, referencesIn, Within, BondsAre};
 
 // The rule of 4 and 9 that a name breaks, and its slot in the hand, 0 for none.
@@ -38,12 +38,12 @@ struct Slotted {
 }
 
 // The rule of 4 to 11 that is broken; or the slot of the name in the hand, the position of the nearest inherited
-// attribute and that of what a reference names, each 0 for none.
+// attribute and that of what the type's reference leads to, each 0 for none.
 pub struct Bonds {
     pub ruling: Ruling,
     pub slot: usize,
     pub base: usize,
-    pub named: usize,
+    pub target: usize,
 }
 
 // ---- rulings
@@ -134,50 +134,6 @@ fn found_at(hand: &[u32], total: usize, slot: usize) -> usize
     0
 }
 
-// A domain or a structure, by the number of its sort.
-fn may_type(sort: usize) -> bool
-    ensures { λ r. ⌜ ((d : D.Sort) → sort ≡ sortNumber d → r ≡ mayType d) ⌝ }
-{
-    if sort == 3 {
-        return true;
-    }
-    sort == 2
-}
-
-// What a reference names, 0 for nothing.
-fn named_in(text: &[u8], work: &[u16], st: State, m: Meant) -> usize
-    requires { ⌜ Inside (now text) (st .context .model) × Ample st (length (now work)) ⌝ }
-    requires { ⌜ ((w : Option WrittenType) × (m ≡ anyOf w) × AnyIs (FairType (now text)) w) ⌝ }
-    ensures { λ p. ⌜ (p ≤ st .listing .count) × ((s : D.State) (w : Option WrittenType) (o hs : List ℕ)
-        → Kept (now (text .entry)) s st o (now (work .entry)) hs → m ≡ anyOf w → AnyIs (FairType (now (text .entry))) w
-        → entry (known (s .decls)) p ≡ resolved s (referenceIn w)) ⌝ }
-{
-    if let Meant::Named(r) = m {
-        return state::named(text, work, st, r);
-    }
-    0
-}
-
-// The reference's own part; it names the definition at a position.
-fn target_ruling(index: &[u16], m: Meant, named: usize) -> Ruling
-    requires { ⌜ Rows (now index) named ⌝ }
-    ensures { λ r. ⌜ ((t : List ℕ) (ks : List Def) (count : ℕ) (w : Option WrittenType)
-        → Known t ks (now (index .entry)) count → named ≤ count
-        → m ≡ anyOf w → (referenceIn w ≡ none → entry ks named ≡ none)
-        → r ≡ rulingOf (targetRules (referenceIn w) (entry ks named))) ⌝ }
-{
-    if let Meant::Named(r) = m {
-        if named == 0 {
-            return broken(10, state::first_place(r));
-        }
-        if may_type(names::sort_of(index, named)) {
-            return fine();
-        }
-        return broken(11, state::first_place(r));
-    }
-    fine()
-}
-
 // EXTENDED without an inherited attribute.
 fn is_lost(extended: bool, base: usize) -> bool
     ensures { λ r. ⌜ r ≡ (extended && eqb base 0) ⌝ }
@@ -190,30 +146,33 @@ fn is_lost(extended: bool, base: usize) -> bool
 
 fn reference_ruling(
     index: &[u16],
-    m: Meant,
+    w: Written,
     extended: bool,
     base: usize,
-    named: usize,
+    target: usize,
     place: usize,
 ) -> Ruling
-    requires { ⌜ Rows (now index) named ⌝ }
-    ensures { λ r. ⌜ ((t : List ℕ) (ks : List Def) (count : ℕ) (ms : List Attribute) (w : Option WrittenType)
-        → Known t ks (now (index .entry)) count → named ≤ count → base ≤ length ms → m ≡ anyOf w
-        → (referenceIn w ≡ none → entry ks named ≡ none)
-        → r ≡ rulingOf (referenceRules place extended (isFound (entry ms base)) (referenceIn w) (entry ks named))) ⌝ }
+    requires { ⌜ Rows (now index) target ⌝ }
+    ensures { λ r. ⌜ ((t : List ℕ) (ks : List Def) (count : ℕ) (ms : List Attribute) (v : Option WrittenType)
+        → Known t ks (now (index .entry)) count → target ≤ count → base ≤ length ms → w .meant ≡ anyOf v
+        → w .reference ≡ optionalOf (referenceIn v) → (referenceIn v ≡ none → entry ks target ≡ none)
+        → r ≡ rulingOf (referenceRules place extended (isFound (entry ms base)) v (entry ks target))) ⌝ }
 {
     if is_lost(extended, base) {
         return broken(10, place);
     }
-    target_ruling(index, m, named)
+    let m = w.meant;
+    let r = w.reference;
+    state::target_ruling(index, m, r, target)
 }
 
 // The same, and what the name in the slot and the reference reach; no own attribute has the name.
 fn reach(text: &[u8], work: &[u16], hand: &[u32], st: State, a: AttributeUnit, slot: usize) -> Bonds
     requires { ⌜ Inside (now text) (st .context .model) × Ample st (length (now work)) × (slot ≤ most)
         × Hand (now hand) ⌝ }
-    requires { ⌜ ((w : Option WrittenType) × (a .written .meant ≡ anyOf w) × AnyIs (FairType (now text)) w) ⌝ }
-    ensures { λ r. ⌜ (r .slot ≡ slot) × (r .base ≤ st .listing .total) × (r .named ≤ st .listing .count)
+    requires { ⌜ ((b : Option Reference) × (a .written .reference ≡ optionalOf b)
+        × AnyIs (FairReference (now text)) b) ⌝ }
+    ensures { λ r. ⌜ (r .slot ≡ slot) × (r .base ≤ st .listing .total) × (r .target ≤ st .listing .count)
         × ((s : D.State) (c : Def) (n : R.Name) (p : List (List ℕ)) (w : G.Written) (o rs : List ℕ)
         → Kept (now (text .entry)) s st o (now (work .entry)) (now (hand .entry)) → s .open-class ≡ some c
         → Given (now (text .entry)) n p w rs a
@@ -225,29 +184,29 @@ fn reach(text: &[u8], work: &[u16], hand: &[u32], st: State, a: AttributeUnit, s
     let name = a.name;
     let p = a.properties;
     let w = a.written;
-    let m = w.meant;
     let base = found_at(hand, st.listing.total, slot);
-    let named = named_in(text, work, st, m);
+    let r = w.reference;
+    let target = state::target(text, work, st, r);
     let i = st.listing.layout.index;
     let e = st.listing.layout.rows;
-    let ruling = reference_ruling(&work[i..e], m, p.extended, base, named, name.offset);
+    let ruling = reference_ruling(&work[i..e], w, p.extended, base, target, name.offset);
     Bonds {
         ruling,
         slot,
         base,
-        named,
+        target,
     }
 }
 
 // ---- 9 of elements, and all
 fn stopped(ruling: Ruling) -> Bonds
-    ensures { λ e. ⌜ e ≡ record { ruling = ruling; slot = 0; base = 0; named = 0 } ⌝ }
+    ensures { λ e. ⌜ e ≡ record { ruling = ruling; slot = 0; base = 0; target = 0 } ⌝ }
 {
     Bonds {
         ruling,
         slot: 0,
         base: 0,
-        named: 0,
+        target: 0,
     }
 }
 
@@ -264,7 +223,8 @@ pub fn judge_name(
     requires { ⌜ Inside (now text) (st .context .model) × Inside (now text) (a .name) × Ample st (length (now work)) ⌝ }
     requires { ⌜ (st .context .«in_hand» ≤ most) × Hand (now hand) ⌝ }
     requires { ⌜ (length (now scratch) ≤ 262144) × TableFor (length (now scratch)) (length (now tables)) ⌝ }
-    requires { ⌜ ((w : Option WrittenType) × (a .written .meant ≡ anyOf w) × AnyIs (FairType (now text)) w) ⌝ }
+    requires { ⌜ ((b : Option Reference) × (a .written .reference ≡ optionalOf b)
+        × AnyIs (FairReference (now text)) b) ⌝ }
     ensures { λ e. ⌜ Within st e
         × ((s : D.State) (c : Def) (n : R.Name) (p : List (List ℕ)) (w : G.Written) (o : List ℕ)
         → Kept (now (text .entry)) s st o (now (work .entry)) (now (hand .entry)) → s .open-class ≡ some c

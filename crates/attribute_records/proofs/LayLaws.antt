@@ -1,4 +1,4 @@
--- 14 to 18 of what types an attribute, and its records.
+-- 14 to 18 and 22 of what types an attribute, and its records.
 use mathlib.Core.Path.{_≡_, refl, sym, ap, _∙_, subst}
 use mathlib.Core.Logic.{⊎-elim}
 use mathlib.Core.Bool.{Bool, true, false, cond, not, _&&_}
@@ -13,14 +13,14 @@ use types.Run.{OneOf}
 use denote.Enum.Declared.{tagOf}
 use Rattle.wellformed.proofs.TypeLaws.{sort-domain}
 use Rattle.rules.specs.Grammar as G
-use Rattle.rules.specs.Grammar.{Reference, WrittenType}
+use Rattle.rules.specs.Grammar.{WrittenType}
 use Rattle.rules.specs.Types as T
-use Rattle.rules.specs.Types.{Ty, kindOf, fits}
+use Rattle.rules.specs.Types.{Ty, kindOf, fits, unitsFit}
 use Rattle.rules.specs.Declarations.{Use, inline, ofDomain, ofStructure, tyOf, linkOf, Attribute, Def, isSort, domain}
 use Rattle.rules.specs.Declarations.{isFound, sortNumber}
 use Rattle.rules.specs.Book.{Record, lowFirst, bytes, typeRecords, useRecords}
 use Rattle.rules.specs.Judge.{attributeUse, Rule, rule, kindRule, orNoAttribute, naming, basesOf, isAmong, descends}
-use Rattle.rules.specs.Judge.{referenceIn, domainType, typeRules, mayType}
+use Rattle.rules.specs.Judge.{isNaming, domainType, typeRules, mayType}
 use Rattle.book.specs.Forms.{lengthForm}
 use Rattle.book.specs.Sizes.{lengthSize}
 use Rattle.ground.specs.Parts.{splice}
@@ -48,16 +48,18 @@ use Rattle.attribute_names.proofs.NameLaws.{fair, brokenAt, found-is}
 use Rattle.attribute_types.specs.Facts.{Ready}
 use Rattle.attribute_records.specs.Stages.{baseRules, useRules}
 use Rattle.attribute_records.specs.Facts.{Lays, LaidAs}
-use Rattle.attribute_types.proofs.UseLaws.{is-domain, no-domain, def-there, in-place-type, named-type, refers-none}
-use Rattle.attribute_types.proofs.UseLaws.{fair-use, fair-base}
+use Rattle.attribute_types.proofs.UseLaws.{is-domain, no-domain, def-there, in-place-type, named-type}
+use Rattle.attribute_types.proofs.UseLaws.{naming-refers, naming-there, naming-none, fair-use, fair-base}
+use Rattle.wellformed.proofs.UnitLaws.{units-self}
+use Rattle.rules.proofs.Tests.{never}
 
 -- ---- MANDATORY alone
 pub alone-is : (m : Meant) → m ≡ Alone → (w : Option WrittenType) → m ≡ anyOf w → w ≡ none
 alone-is m e none h = refl
 alone-is m e (some (G.text k none)) h = let z : _≡_ {A = ℕ} 0 1 = cc in absurd (omega arith)
 alone-is m e (some (G.text k (some y))) h = let z : _≡_ {A = ℕ} 0 1 = cc in absurd (omega arith)
-alone-is m e (some (G.range x y)) h = let z : _≡_ {A = ℕ} 0 1 = cc in absurd (omega arith)
-alone-is m e (some G.numeric) h = let z : _≡_ {A = ℕ} 0 1 = cc in absurd (omega arith)
+alone-is m e (some (G.numeric none r)) h = let z : _≡_ {A = ℕ} 0 1 = cc in absurd (omega arith)
+alone-is m e (some (G.numeric (some q) r)) h = let z : _≡_ {A = ℕ} 0 1 = cc in absurd (omega arith)
 alone-is m e (some (G.enum x)) h = let z : _≡_ {A = ℕ} 0 1 = cc in absurd (omega arith)
 alone-is m e (some (G.named b)) h = let z : _≡_ {A = ℕ} 0 1 = cc in absurd (omega arith)
 
@@ -75,20 +77,24 @@ pub alone-use : (ks : List Def) (u : ℕ) (g : Option Def) (w : Option WrittenTy
     → useFor (entry ks u) (tyOf v) ≡ v → useFor (entry ks u) (tyOf (attributeUse w g v)) ≡ attributeUse w g v
 alone-use ks u g w v e h = rw e h
 
-in-place : (w : Option WrittenType) (g : Option Def) (v : Use) → ¬ (w ≡ none) → referenceIn w ≡ none
+in-place : (w : Option WrittenType) (g : Option Def) (v : Use) → ¬ (w ≡ none) → isNaming w ≡ false
     → inline (tyOf (attributeUse w g v)) ≡ attributeUse w g v
 in-place none g v z e = absurd (z refl)
 in-place (some (G.text m n)) g v z e = refl
-in-place (some (G.range x y)) g v z e = refl
-in-place (some G.numeric) g v z e = refl
+in-place (some (G.numeric q r)) g v z e = refl
 in-place (some (G.enum x)) g v z e = refl
-in-place (some (G.named b)) g v z e = let y : _≡_ {A = ℕ} 0 1 = cc in absurd (omega arith)
+in-place (some (G.named b)) g v z e = never (sym e)
 
-pub written-use : (g : Option Def) (m : Meant) → OneOf (1 ∷ 2 ∷ 3 ∷ 4 ∷ 5 ∷ 6 ∷ []) (tagOf Meant·the-type m)
-    → (w : Option WrittenType) → m ≡ anyOf w → Refers (referenceIn w) g → (v : Use)
-    → useFor g (tyOf (attributeUse w g v)) ≡ attributeUse w g v
-written-use none m o w e r v = in-place w none v (λ z. not-alone m o (e ∙ ap anyOf z)) (refers-none (referenceIn w) r)
-written-use (some d) m o w e r v = sym (named-type w d v r)
+pub written-use : (ks : List Def) (p named : ℕ) (m : Meant)
+    → OneOf (1 ∷ 2 ∷ 3 ∷ 4 ∷ 5 ∷ 6 ∷ []) (tagOf Meant·the-type m)
+    → (w : Option WrittenType) → m ≡ anyOf w → named ≡ cond (isNaming w) p 0 → Refers w (entry ks p) → (v : Use)
+    → useFor (entry ks named) (tyOf (attributeUse w (entry ks p) v)) ≡ attributeUse w (entry ks p) v
+written-use ks p named m o w e q r v = go (isNaming w) refl q
+  where
+    go : (b : Bool) → isNaming w ≡ b → named ≡ cond b p 0
+        → useFor (entry ks named) (tyOf (attributeUse w (entry ks p) v)) ≡ attributeUse w (entry ks p) v
+    go true i n = let (d, h, y) = naming-refers w (entry ks p) i r in rw (n, h) (sym (named-type w d v i))
+    go false i n = rw n (in-place w (entry ks p) v (λ z. not-alone m o (e ∙ ap anyOf z)) i)
 
 -- ---- the record of what is named
 naming-records : (d : Def) → useRecords (naming d)
@@ -143,8 +149,7 @@ module _ (t b : List ℕ) (ks : List Def) (ms : List Attribute) (x : List ℕ) (
 kind-five : (t : List ℕ) (x : Ty) → Fair t x → ¬ (kindOf x ≡ 5)
 kind-five t (T.text true n) f e = omega arith
 kind-five t (T.text false n) f e = omega arith
-kind-five t (T.range r) f e = omega arith
-kind-five t T.numeric f e = omega arith
+kind-five t (T.numeric r u) f e = omega arith
 kind-five t (T.enum x) f e = omega arith
 kind-five t T.structure f e = f
 
@@ -188,7 +193,7 @@ module _ (t b : List ℕ) (ks : List Def) (ms : List Attribute) (x : List ℕ) (
       let m : a ≡ isAmong (f .number) (linkOf d ∷ d .bases) = ea ∙ rw (e, en t f (k .says)) in
       m ∙ descends-both t d f (r .types p d e) (r .types u f q) h ∙ ap (descends (naming d)) i
 
--- ---- 16 to 18 of what is named
+-- ---- 16 to 18 and 22 of what is named
 module _ (p : ℕ) (f : Bool) (u b : Use) where
   pub descent-none : f ≡ false → fair ≡ rulingOf (baseRules p f true u b)
   descent-none e = rw e
@@ -226,17 +231,16 @@ laid-whole : (q : Ruling) (l : List Record) (i : ℕ) (o o₁ : List ℕ) (r : L
     → LaidWhen (ltb 0 (q .number)) q l i o o₁ r
 laid-whole q l i o o₁ r h k = rw (le-ltb 0 (q .number) h) k
 
--- a reference has no other rules
-named-rules : (p : ℕ) (f : Bool) (v : Option WrittenType) (d : Def) (b : Use) → Refers (referenceIn v) (some d)
+-- what is named has no other rules
+named-rules : (p : ℕ) (f : Bool) (v : Option WrittenType) (d : Def) (b : Use) → isNaming v ≡ true
     → useRules p f v (attributeUse v (some d) b) b ≡ baseRules p f true (naming d) b
-named-rules p f none d b e = let z : _≡_ {A = ℕ} 0 1 = cc in absurd (omega arith)
-named-rules p f (some (G.text m n)) d b e = let z : _≡_ {A = ℕ} 0 1 = cc in absurd (omega arith)
-named-rules p f (some (G.range m n)) d b e = let z : _≡_ {A = ℕ} 0 1 = cc in absurd (omega arith)
-named-rules p f (some G.numeric) d b e = let z : _≡_ {A = ℕ} 0 1 = cc in absurd (omega arith)
-named-rules p f (some (G.enum m)) d b e = let z : _≡_ {A = ℕ} 0 1 = cc in absurd (omega arith)
+named-rules p f none d b e = never e
+named-rules p f (some (G.text m n)) d b e = never e
+named-rules p f (some (G.numeric q r)) d b e = never e
+named-rules p f (some (G.enum m)) d b e = never e
 named-rules p f (some (G.named m)) d b e = refl
 
-module _ (p : ℕ) (v : Option WrittenType) (d : Def) (o : Option Attribute) (e : Refers (referenceIn v) (some d))
+module _ (p : ℕ) (v : Option WrittenType) (d : Def) (o : Option Attribute) (e : isNaming v ≡ true)
     (q : Ruling) (eq : q ≡ rulingOf (baseRules p (isFound o) true (naming d) (orNoAttribute o .use-of)))
     (i : ℕ) (out out₁ : List ℕ) where
   rule-is : rulingOf
@@ -253,7 +257,12 @@ module _ (p : ℕ) (v : Option WrittenType) (d : Def) (o : Option Attribute) (e 
 -- what is kept of the base with MANDATORY alone breaks nothing
 unbroken : (p : ℕ) (f : Bool) (t : List ℕ) (b : Use) → FairOrNone t (tyOf b) → rulingOf (useRules p f none b b) ≡ fair
 unbroken p false t b h = refl
-unbroken p true t b h = rw (eq-eqb (kindOf (tyOf b)) (kindOf (tyOf b)) refl, fits-split t none (tyOf b) h refl refl)
+unbroken p true t b h =
+    rw (
+      eq-eqb (kindOf (tyOf b)) (kindOf (tyOf b)) refl,
+      fits-split t none none (tyOf b) h refl refl,
+      units-self (tyOf b),
+    )
 
 -- in place, the rules are those of a written type
 rules-on : (l m m' : List Rule) → rulingOf m ≡ rulingOf m' → rulingOf (l ++ m) ≡ rulingOf (l ++ m')
@@ -262,15 +271,16 @@ rules-on (r ∷ l) m m' e = ap (cond (r .broken) (record { number = r .number; p
 
 -- 18 is for what is named
 last-rules : (p : ℕ) (f : Bool) (x y : Ty)
-    → rulingOf (kindRule p f x y ∷ rule 17 p (f && not (fits x y)) ∷ rule 18 p (f && false) ∷ [])
-    ≡ rulingOf (kindRule p f x y ∷ rule 17 p (f && not (fits x y)) ∷ [])
+    → rulingOf (kindRule p f x y ∷ rule 17 p (f && not (fits x y)) ∷ rule 18 p (f && false)
+    ∷ rule 22 p (f && not (unitsFit x y)) ∷ [])
+    ≡ rulingOf (kindRule p f x y ∷ rule 17 p (f && not (fits x y)) ∷ rule 22 p (f && not (unitsFit x y)) ∷ [])
 last-rules p true x y = refl
 last-rules p false x y = refl
 
-in-place-rules : (p : ℕ) (f : Bool) (v : Option WrittenType) (u b : Use) → referenceIn v ≡ none
-    → tyOf u ≡ domainType v (tyOf b) → rulingOf (useRules p f v u b) ≡ rulingOf (writtenRules f p v (tyOf b))
-in-place-rules p f v u b e h =
-    rw (e, h) (rules-on (typeRules f p v) _ _ (last-rules p f (domainType v (tyOf b)) (tyOf b)))
+in-place-rules : (p : ℕ) (f : Bool) (v : Option WrittenType) (g : Option Def) (u b : Use) → isNaming v ≡ false
+    → tyOf u ≡ domainType v g (tyOf b) → rulingOf (useRules p f v u b) ≡ rulingOf (writtenRules f p v g (tyOf b))
+in-place-rules p f v g u b e h =
+    rw (e, h) (rules-on (typeRules f p v) _ _ (last-rules p f (domainType v g (tyOf b)) (tyOf b)))
 
 naming-inline : (d : Def) (x : Ty) → ¬ (naming d ≡ inline x)
 naming-inline d x = go (isSort domain (d .sort))
@@ -285,13 +295,13 @@ laid-as q q' e l l' f i o o₁ r h = rw (e, f) h
 
 -- ---- each way to lay
 module _ {t b : List ℕ} {ks : List Def} {ms : List Attribute} {x : List ℕ} {count : ℕ} {y : List ℕ} {total : ℕ} {rs :
-    List ℕ} {w : Written} {base named u : ℕ} {over : Over} {v : Option WrittenType}
-    (l : Lays t b ks ms x count y total rs w base named u over v) where
+    List ℕ} {w : Written} {base target named u : ℕ} {over : Over} {v : Option WrittenType}
+    (l : Lays t b ks ms x count y total rs w base target named u over v) where
   abbrev kept : Use
   kept = orNoAttribute (entry ms base) .use-of
 
-  pub lays-there : 0 < named → named ≤ count → (d : Def) × (entry ks named ≡ some d)
-  lays-there z h = let a = l .ready .held .all-defs in entry-there ks named z (omega arith)
+  abbrev own : Use
+  own = attributeUse v (entry ks target) kept
 
   pub based-is : isFound (entry ms base) ≡ ltb 0 base
   based-is = let a = l .ready .held .all-attributes in let c = l .within in found-is ms base (omega arith)
@@ -306,84 +316,87 @@ module _ {t b : List ℕ} {ks : List Def} {ms : List Attribute} {x : List ℕ} {
       go none e = tt
       go (some a) e = l .ready .uses base a e
 
-  module _ (d : Def) (e : entry ks named ≡ some d) where
-    refers : Refers (referenceIn v) (some d)
-    refers = subst (Refers (referenceIn v)) e (l .refers)
+  -- a domain or structure is named
+  module _ (z : 0 < named) where
+    is-naming : isNaming v ≡ true
+    is-naming = naming-there target named v (l .names) z .0
 
-    pub may-name : mayType (d .sort) ≡ true
-    may-name = go (referenceIn v) refers
-      where
-        go : (r : Option Reference) → Refers r (some d) → mayType (d .sort) ≡ true
-        go none h = let z : _≡_ {A = ℕ} 0 1 = cc in absurd (omega arith)
-        go (some r) h = let (f, q, m) = h in let k : d ≡ f = cc in rw k m
+    pub lays-there : (d : Def) × (entry ks named ≡ some d) × (mayType (d .sort) ≡ true)
+    lays-there =
+        let (d, e, m) = naming-refers v (entry ks target) is-naming (l .refers) in
+        (d, ap (entry ks) (naming-there target named v (l .names) z .1) ∙ e, m)
 
-    pub typed-naming : 0 < named → Typed t b (tyOf (naming d)) (over .own)
-    typed-naming z = subst (λ (k : Use). Typed t b (tyOf k) (over .own))
-        (ap (λ (g : Option Def). attributeUse v g kept) e ∙ named-type v d kept refers) (l .typed-named z)
+    module _ (d : Def) (e : entry ks named ≡ some d) where
+      at-target : entry ks target ≡ some d
+      at-target = ap (entry ks) (sym (naming-there target named v (l .names) z .1)) ∙ e
 
-    module _ (q : Ruling)
-        (eq : q ≡ rulingOf (baseRules (w .place) (isFound (entry ms base)) true (naming d) kept)) where
-      pub lay-broken : (i : ℕ) (out out₁ : List ℕ) → 0 < q .number
-          → LaidAs (w .place) v (entry ks named) (entry ms base) i out out₁ (Broken q)
-      lay-broken i out out₁ h = rw e (lay-broken-by (w .place) v d (entry ms base) refers q eq i out out₁ h)
+      pub typed-naming : Typed t b (tyOf (naming d)) (over .own)
+      typed-naming = subst (λ (k : Use). Typed t b (tyOf k) (over .own))
+          (ap (λ (g : Option Def). attributeUse v g kept) at-target ∙ named-type v d kept is-naming) (l .typed-named z)
 
-      pub lay-reference : (i : ℕ) (out out₁ : List ℕ) → q .number ≤ 0 → (r : Laying) → Named d i out out₁ r
-          → LaidAs (w .place) v (entry ks named) (entry ms base) i out out₁ r
-      lay-reference i out out₁ h r k = rw e (lay-named-by (w .place) v d (entry ms base) refers q eq i out out₁ h r k)
+      module _ (q : Ruling)
+          (eq : q ≡ rulingOf (baseRules (w .place) (isFound (entry ms base)) true (naming d) kept)) where
+        pub lay-broken : (i : ℕ) (out out₁ : List ℕ) → 0 < q .number
+            → LaidAs (w .place) v (entry ks target) (entry ms base) i out out₁ (Broken q)
+        lay-broken i out out₁ h =
+            rw at-target (lay-broken-by (w .place) v d (entry ms base) is-naming q eq i out out₁ h)
 
-  -- no reference
-  module _ (z : named ≤ 0) (k : ℕ) (ek : useFor (entry ks k) (tyOf (attributeUse v (entry ks named) kept))
-      ≡ attributeUse v (entry ks named) kept) where
-    nothing : entry ks named ≡ none
-    nothing = let n : named ≡ 0 = omega arith in ap (entry ks) n
+        pub lay-reference : (i : ℕ) (out out₁ : List ℕ) → q .number ≤ 0 → (r : Laying) → Named d i out out₁ r
+            → LaidAs (w .place) v (entry ks target) (entry ms base) i out out₁ r
+        lay-reference i out out₁ h r k =
+            rw at-target (lay-named-by (w .place) v d (entry ms base) is-naming q eq i out out₁ h r k)
 
-    pub no-reference : referenceIn v ≡ none
-    no-reference = refers-none (referenceIn v) (subst (Refers (referenceIn v)) nothing (l .refers))
+  -- none is
+  module _ (z : named ≤ 0) (k : ℕ) (ek : useFor (entry ks k) (tyOf own) ≡ own) where
+    pub in-place-here : isNaming v ≡ false
+    in-place-here = naming-none target named v (l .names) ks (l .refers) (omega arith)
 
     pub kept-there : 0 < k → k ≤ count → (d : Def) × (entry ks k ≡ some d)
     kept-there h c = let a = l .ready .held .all-defs in entry-there ks k h (omega arith)
 
     pub lay-kept : (d : Def) → entry ks k ≡ some d → (i : ℕ) (out out₁ : List ℕ) (r : Laying) → Named d i out out₁ r
-        → LaidAs (w .place) v (entry ks named) (entry ms base) i out out₁ r
+        → LaidAs (w .place) v (entry ks target) (entry ms base) i out out₁ r
     lay-kept d e i out out₁ r h =
-        go v no-reference (sym (ap (λ (g : Option Def). useFor g (tyOf (attributeUse v (entry ks named) kept))) e) ∙ ek)
+        go v in-place-here (sym (ap (λ (g : Option Def). useFor g (tyOf own)) e) ∙ ek)
       where
-        go : (v : Option WrittenType) → referenceIn v ≡ none → naming d ≡ attributeUse v (entry ks named) kept
-            → LaidAs (w .place) v (entry ks named) (entry ms base) i out out₁ r
+        go : (v : Option WrittenType) → isNaming v ≡ false → naming d ≡ attributeUse v (entry ks target) kept
+            → LaidAs (w .place) v (entry ks target) (entry ms base) i out out₁ r
         go none n q = rw (unbroken (w .place) (isFound (entry ms base)) t kept base-fair, ← q) h
         go (some (G.text m c)) n q = absurd (naming-inline d _ q)
-        go (some (G.range m c)) n q = absurd (naming-inline d _ q)
-        go (some G.numeric) n q = absurd (naming-inline d _ q)
+        go (some (G.numeric m c)) n q = absurd (naming-inline d _ q)
         go (some (G.enum m)) n q = absurd (naming-inline d _ q)
-        go (some (G.named m)) n q = let y : _≡_ {A = ℕ} 0 1 = cc in absurd (omega arith)
+        go (some (G.named m)) n q = never (sym n)
 
     pub based-none : over .based ≡ false → tyOf kept ≡ T.structure
     based-none h = go (entry ms base) (based-is ∙ sym (l .based) ∙ h)
       where
         go : (o : Option Attribute) → isFound o ≡ false → tyOf (orNoAttribute o .use-of) ≡ T.structure
         go none e = refl
-        go (some a) e = let y : _≡_ {A = ℕ} 0 1 = cc in absurd (omega arith)
+        go (some a) e = never (sym e)
 
-    own-is : tyOf (attributeUse v (entry ks named) kept) ≡ domainType v (tyOf kept)
-    own-is = in-place-type v (entry ks named) kept no-reference
+    own-is : tyOf own ≡ domainType v (entry ks target) (tyOf kept)
+    own-is = in-place-type v (entry ks target) kept in-place-here
 
-    pub valued-own : Valued (domainType v (tyOf kept)) (over .own)
+    pub valued-own : Valued (domainType v (entry ks target) (tyOf kept)) (over .own)
     valued-own = subst (λ (c : Ty). Valued c (over .own)) own-is (l .valued)
 
+    pub keeps-own : over .keeps ≡ unitsFit (domainType v (entry ks target) (tyOf kept)) (tyOf kept)
+    keeps-own = l .keeps in-place-here ∙ ap (λ (c : Ty). unitsFit c (tyOf kept)) own-is
+
+    abbrev rules : List Rule
+    rules = writtenRules (over .based) (w .place) v (entry ks target) (tyOf kept)
+
     pub lay-in-place : k ≤ 0 → (i : ℕ) (out out₁ : List ℕ) (r : Laying)
-        → LaidWhen (ltb 0 (rulingOf (writtenRules (over .based) (w .place) v (tyOf kept)) .number))
-        (rulingOf (writtenRules (over .based) (w .place) v (tyOf kept)))
-        (typeRecords (domainType v (tyOf kept))) i out out₁ r
-        → LaidAs (w .place) v (entry ks named) (entry ms base) i out out₁ r
+        → LaidWhen (ltb 0 (rulingOf rules .number)) (rulingOf rules)
+        (typeRecords (domainType v (entry ks target) (tyOf kept))) i out out₁ r
+        → LaidAs (w .place) v (entry ks target) (entry ms base) i out out₁ r
     lay-in-place h i out out₁ r q =
         let n : k ≡ 0 = omega arith in
-        let c : inline (tyOf (attributeUse v (entry ks named) kept)) ≡ attributeUse v (entry ks named) kept =
-        sym (ap (λ (j : ℕ). useFor (entry ks j) (tyOf (attributeUse v (entry ks named) kept))) n) ∙ ek in
-        let a : rulingOf (useRules (w .place) (isFound (entry ms base)) v (attributeUse v (entry ks named) kept) kept)
-        ≡ rulingOf (writtenRules (over .based) (w .place) v (tyOf kept)) =
-        in-place-rules (w .place) (isFound (entry ms base)) v (attributeUse v (entry ks named) kept) kept no-reference
-        own-is ∙ ap (λ (f : Bool). rulingOf (writtenRules f (w .place) v (tyOf kept))) (based-is ∙ sym (l .based)) in
-        let m : useRecords (attributeUse v (entry ks named) kept)
-        ≡ typeRecords (domainType v (tyOf kept)) = ap useRecords (sym c) ∙ ap typeRecords own-is in
-        laid-as (rulingOf (useRules (w .place) (isFound (entry ms base)) v (attributeUse v (entry ks named) kept) kept))
-        _ a _ _ m i out out₁ r q
+        let c : inline (tyOf own) ≡ own = sym (ap (λ (j : ℕ). useFor (entry ks j) (tyOf own)) n) ∙ ek in
+        let a : rulingOf (useRules (w .place) (isFound (entry ms base)) v own kept) ≡ rulingOf rules =
+        in-place-rules (w .place) (isFound (entry ms base)) v (entry ks target) own kept in-place-here own-is
+        ∙ ap (λ (f : Bool). rulingOf (writtenRules f (w .place) v (entry ks target) (tyOf kept)))
+        (based-is ∙ sym (l .based)) in
+        let m : useRecords own ≡ typeRecords (domainType v (entry ks target) (tyOf kept)) =
+        ap useRecords (sym c) ∙ ap typeRecords own-is in
+        laid-as (rulingOf (useRules (w .place) (isFound (entry ms base)) v own kept)) _ a _ _ m i out out₁ r q

@@ -1,16 +1,16 @@
--- 14 to 18 of what types an attribute.
+-- 14 to 18 and 22 of what types an attribute.
 use mathlib.Core.Bool.{Bool}
 use mathlib.Core.Option.{Option}
 use mathlib.Core.List.{List, _∷_, _++_}
 use Prim.Native.Nat.{ℕ}
 use Rattle.rules.specs.Grammar.{WrittenType}
-use Rattle.rules.specs.Declarations.{Use, tyOf, isFound}
-use Rattle.rules.specs.Judge.{Rule, referenceIn, typeRules, kindRule, attribute17To18}
+use Rattle.rules.specs.Declarations.{Use, tyOf}
+use Rattle.rules.specs.Judge.{Rule, isNaming, typeRules, kindRule, attributeFrom17}
 
--- 16 to 18
+-- 16 to 18 and 22
 abbrev pub baseRules : ℕ → Bool → Bool → Use → Use → List Rule
-baseRules p based names u b = kindRule p based (tyOf u) (tyOf b) ∷ attribute17To18 p based names u b
+baseRules p based names u b = kindRule p based (tyOf u) (tyOf b) ∷ attributeFrom17 p based names u b
 
--- 14 to 18; the type stands at p
+-- 14 to 18 and 22; the type stands at p
 abbrev pub useRules : ℕ → Bool → Option WrittenType → Use → Use → List Rule
-useRules p based w u b = typeRules based p w ++ baseRules p based (isFound (referenceIn w)) u b
+useRules p based w u b = typeRules based p w ++ baseRules p based (isNaming w) u b

@@ -1,4 +1,4 @@
-// 14 to 18 of what types an attribute, and its records behind room for the head.
+// 14 to 18 and 22 of what types an attribute, and its records behind room for the head.
 use attribute_names::broken;
 use attribute_names::fine;
 use attribute_types::Uses;
@@ -20,7 +20,7 @@ ghost use Rattle.rules.specs.Grammar.{WrittenType};
 ghost use Rattle.rules.specs.Types.{kindOf};
 ghost use Rattle.rules.specs.Declarations.{Use, tyOf, Def, Attribute, isFound, isSort, domain};
 ghost use Rattle.rules.specs.Book.{bytes, useRecords};
-ghost use Rattle.rules.specs.Judge.{attributeUse, mayType, naming, descends, orNoAttribute, referenceIn};
+ghost use Rattle.rules.specs.Judge.{attributeUse, isNaming, mayType, naming, descends, orNoAttribute};
 ghost use Rattle.rules.specs.All.{AnyIs};
 ghost use Rattle.ground.specs.Parts.{splice};
 ghost use Rattle.book.specs.Sizes.{headSize};
@@ -98,10 +98,10 @@ fn descent_ruling(
 // The definition that the attribute names: the one at `named`, or with MANDATORY alone the one that its base names; 0
 // for a type in place.
 pub fn use_at(a: AttributeUnit, named: usize, kept: usize) -> usize
-    ensures { λ r. ⌜ ((ks : List Def) (w : Option WrittenType) (v : Use) → a .written .meant ≡ anyOf w
-        → named ≤ length ks
-        → Refers (referenceIn w) (entry ks named) → useFor (entry ks kept) (tyOf v) ≡ v
-        → useFor (entry ks r) (tyOf (attributeUse w (entry ks named) v)) ≡ attributeUse w (entry ks named) v) ⌝ }
+    ensures { λ r. ⌜ ((ks : List Def) (w : Option WrittenType) (v : Use) (target : ℕ) → a .written .meant ≡ anyOf w
+        → named ≡ cond (isNaming w) target 0
+        → Refers w (entry ks target) → useFor (entry ks kept) (tyOf v) ≡ v
+        → useFor (entry ks r) (tyOf (attributeUse w (entry ks target) v)) ≡ attributeUse w (entry ks target) v) ⌝ }
     ensures { λ r. ⌜ ((count : ℕ) → named ≤ count → kept ≤ count → r ≤ count) ⌝ }
 {
     let w = a.written;
@@ -143,7 +143,7 @@ fn lay_named(book: &mut [u8], index: &[u16], at: usize, p: usize) -> Laying
     })
 }
 
-// 14 to 18, and the records, behind room for a head where the book ends.
+// 14 to 18 and 22, and the records, behind room for a head where the book ends.
 pub fn lay_use(
     text: &[u8],
     book: &mut [u8],
@@ -158,11 +158,11 @@ pub fn lay_use(
         × (u .kept ≤ st .listing .count) × Ample st (length (now work)) ⌝ }
     requires { ⌜ (st .extent .used ≤ length (now book)) × (length (now book) ≤ 65535) × (length (now scratch) ≤ 262144)
         × TablesFor (length (now scratch)) (length (now book)) (length (now tables)) ⌝ }
-    ensures { λ r. ⌜ ((ks : List Def) (ms : List Attribute) (y : List ℕ) (total : ℕ) (v : Option WrittenType)
+    ensures { λ r. ⌜ ((ks : List Def) (ms : List Attribute) (y : List ℕ) (total target : ℕ) (v : Option WrittenType)
         → Lays (now (text .entry)) (take (st .extent .used) (now (book .entry))) ks ms
         (indexIn (st .listing .layout) (now (work .entry))) (st .listing .count) y total (now (scratch .entry))
-        (a .written) (u .base) (u .named) (u .kept) (u .over) v
-        → LaidAs (a .written .place) v (entry ks (u .named)) (entry ms (u .base)) (st .extent .used + headSize)
+        (a .written) (u .base) target (u .named) (u .kept) (u .over) v
+        → LaidAs (a .written .place) v (entry ks target) (entry ms (u .base)) (st .extent .used + headSize)
         (now (book .entry)) (now (book .exit)) r) ⌝ }
 {
     let w = a.written;

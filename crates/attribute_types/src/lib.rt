@@ -9,13 +9,14 @@ use state::State;
 use types::Over;
 use units::AttributeUnit;
 ghost use mathlib.Core.Path.{_≡_};
+ghost use mathlib.Core.Bool.{cond};
 ghost use mathlib.Core.Option.{Option, some};
 ghost use mathlib.Core.List.{List};
 ghost use Prim.Native.Nat.{ℕ, _≤_, _<_};
 ghost use lib.ListN.{length, getD, take};
 ghost use Rattle.rules.specs.Grammar.{WrittenType};
 ghost use Rattle.rules.specs.Declarations.{Use, tyOf, Def, Attribute};
-ghost use Rattle.rules.specs.Judge.{attributeUse, naming, orNoAttribute, referenceIn};
+ghost use Rattle.rules.specs.Judge.{attributeUse, isNaming, naming, orNoAttribute};
 ghost use Rattle.rules.specs.All.{AnyIs};
 ghost use Rattle.names.specs.Index.{entry, row, Rows};
 ghost use Rattle.members.specs.Members.{attributeWidth, AttributeRows};
@@ -93,18 +94,35 @@ fn base_type(front: &[u8], index: &[u16], rows: &[u16], q: usize, u: usize) -> T
     named_type(front, index, u)
 }
 
-// The type of what names the definition at a position, or else is written over a base's type.
-fn own_type(front: &[u8], index: &[u16], m: Meant, named: usize, base: Typing) -> Typing
-    requires { ⌜ Rows (now index) named ⌝ }
+// The position of what is named in place of a type; 0 for a type in place.
+fn named_at(m: Meant, target: usize) -> usize
+    ensures { λ r. ⌜ (r ≤ target) × ((w : Option WrittenType) → m ≡ anyOf w → r ≡ cond (isNaming w) target 0) ⌝ }
+{
+    if let Meant::Named = m {
+        return target;
+    }
+    0
+}
+
+// The type of the definition that is named, or else of what is written over a base's type.
+fn own_type(
+    front: &[u8],
+    index: &[u16],
+    m: Meant,
+    target: usize,
+    named: usize,
+    base: Typing,
+) -> Typing
+    requires { ⌜ Rows (now index) target × (named ≤ target) ⌝ }
     ensures { λ r. ⌜ ((t : List ℕ) (ks : List Def) (ms : List Attribute) (count : ℕ) (y : List ℕ) (total : ℕ)
         (w : Option WrittenType) (b : Use) → Ready t (now (front .entry)) ks ms (now (index .entry)) count y total
-        → named ≤ count
-        → m ≡ anyOf w → Refers (referenceIn w) (entry ks named) → Valued (tyOf b) base
-        → Valued (tyOf (attributeUse w (entry ks named) b)) r
-        × (0 < named → Typed t (now (front .entry)) (tyOf (attributeUse w (entry ks named) b)) r)) ⌝ }
+        → target ≤ count
+        → m ≡ anyOf w → named ≡ cond (isNaming w) target 0 → Refers w (entry ks target) → Valued (tyOf b) base
+        → Valued (tyOf (attributeUse w (entry ks target) b)) r
+        × (0 < named → Typed t (now (front .entry)) (tyOf (attributeUse w (entry ks target) b)) r)) ⌝ }
 {
     if named == 0 {
-        return types::meant(m, base);
+        return types::meant(m, base, fitting::unit_number(index, target));
     }
     named_type(front, index, named)
 }
@@ -141,18 +159,18 @@ fn head_ruling(
     index: &[u16],
     rows: &[u16],
     q: usize,
-    named: usize,
+    target: usize,
     own: Typing,
     twice: bool,
     place: usize,
 ) -> Ruling
-    requires { ⌜ AttributeRows (now rows) q × Rows (now index) named ⌝ }
+    requires { ⌜ AttributeRows (now rows) q × Rows (now index) target ⌝ }
     ensures { λ r. ⌜ ((t b : List ℕ) (ks : List Def) (ms : List Attribute) (count total : ℕ) (w : Option WrittenType)
-        → Held t b ks ms (now (index .entry)) count (now (rows .entry)) total → q ≤ total → named ≤ count
-        → Refers (referenceIn w) (entry ks named)
-        → Valued (tyOf (attributeUse w (entry ks named) (orNoAttribute (entry ms q) .use-of))) own
+        → Held t b ks ms (now (index .entry)) count (now (rows .entry)) total → q ≤ total → target ≤ count
+        → Refers w (entry ks target)
+        → Valued (tyOf (attributeUse w (entry ks target) (orNoAttribute (entry ms q) .use-of))) own
         → r ≡ rulingOf (headRules place (orNoAttribute (entry ms q) .final) twice
-        (attributeUse w (entry ks named) (orNoAttribute (entry ms q) .use-of)) (entry ks named))) ⌝ }
+        (attributeUse w (entry ks target) (orNoAttribute (entry ms q) .use-of)) (entry ks target))) ⌝ }
 {
     if is_last(rows, q) {
         return broken(12, place);
@@ -163,7 +181,7 @@ fn head_ruling(
     if fitting::is_numeric(own) {
         return broken(13, place);
     }
-    if is_abstract_domain(index, named) {
+    if is_abstract_domain(index, target) {
         return broken(13, place);
     }
     fine()
@@ -178,12 +196,12 @@ fn types_of(
     a: AttributeUnit,
     b: Bonds,
 ) -> Typings
-    requires { ⌜ AttributeRows (now rows) (b .base) × (b .named ≤ count) × Rows (now index) count ⌝ }
+    requires { ⌜ AttributeRows (now rows) (b .base) × (b .target ≤ count) × Rows (now index) count ⌝ }
     ensures { λ r. ⌜ Binds b count (r .uses) × ((t : List ℕ) (ks : List Def) (ms : List Attribute) (total : ℕ)
         (w : Option WrittenType)
         → Ready t (now (front .entry)) ks ms (now (index .entry)) count (now (rows .entry)) total → b .base ≤ total
-        → a .written .meant ≡ anyOf w → AnyIs (FairType t) w → Refers (referenceIn w) (entry ks (b .named))
-        → TypingsAre t (now (front .entry)) ks (a .name .offset) (a .properties .twice) w (entry ks (b .named))
+        → a .written .meant ≡ anyOf w → AnyIs (FairType t) w → Refers w (entry ks (b .target))
+        → TypingsAre t (now (front .entry)) ks (a .name .offset) (a .properties .twice) w (b .target)
         (entry ms (b .base)) r) ⌝ }
 {
     let name = a.name;
@@ -192,16 +210,18 @@ fn types_of(
     let m = w.meant;
     let kept = kept_by(rows, count, b.base);
     let base = base_type(front, index, rows, b.base, kept);
-    let own = own_type(front, index, m, b.named, base);
-    let ruling = head_ruling(index, rows, b.base, b.named, own, p.twice, name.offset);
+    let named = named_at(m, b.target);
+    let own = own_type(front, index, m, b.target, named, base);
+    let ruling = head_ruling(index, rows, b.base, b.target, own, p.twice, name.offset);
     let over = Over {
         based: 0 < b.base,
         own,
         base,
+        keeps: types::keeps_unit(index, count, m, b.target, base),
     };
     let uses = Uses {
         base: b.base,
-        named: b.named,
+        named,
         kept,
         over,
     };
@@ -215,10 +235,9 @@ pub fn judge_types(book: &[u8], work: &[u16], st: State, a: AttributeUnit, b: Bo
         → Ready t (take (st .extent .used) (now (book .entry))) ks ms
         (indexIn (st .listing .layout) (now (work .entry))) (st .listing .count)
         (rowsIn (st .listing .layout) (now (work .entry))) (st .listing .total)
-        → a .written .meant ≡ anyOf w → AnyIs (FairType t) w → Refers (referenceIn w) (entry ks (b .named))
+        → a .written .meant ≡ anyOf w → AnyIs (FairType t) w → Refers w (entry ks (b .target))
         → TypingsAre t (take (st .extent .used) (now (book .entry))) ks (a .name .offset) (a .properties .twice) w
-        (entry ks (b .named))
-        (entry ms (b .base)) r) ⌝ }
+        (b .target) (entry ms (b .base)) r) ⌝ }
 {
     let used = st.extent.used;
     let i = st.listing.layout.index;

@@ -171,9 +171,9 @@ module _ {t : List ℕ} {s : State} {st : code.State} {b b₁ x z y hs rs : List
       (er ∙ ap (Refused 19) k)
 
   module _ (e : leb (st .extent .used + headSize + size .bytes) (length b₁) ≡ true) (f : ℕ)
-      (ef : f ≡ flagsIn p w (entry (known (s .decls)) (bs .named)) (entry (attributesIn s) (bs .base))) (b₂ : List ℕ)
+      (ef : f ≡ flagsIn p w (entry (known (s .decls)) (bs .target)) (entry (attributesIn s) (bs .base))) (b₂ : List ℕ)
       (eb : b₂ ≡ splice b₁ (st .extent .used)
-      (headRecord 6 n (flagsIn p w (entry (known (s .decls)) (bs .named)) (entry (attributesIn s) (bs .base)))
+      (headRecord 6 n (flagsIn p w (entry (known (s .decls)) (bs .target)) (entry (attributesIn s) (bs .base)))
       (numberOr (baseOfAttribute (attributeAt (n .bytes) (was .hand))))))
       (new : NewAttribute) (en : new
       ≡ record { name = a .name; number = st .extent .records; place = st .extent .used; flags = f; «use_of» = used })
@@ -184,7 +184,7 @@ module _ {t : List ℕ} {s : State} {st : code.State} {b b₁ x z y hs rs : List
 
     head-is : b₂ ≡ splice b₁ (st .extent .used) (head s c n p w)
     unfolding head
-    head-is = rw (h .reaches .named, h .reaches .base, found-base) at eb
+    head-is = rw (h .reaches .target, h .reaches .base, found-base) at eb
 
     book-is : keep.Written (book s) (bytes (attributeRecords new·)) b₂
     book-is =
@@ -214,7 +214,7 @@ module _ {t : List ℕ} {s : State} {st : code.State} {b b₁ x z y hs rs : List
       number = ap (λ (i : NewAttribute). i .number) en ∙ h .keeps .numbered ∙ sym (new-number s c n p w);
       flagged =
           ap (λ (i : NewAttribute). i .flags) en ∙ ef
-          ∙ ap (λ (g : Option Def). flagsIn p w g (entry (attributesIn s) (bs .base))) (h .reaches .named)
+          ∙ ap (λ (g : Option Def). flagsIn p w g (entry (attributesIn s) (bs .base))) (h .reaches .target)
           ∙ ap (flagsIn p w (resolved s (referenceIn (w .type)))) (h .reaches .base) ∙ sym (new-flags s c n p w);
     }
 
@@ -223,7 +223,7 @@ module _ {t : List ℕ} {s : State} {st : code.State} {b b₁ x z y hs rs : List
 
     stands : Stands (book (afterAttribute s c n p w)) (new .place) (attributeRecords new·)
     stands =
-        let q = stands-new (book s) (attributeRecords new·) [] in
+        let q = stands-new (book s) (attributeRecords new·) [] refl in
         let i : new .place ≡ length (book s) = ap (λ (i : NewAttribute). i .place) en ∙ h .keeps .used in
         rw (grown, i) (rw append-nil at q)
 

@@ -10,8 +10,8 @@ use Rattle.rules.specs.Grammar as G
 use Rattle.rules.specs.Units as U
 use Rattle.rules.specs.Declarations.{tyOf, Attribute, Def, attributeAt, isFound, State}
 use Rattle.rules.specs.Judge.{Rule, Judged, ok, refused, firstBrokenOr, judge, memberRules, afterMember, attributeRules}
-use Rattle.rules.specs.Judge.{attributeTo16, attribute17To18, newAttribute, orNoAttribute, isExtended, hasTwice}
-use Rattle.rules.specs.Judge.{referenceIn, resolved, elementRule, typeRules, kindRule}
+use Rattle.rules.specs.Judge.{attributeTo16, attributeFrom17, newAttribute, orNoAttribute, isExtended, hasTwice}
+use Rattle.rules.specs.Judge.{referenceIn, isNaming, resolved, elementRule, typeRules, kindRule}
 use Rattle.ground.specs.Rulings.{rulingOf, judgedBy}
 use Rattle.ground.specs.declared.Ruling.{Ruling}
 use Rattle.ground.proofs.RulingLaws.{Positive, first-broken-by, positive-append}
@@ -27,24 +27,24 @@ module _ (s : State) (c : Def) (n : R.Name) (p : List (List ℕ)) (w : G.Written
   abbrev base· : Option Attribute
   base· = attributeAt (n .bytes) (c .inherited)
 
-  abbrev named· : Option Def
-  named· = resolved s (referenceIn (w .type))
+  abbrev target· : Option Def
+  target· = resolved s (referenceIn (w .type))
 
   abbrev pub to-11 : List Rule
-  to-11 = rulesTo11 c n (isExtended p) (isFound base·) (w .type) named·
+  to-11 = rulesTo11 c n (isExtended p) (isFound base·) (w .type) target·
 
   abbrev pub to-13 : List Rule
-  to-13 = headRules (n .offset) (orNoAttribute base· .final) (hasTwice p) (useIn s c n w) named·
+  to-13 = headRules (n .offset) (orNoAttribute base· .final) (hasTwice p) (useIn s c n w) target·
 
-  abbrev pub to-18 : List Rule
-  to-18 = useRules (w .place) (isFound base·) (w .type) (useIn s c n w) (orNoAttribute base· .use-of)
+  abbrev pub to-22 : List Rule
+  to-22 = useRules (w .place) (isFound base·) (w .type) (useIn s c n w) (orNoAttribute base· .use-of)
 
-  in-stages : attributeRules s c n p w base· named· ≡ to-11 ++ (to-13 ++ to-18)
+  in-stages : attributeRules s c n p w base· target· ≡ to-11 ++ (to-13 ++ to-22)
   unfolding attributeRules attributeTo16 newAttribute
   in-stages =
       rw (append-assoc (typeRules (isFound base·) (w .place) (w .type)) (kindRule (w .place) (isFound base·)
-      (tyOf (useIn s c n w)) (tyOf (orNoAttribute base· .use-of)) ∷ []) (attribute17To18 (w .place) (isFound base·)
-      (isFound (referenceIn (w .type))) (useIn s c n w) (orNoAttribute base· .use-of)))
+      (tyOf (useIn s c n w)) (tyOf (orNoAttribute base· .use-of)) ∷ []) (attributeFrom17 (w .place) (isFound base·)
+      (isNaming (w .type)) (useIn s c n w) (orNoAttribute base· .use-of)))
 
   positive-11 : Positive to-11
   positive-11 = (
@@ -52,7 +52,7 @@ module _ (s : State) (c : Def) (n : R.Name) (p : List (List ℕ)) (w : G.Written
     (
       omega arith,
       positive-append (elementRule (w .type) ∷ [])
-          (referenceRules (n .offset) (isExtended p) (isFound base·) (referenceIn (w .type)) named·)
+          (referenceRules (n .offset) (isExtended p) (isFound base·) (w .type) target·)
           (element-positive (w .type)) (omega arith, (omega arith, (omega arith, tt))),
     ),
   )
@@ -60,21 +60,22 @@ module _ (s : State) (c : Def) (n : R.Name) (p : List (List ℕ)) (w : G.Written
   positive-13 : Positive to-13
   positive-13 = (omega arith, (omega arith, tt))
 
-  positive-18 : Positive to-18
-  positive-18 = positive-append (typeRules (isFound base·) (w .place) (w .type)) _
-      (type-positive (isFound base·) (w .place) (w .type)) (omega arith, (omega arith, (omega arith, tt)))
+  positive-22 : Positive to-22
+  positive-22 = positive-append (typeRules (isFound base·) (w .place) (w .type)) _
+      (type-positive (isFound base·) (w .place) (w .type))
+      (omega arith, (omega arith, (omega arith, (omega arith, tt))))
 
-  all-rules : firstBrokenOr (attributeRules s c n p w base· named·) (afterAttribute s c n p w) ≡ judgedBy
-      (rulingOf to-11) (judgedBy (rulingOf to-13) (judgedBy (rulingOf to-18) (ok (afterAttribute s c n p w))))
+  all-rules : firstBrokenOr (attributeRules s c n p w base· target·) (afterAttribute s c n p w) ≡ judgedBy
+      (rulingOf to-11) (judgedBy (rulingOf to-13) (judgedBy (rulingOf to-22) (ok (afterAttribute s c n p w))))
   all-rules =
       ap (λ (l : List Rule). firstBrokenOr l (afterAttribute s c n p w)) in-stages
-      ∙ first-broken-by to-11 (to-13 ++ to-18) (afterAttribute s c n p w) positive-11
-      ∙ ap (judgedBy (rulingOf to-11)) (first-broken-by to-13 to-18 (afterAttribute s c n p w) positive-13
+      ∙ first-broken-by to-11 (to-13 ++ to-22) (afterAttribute s c n p w) positive-11
+      ∙ ap (judgedBy (rulingOf to-11)) (first-broken-by to-13 to-22 (afterAttribute s c n p w) positive-13
       ∙ ap (judgedBy (rulingOf to-13)) (ap (λ (l : List Rule). firstBrokenOr l (afterAttribute s c n p w))
-      (sym (append-nil to-18)) ∙ first-broken-by to-18 [] (afterAttribute s c n p w) positive-18))
+      (sym (append-nil to-22)) ∙ first-broken-by to-22 [] (afterAttribute s c n p w) positive-22))
 
   pub judged-in-stages : s .open-class ≡ some c → judge s (U.attribute n p w) ≡ judgedBy (rulingOf to-11)
-      (judgedBy (rulingOf to-13) (judgedBy (rulingOf to-18) (ok (afterAttribute s c n p w))))
+      (judgedBy (rulingOf to-13) (judgedBy (rulingOf to-22) (ok (afterAttribute s c n p w))))
   unfolding judge
   judged-in-stages e =
       ap (λ (o : Option Def). firstBrokenOr (memberRules s n p w o) (afterMember s n p w o)) e ∙ all-rules

@@ -43,8 +43,8 @@ abbrev pub flagsIn : List (List ℕ) → G.Written → Option Def → Option Att
 flagsIn p w g o =
     flags false (isFinal p) (isExtended p) (w .mandatory || (orNoDef g .mandatory || orNoAttribute o .mandatory))
 
--- an attribute that breaks none of 4 to 18, whose records but the head stand in the buffer b₁, which was b, if they fit
--- it; used is the position of the definition that it then names
+-- an attribute that breaks none of 4 to 18 and 22, whose records but the head stand in the buffer b₁, which was b, if
+-- they fit it; used is the position of the definition that it then names
 pub record Passes (t : List ℕ) (s : State) (st : code.State) (b b₁ x z y hs rs : List ℕ) (c : Def) (n : R.Name)
     (p : List (List ℕ)) (w : G.Written) (a : AttributeUnit) (e : Bonds) (used : ℕ) (size : Size) : Type 0 where
   pub keeps : Keeps t s st b x z y hs

@@ -61,17 +61,17 @@ fn inherits_mandatory(rows: &[u16], q: usize) -> bool
     names::is_mandatory(members::member_flags(rows, q))
 }
 
-// MANDATORY holds if written, if the named domain has it, or if the base has it.
-fn is_mandatory(index: &[u16], rows: &[u16], written: bool, base: usize, named: usize) -> bool
-    requires { ⌜ AttributeRows (now rows) base × Rows (now index) named ⌝ }
+// MANDATORY: written here, or of the domain that is named, or of the base; units have none.
+fn is_mandatory(index: &[u16], rows: &[u16], written: bool, base: usize, target: usize) -> bool
+    requires { ⌜ AttributeRows (now rows) base × Rows (now index) target ⌝ }
     ensures { λ r. ⌜ ((t b : List ℕ) (ks : List Def) (ms : List Attribute) (count total : ℕ)
-        → Held t b ks ms (now (index .entry)) count (now (rows .entry)) total → base ≤ total → named ≤ count
-        → r ≡ (written || (orNoDef (entry ks named) .mandatory || orNoAttribute (entry ms base) .mandatory))) ⌝ }
+        → Held t b ks ms (now (index .entry)) count (now (rows .entry)) total → base ≤ total → target ≤ count
+        → r ≡ (written || (orNoDef (entry ks target) .mandatory || orNoAttribute (entry ms base) .mandatory))) ⌝ }
 {
     if written {
         return true;
     }
-    if names_mandatory(index, named) {
+    if names_mandatory(index, target) {
         return true;
     }
     inherits_mandatory(rows, base)
@@ -107,9 +107,9 @@ fn put_head(
         → Held t o ks ms (indexIn (st .listing .layout) (now (work .entry))) (st .listing .count)
         (rowsIn (st .listing .layout) (now (work .entry)))
         (st .listing .total) → Given t n p w rs a → Filled ms (now (hand .entry)) k h → b .slot ≡ slotOf (n .bytes) h
-        → (r ≡ flagsIn p w (entry ks (b .named)) (entry ms (b .base)))
+        → (r ≡ flagsIn p w (entry ks (b .target)) (entry ms (b .base)))
         × (now (book .exit) ≡ splice (now (book .entry)) (st .extent .used)
-        (headRecord 6 n (flagsIn p w (entry ks (b .named)) (entry ms (b .base)))
+        (headRecord 6 n (flagsIn p w (entry ks (b .target)) (entry ms (b .base)))
         (numberOr (baseOfAttribute (attributeAt (n .bytes) h)))))) ⌝ }
 {
     let name = a.name;
@@ -118,7 +118,7 @@ fn put_head(
     let i = st.listing.layout.index;
     let e = st.listing.layout.rows;
     let c = st.listing.layout.chains;
-    let m = is_mandatory(&work[i..e], &work[e..c], w.mandatory, b.base, b.named);
+    let m = is_mandatory(&work[i..e], &work[e..c], w.mandatory, b.base, b.target);
     let f = state::flags(false, p.is_final, p.extended, m);
     let head = book::head_record(6, name.offset, name.len, f, base_number(hand, b.slot));
     ground::put(book, st.extent.used, &head);
@@ -203,7 +203,7 @@ pub fn judge_attribute(
     match l {
         Laying::Broken(r) => refused(r.number, r.place),
         Laying::Whole(size) => {
-            let d = use_at(a, b.named, u.kept);
+            let d = use_at(a, u.named, u.kept);
             end_attribute(book, work, hand, st, a, b, d, size)
         }
     }

@@ -23,9 +23,9 @@ use Rattle.book.specs.declared.Part as code
 use Rattle.book.specs.declared.Found.{Found}
 use Rattle.book.proofs.WalkLaws.{Whole, none-at, whole-at, start-here, start-suc}
 
-pub no-name : (k : ℕ) → 15 ≤ k → k < 256 → isNamed k ≡ false
+pub no-name : (k : ℕ) → 19 ≤ k → k < 256 → isNamed k ≡ false
 unfolding isNamed
-no-name k h l = not-is (on (λ x. not (isNamed x)) 15 241 refl k h (omega arith))
+no-name k h l = not-is (on (λ x. not (isNamed x)) 19 237 refl k h (omega arith))
 
 -- ---- at a place
 -- a record that has a name holds an offset and a length

@@ -1,31 +1,32 @@
 -- The sizes by name are those of the rules: of the table by which a book is read, and of the records that are written.
 use mathlib.Core.Path.{_≡_, refl}
 use mathlib.Core.Bool.{Bool}
-use mathlib.Core.Option.{Option}
+use mathlib.Core.Option.{Option, none, some}
 use mathlib.Core.List.{List, [], _∷_}
 use Prim.Native.Nat.{ℕ}
 use lib.ListN.{length}
 use Rattle.rules.specs.Names.{Name}
 use Rattle.rules.specs.Numbers.{Range}
 use Rattle.rules.specs.Enumerations.{Enum, end}
-use Rattle.rules.specs.Types.{text, range, numeric}
+use Rattle.rules.specs.Types.{Measure, text}
 use Rattle.rules.specs.Declarations as D
 use Rattle.rules.specs.Declarations.{Link, ofDomain, ofStructure}
-use Rattle.rules.specs.Book.{nameRecord, headRecord, openRecord, elementRecords, typeRecords, useRecords, endRecords}
+use Rattle.rules.specs.Book.{nameRecord, headRecord, openRecord, elementRecords, numberRecord, unitRecords, typeRecords}
+use Rattle.rules.specs.Book.{useRecords, endRecords}
 use Rattle.rules.specs.Book.{declRecords, bytes}
 use Rattle.rules.specs.Show.{sizes}
 use Rattle.book.specs.Sizes.{nameSize, modelSize, topicSize, topicEndSize, headSize, lengthSize, rangeSize}
 use Rattle.book.specs.Sizes.{numericSize}
 use Rattle.book.specs.Sizes.{listSize, elementSize, listEndSize, classEndSize}
 
--- ---- by kind, 0 to 17
+-- ---- by kind, 0 to 19
 pub sizes-named :
     sizes
     ≡ 0 ∷ modelSize ∷ topicSize ∷ topicEndSize
     ∷ headSize ∷ headSize ∷ headSize ∷ headSize
     ∷ lengthSize ∷ lengthSize ∷ rangeSize ∷ numericSize ∷ lengthSize
     ∷ listSize ∷ elementSize ∷ listEndSize
-    ∷ classEndSize ∷ lengthSize ∷ []
+    ∷ classEndSize ∷ lengthSize ∷ headSize ∷ lengthSize ∷ []
 sizes-named = refl
 
 -- ---- of the records
@@ -53,11 +54,14 @@ domain-size l bs = refl
 pub structure-size : (l : Link) (bs : List Link) → length (bytes (useRecords (ofStructure l bs))) ≡ lengthSize
 structure-size l bs = refl
 
-pub range-size : (r : Range) → length (bytes (typeRecords (range r))) ≡ rangeSize
+pub range-size : (r : Range) → length (numberRecord (some r)) ≡ rangeSize
 range-size r = refl
 
-pub numeric-size : length (bytes (typeRecords numeric)) ≡ numericSize
+pub numeric-size : length (numberRecord none) ≡ numericSize
 numeric-size = refl
+
+pub unit-size : (u : Measure) → length (bytes (unitRecords (some u))) ≡ lengthSize
+unit-size u = refl
 
 pub list-size : (e : Enum) → length (openRecord e) ≡ listSize
 list-size e = refl

@@ -18,9 +18,9 @@ use Rattle.book.specs.Places.{recordsAt, firstSize, sizeAt, startIn}
 use Rattle.book.specs.declared.Found.the-variants.{At, Nothing}
 
 -- what is no kind
-pub no-kind : (k : ℕ) → 18 ≤ k → k < 256 → sizeOf k ≡ 0
+pub no-kind : (k : ℕ) → 20 ≤ k → k < 256 → sizeOf k ≡ 0
 unfolding sizeOf
-no-kind k h l = eqb-true (sizeOf k) 0 (on (λ x. eqb (sizeOf x) 0) 18 238 refl k h (omega arith))
+no-kind k h l = eqb-true (sizeOf k) 0 (on (λ x. eqb (sizeOf x) 0) 20 236 refl k h (omega arith))
 
 -- ---- the records in front of some bytes
 -- bytes that are passed are dropped

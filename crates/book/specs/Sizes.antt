@@ -15,11 +15,11 @@ topicSize = nameSize
 abbrev pub topicEndSize : ℕ
 topicEndSize = 1
 
--- a class, structure, attribute or domain
+-- a class, structure, attribute, domain or unit
 abbrev pub headSize : ℕ
 headSize = 11
 
--- TEXT, MTEXT, a structure or domain that is named
+-- TEXT, MTEXT, a structure or domain that is named, the unit of a number
 abbrev pub lengthSize : ℕ
 lengthSize = 5
 

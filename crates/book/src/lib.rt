@@ -24,10 +24,10 @@ pub const TOPIC_SIZE: usize = NAME_SIZE;
 
 pub const TOPIC_END_SIZE: usize = 1;
 
-// A class, structure, attribute or domain.
+// A class, structure, attribute, domain or unit.
 pub const HEAD_SIZE: usize = 11;
 
-// TEXT, MTEXT, a structure or domain that is named.
+// TEXT, MTEXT, a structure or domain that is named, the unit of a number.
 pub const LENGTH_SIZE: usize = 5;
 
 pub const RANGE_SIZE: usize = 18;
@@ -44,8 +44,8 @@ pub const LIST_END_SIZE: usize = 1;
 // The end of a class or structure.
 pub const CLASS_END_SIZE: usize = 1;
 
-// By kind, 0 to 17; zero for kind 0, which ends the book.
-const SIZES: [usize; 18] = [
+// By kind, 0 to 19; zero for kind 0, which ends the book.
+const SIZES: [usize; 20] = [
     0,
     // 1 model, 2 topic, 3 end of topic
     MODEL_SIZE,
@@ -69,10 +69,13 @@ const SIZES: [usize; 18] = [
     // 16 end of class or structure, 17 domain named
     CLASS_END_SIZE,
     LENGTH_SIZE,
+    // 18 unit, 19 unit of the number before
+    HEAD_SIZE,
+    LENGTH_SIZE,
 ];
 
-// The kinds 0 to 14 that have names.
-const NAMED: [bool; 15] = [
+// The kinds 0 to 18 that have names.
+const NAMED: [bool; 19] = [
     false,
     true,
     true,
@@ -84,6 +87,10 @@ const NAMED: [bool; 15] = [
     false,
     false,
     false,
+    false,
+    false,
+    false,
+    true,
     false,
     false,
     false,
@@ -94,13 +101,13 @@ const NAMED: [bool; 15] = [
 pub fn record_size(kind: u8) -> usize
     ensures { λ r. ⌜ r ≡ sizeOf kind ⌝ }
 {
-    if kind < 18 { SIZES[kind as usize] } else { 0 }
+    if kind < 20 { SIZES[kind as usize] } else { 0 }
 }
 
 pub fn has_name(kind: u8) -> bool
     ensures { λ r. ⌜ r ≡ isNamed kind ⌝ }
 {
-    if kind < 15 {
+    if kind < 19 {
         NAMED[kind as usize]
     } else {
         false
@@ -252,6 +259,7 @@ pub fn range_record(decimals: u8, low: i64, high: i64) -> [u8; RANGE_SIZE]
     ]
 }
 
+// Of a length or a record number: kinds 8, 9, 12, 17 and 19.
 pub fn length_record(kind: u8, n: usize) -> [u8; LENGTH_SIZE]
     ensures { λ r. ⌜ r ≡ lengthForm kind n ⌝ }
 {

@@ -10,12 +10,12 @@ use lib.Seq.{take-append-seam}
 use lib.Dec.{leb}
 use borrow.Author.Tests.{le-leb, ne-eqb}
 use Rattle.rules.specs.Enumerations.{Enum, end, elem}
-use Rattle.rules.specs.Types.{Ty, text, range, numeric, structure, enum}
+use Rattle.rules.specs.Types.{Measure, Ty, text, numeric, structure, enum}
 use Rattle.rules.specs.Declarations as D
 use Rattle.rules.specs.Declarations.{Use, inline, ofDomain, ofStructure, Attribute, Sort, Def, Decl, State}
-use Rattle.rules.specs.Book.{Record, openRecord, innerRecords, elementRecords, typeRecords, useRecords}
-use Rattle.rules.specs.Book.{attributeRecords, attributesRecords, headRecords, endRecords, declRecords, declsRecords}
-use Rattle.rules.specs.Book.{openRecords, records, bytes, book, padded}
+use Rattle.rules.specs.Book.{Record, openRecord, innerRecords, elementRecords, unitRecords, typeRecords}
+use Rattle.rules.specs.Book.{useRecords, attributeRecords, attributesRecords, headRecords, endRecords, declRecords}
+use Rattle.rules.specs.Book.{declsRecords, openRecords, records, bytes, book, padded}
 use Rattle.rules.specs.Show.{sizeOf, recordsFrom}
 use Rattle.rules.specs.All.{All}
 use Rattle.rules.proofs.AllLaws.{all-append}
@@ -39,12 +39,17 @@ elements-sized (elem n i r) = (
     inner (end true) h = (refl, h)
     inner (elem m j k) h = (refl, h)
 
+unit-sized : (u : Option Measure) → All Sized (unitRecords u)
+unfolding sizeOf
+unit-sized none = tt
+unit-sized (some u) = (refl, tt)
+
 type-sized : (t : Ty) → All Sized (typeRecords t)
 unfolding sizeOf
 type-sized (text true n) = (refl, tt)
 type-sized (text false n) = (refl, tt)
-type-sized (range r) = (refl, tt)
-type-sized numeric = (refl, tt)
+type-sized (numeric none u) = (refl, unit-sized u)
+type-sized (numeric (some r) u) = (refl, unit-sized u)
 type-sized (enum e) = (refl, elements-sized e)
 type-sized structure = tt
 
@@ -66,6 +71,7 @@ head-sized D.topic d = (refl, tt)
 head-sized D.class d = (refl, attributes-sized (d .own))
 head-sized D.struct d = (refl, attributes-sized (d .own))
 head-sized D.domain d = (refl, type-sized (d .type))
+head-sized D.unit d = (refl, tt)
 
 end-sized : (x : Sort) → All Sized (endRecords x)
 unfolding sizeOf
@@ -73,6 +79,7 @@ end-sized D.topic = tt
 end-sized D.class = (refl, tt)
 end-sized D.struct = (refl, tt)
 end-sized D.domain = tt
+end-sized D.unit = tt
 
 decls-sized : (l : List Decl) → All Sized (declsRecords l)
 unfolding sizeOf

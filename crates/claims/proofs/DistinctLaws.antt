@@ -7,12 +7,12 @@ use Prim.Native.Nat.{ℕ}
 use Rattle.rules.proofs.RuleLaws.{doubled-none}
 use Rattle.rules.specs.Names.{Name}
 use Rattle.rules.specs.Enumerations.{Enum, twice}
-use Rattle.rules.specs.Types.{Ty, text, range, numeric, structure, enum, fits}
+use Rattle.rules.specs.Types.{Ty, text, numeric, structure, enum, fits}
 use Rattle.rules.specs.Grammar as G
 use Rattle.rules.specs.Grammar.{Reference, WrittenType, Written}
 use Rattle.rules.specs.Units as U
-use Rattle.rules.specs.Declarations.{Use, ofDomain, ofStructure, tyOf, Attribute, Sort, domain, isSort, Def, linkOf}
-use Rattle.rules.specs.Declarations.{attributesOf, def, State, known}
+use Rattle.rules.specs.Declarations.{Use, ofDomain, ofStructure, tyOf, Attribute, Sort, domain, unit, isSort, Def}
+use Rattle.rules.specs.Declarations.{linkOf, attributesOf, def, State, known}
 use Rattle.rules.specs.Judge.{elementRule, mergedInto, domainType, attributeUse, orNoDef, orNoAttribute, resolved}
 use Rattle.rules.specs.Judge.{referenceIn, declare, opened, newTopic, newClass, newDomain, newAttribute, withAttribute}
 use Rattle.rules.specs.Judge.{domainTo16, domainRules, attributeTo16, attributeRules, inheritedAs, memberRules}
@@ -29,19 +29,17 @@ use Rattle.claims.proofs.RunLaws.{Invariant, reached-keeps}
 -- ---- the type that is written, over a base's
 merged-distinct : (b : Ty) (e : Enum) → distinct e ≡ true → distinctIn b ≡ true → distinctIn (mergedInto b e) ≡ true
 merged-distinct (text m n) e d p = d
-merged-distinct (range r) e d p = d
-merged-distinct numeric e d p = d
+merged-distinct (numeric r u) e d p = d
 merged-distinct (enum b) e d p = all-merged b e .still-distinct p d
 merged-distinct structure e d p = d
 
-meant-distinct : (w : Option WrittenType) (b : Ty) → elementRule w .broken ≡ false → distinctIn b ≡ true
-    → distinctIn (domainType w b) ≡ true
-meant-distinct none b p q = q
-meant-distinct (some (G.text m n)) b p q = refl
-meant-distinct (some (G.range x y)) b p q = refl
-meant-distinct (some G.numeric) b p q = refl
-meant-distinct (some (G.enum e)) b p q = merged-distinct b e (distinct-found e .0 (doubled-none (twice e []) p)) q
-meant-distinct (some (G.named r)) b p q = refl
+meant-distinct : (w : Option WrittenType) (g : Option Def) (b : Ty) → elementRule w .broken ≡ false
+    → distinctIn b ≡ true → distinctIn (domainType w g b) ≡ true
+meant-distinct none g b p q = q
+meant-distinct (some (G.text m n)) g b p q = refl
+meant-distinct (some (G.numeric x r)) g b p q = refl
+meant-distinct (some (G.enum e)) g b p q = merged-distinct b e (distinct-found e .0 (doubled-none (twice e []) p)) q
+meant-distinct (some (G.named r)) g b p q = refl
 
 -- ---- definitions and states
 abbrev Plain : Attribute → Type 0
@@ -68,9 +66,8 @@ use-distinct : (w : Option WrittenType) (g : Option Def) (b : Use) → AnyIs Tid
     → distinctIn (tyOf b) ≡ true → distinctIn (tyOf (attributeUse w g b)) ≡ true
 use-distinct none g b h p q = q
 use-distinct (some (G.text m n)) g b h p q = refl
-use-distinct (some (G.range x y)) g b h p q = refl
-use-distinct (some G.numeric) g b h p q = refl
-use-distinct (some (G.enum e)) g b h p q = meant-distinct (some (G.enum e)) (tyOf b) p q
+use-distinct (some (G.numeric x r)) g b h p q = refl
+use-distinct (some (G.enum e)) g b h p q = meant-distinct (some (G.enum e)) g (tyOf b) p q
 use-distinct (some (G.named r)) g b h p q = let d = orNoDef g in go d (tidy-or g h) (isSort domain (d .sort))
   where
     go : (d : Def) → Tidy d → (t : Bool)
@@ -93,12 +90,17 @@ module _ (s : State) (h : Neat s) where
   unfolding newClass
   class-neat c n p o k = (h .0, (refl, tidy-or o k .1))
 
-  domain-neat : (n : Name) (p : List (List ℕ)) (b : Option Reference) (w : Written) (o : Option Def) → AnyIs Tidy o →
-      All Unbroken (domainRules s n p b w o) → Neat (declare s (def (newDomain s n p w o)))
+  unit-neat : (n : Name) (p : List (List ℕ)) (o : Option Def) → AnyIs Tidy o
+      → Neat (declare s (def (newClass s unit n p o)))
+  unfolding newClass
+  unit-neat n p o k = (declare-neat s (newClass s unit n p o) h (refl, tidy-or o k .1), tt)
+
+  domain-neat : (n : Name) (p : List (List ℕ)) (b : Option Reference) (w : Written) (o g : Option Def) → AnyIs Tidy o →
+      All Unbroken (domainRules s n p b w o g) → Neat (declare s (def (newDomain s n p w o g)))
   unfolding newDomain domainRules domainTo16
-  domain-neat n p b w o k q = (
-    declare-neat s (newDomain s n p w o) h
-        (meant-distinct (w .type) (orNoDef o .type) (q .1 .0) (tidy-or o k .0), tt),
+  domain-neat n p b w o g k q = (
+    declare-neat s (newDomain s n p w o g) h
+        (meant-distinct (w .type) g (orNoDef o .type) (q .1 .0) (tidy-or o k .0), tt),
     tt,
   )
 
@@ -134,8 +136,10 @@ module _ (s : State) (h : Neat s) where
   next-neat (U.model n x) q = (tt, tt)
   next-neat (U.topic n) q = (topic-neat n, tt)
   next-neat (U.class c n p r) q = class-neat c n p (resolved s r) (resolved-tidy s h r)
-  next-neat (U.domain n p r w) q = domain-neat n p r w (resolved s r) (resolved-tidy s h r) q
+  next-neat (U.domain n p r w) q =
+      domain-neat n p r w (resolved s r) (resolved s (referenceIn (w .type))) (resolved-tidy s h r) q
   next-neat (U.attribute n p w) q = member-neat n p w (s .open-class) (h .1) q
+  next-neat (U.unit n p r) q = unit-neat n p (resolved s r) (resolved-tidy s h r)
   next-neat (U.close n) q = close-neat (s .open-class) (s .topic) (h .1)
 
 neat : Invariant Neat

@@ -13,17 +13,16 @@ use Rattle.rules.specs.Enumerations.{Enum}
 use Rattle.rules.specs.Grammar as G
 use Rattle.rules.specs.Grammar.{Reference, WrittenType, Written}
 use Rattle.rules.specs.Units as U
-use Rattle.rules.specs.Units.{isGiven}
 use Rattle.rules.specs.Types as Y
-use Rattle.rules.specs.Types.{Ty, kindOf, fits}
+use Rattle.rules.specs.Types.{Ty, kindOf}
 use Rattle.rules.specs.Declarations as D
-use Rattle.rules.specs.Declarations.{Link, Use, inline, ofDomain, ofStructure, tyOf, Attribute, Sort, domain, isSort}
-use Rattle.rules.specs.Declarations.{Def, linkOf, attributesOf, attributeAt, isFound, def, State, known}
+use Rattle.rules.specs.Declarations.{Link, Use, inline, ofDomain, ofStructure, tyOf, Attribute, Sort, domain, unit}
+use Rattle.rules.specs.Declarations.{isSort, Def, linkOf, attributesOf, attributeAt, isFound, def, State, known}
 use Rattle.rules.specs.Book.{declsRecords, headRecords, endRecords, records}
 use Rattle.rules.specs.Judge as J
-use Rattle.rules.specs.Judge.{orNoDef, resolved, meant, mergedInto, domainType, attributeUse, referenceIn, typeRules}
-use Rattle.rules.specs.Judge.{declare, opened, inTopic, extendsRules, newTopic, newClass, newDomain, domainTo16}
-use Rattle.rules.specs.Judge.{domainRules, baseOfAttribute, newAttribute, withAttribute, attributeTo16, attribute17To18}
+use Rattle.rules.specs.Judge.{orNoDef, resolved, meant, mergedInto, domainType, attributeUse, referenceIn, isNaming}
+use Rattle.rules.specs.Judge.{typeRules, declare, opened, inTopic, newTopic, newClass, newDomain, domainTo16}
+use Rattle.rules.specs.Judge.{domainRules, baseOfAttribute, newAttribute, withAttribute, attributeTo16, attributeFrom17}
 use Rattle.rules.specs.Judge.{attributeRules, inheritedAs, memberRules, afterMember, afterClose, rulesOf, nextState}
 use Rattle.rules.specs.Judge.{descends}
 use Rattle.rules.specs.All.{All, AnyIs, Unbroken}
@@ -32,7 +31,8 @@ use Rattle.rules.proofs.GrowLaws.{known-append, decls-count, attributes-count, 
 use Rattle.rules.proofs.GrowLaws.{with-sort}
 use Rattle.rules.proofs.NumberLaws.{in-order}
 use Rattle.rules.proofs.Tests.{never, not-both, or-l, or-fails, not-fails}
-use Rattle.claims.specs.Readings.{proper}
+use Rattle.claims.specs.Readings.{proper, Inside}
+use Rattle.claims.proofs.TypeLaws.{inside, structure-none}
 use Rattle.claims.proofs.StateLaws.{GoodUse, Over, GoodOwn, GoodDef, KnownDef, GoodOpen, Sound, becomes-known}
 use Rattle.claims.proofs.StateLaws.{grow, good-naming, GoodAttribute, OverBase}
 use Rattle.claims.proofs.UnitLaws.{Moves, isClass}
@@ -85,55 +85,58 @@ module _ (s : State) (h : Sound s) where
 -- ---- 14 makes a written type proper
 merged-proper : (b : Ty) (e : Enum) → proper (mergedInto b e) ≡ true
 merged-proper (Y.text m n) e = refl
-merged-proper (Y.range r) e = refl
-merged-proper Y.numeric e = refl
+merged-proper (Y.numeric r u) e = refl
 merged-proper (Y.enum f) e = refl
 merged-proper Y.structure e = refl
 
-meant-proper : (based : Bool) (p : ℕ) (x : WrittenType) (b : Ty)
-    → All Unbroken (typeRules based p (some x)) → proper (meant x b) ≡ true
-meant-proper based p (G.text m n) b h = refl
-meant-proper based p (G.range x y) b h = in-order (x .bytes) (y .bytes) (h .0)
-meant-proper based p G.numeric b h = refl
-meant-proper based p (G.enum e) b h = merged-proper b e
-meant-proper based p (G.named r) b h = refl
+meant-proper : (based : Bool) (p : ℕ) (x : WrittenType) (g : Option Def) (b : Ty)
+    → All Unbroken (typeRules based p (some x)) → proper (meant x g b) ≡ true
+meant-proper based p (G.text m n) g b h = refl
+meant-proper based p (G.numeric none r) g b h = refl
+meant-proper based p (G.numeric (some q) r) g b h = in-order (q .first .bytes) (q .second .bytes) (h .0)
+meant-proper based p (G.enum e) g b h = merged-proper b e
+meant-proper based p (G.named r) g b h = refl
 
-pub type-proper : (based : Bool) (p : ℕ) (x : Option WrittenType) (b : Ty) → proper b ≡ true
+pub type-proper : (based : Bool) (p : ℕ) (x : Option WrittenType) (g : Option Def) (b : Ty) → proper b ≡ true
     → All Unbroken (typeRules based p x)
-    → proper (domainType x b) ≡ true
-type-proper based p none b q h = q
-type-proper based p (some x) b q h = meant-proper based p x b h
+    → proper (domainType x g b) ≡ true
+type-proper based p none g b q h = q
+type-proper based p (some x) g b q h = meant-proper based p x g b h
 
 -- ---- domains
-module _ (s : State) (n : Name) (p : List (List ℕ)) (b : Option Reference) (w : Written) where
-  pub domain-types : (o : Option Def) → All Unbroken (domainTo16 s n p b w o)
+module _ (s : State) (n : Name) (p : List (List ℕ)) (b : Option Reference) (w : Written) (g : Option Def) where
+  pub domain-types : (o : Option Def) → All Unbroken (domainTo16 s n p b w o g)
       → All Unbroken (typeRules (isFound o) (w .place) (w .type))
-  unfolding domainTo16 extendsRules
-  domain-types o h = all-left Unbroken (typeRules (isFound o) (w .place) (w .type)) _ (h .1 .1 .1 .1 .1 .1)
+  unfolding domainTo16
+  domain-types o h = all-left Unbroken (typeRules (isFound o) (w .place) (w .type)) _ (h .1 .1 .1 .1 .1 .1 .1 .1)
 
-  pub domain-kind : (d : Def) → All Unbroken (domainTo16 s n p b w (some d))
-      → eqb (kindOf (domainType (w .type) (d .type))) (kindOf (d .type)) ≡ true
-  unfolding domainTo16 extendsRules newDomain
-  domain-kind d h = not-fails ((all-right Unbroken (typeRules true (w .place) (w .type)) _ (h .1 .1 .1 .1 .1 .1)) .0)
+  pub domain-kind : (d : Def) → All Unbroken (domainTo16 s n p b w (some d) g)
+      → eqb (kindOf (domainType (w .type) g (d .type))) (kindOf (d .type)) ≡ true
+  unfolding domainTo16 newDomain
+  domain-kind d h =
+      not-fails ((all-right Unbroken (typeRules true (w .place) (w .type)) _ (h .1 .1 .1 .1 .1 .1 .1 .1)) .0)
 
-  domain-sort : (d : Def) → All Unbroken (domainTo16 s n p b w (some d)) → isSort domain (d .sort) ≡ true
-  unfolding domainTo16 extendsRules
-  domain-sort d h = not-fails (h .1 .1 .1 .0)
+  domain-sort : (d : Def) → All Unbroken (domainTo16 s n p b w (some d) g) → isSort domain (d .sort) ≡ true
+  unfolding domainTo16
+  domain-sort d h = not-fails (h .1 .1 .1 .1 .0)
 
-  domain-fits : (d : Def) → All Unbroken (domainRules s n p b w (some d))
-      → fits (domainType (w .type) (d .type)) (d .type) ≡ true
+  -- 17 and 22 are kept
+  domain-inside : (d : Def) → All Unbroken (domainRules s n p b w (some d) g)
+      → Inside (domainType (w .type) g (d .type)) (d .type)
   unfolding domainRules
-  domain-fits d h = not-fails ((all-right Unbroken (domainTo16 s n p b w (some d)) _ h) .0)
+  domain-inside d h =
+      let k = all-right Unbroken (domainTo16 s n p b w (some d) g) _ h in
+      inside (domainType (w .type) g (d .type)) (d .type) (not-fails (k .0)) (not-fails (k .1 .0))
 
-  domain-early : (o : Option Def) → All Unbroken (domainRules s n p b w o) → All Unbroken (domainTo16 s n p b w o)
+  domain-early : (o : Option Def) → All Unbroken (domainRules s n p b w o g) → All Unbroken (domainTo16 s n p b w o g)
   unfolding domainRules
-  domain-early o h = all-left Unbroken (domainTo16 s n p b w o) _ h
+  domain-early o h = all-left Unbroken (domainTo16 s n p b w o g) _ h
 
-  new-domain : (o : Option Def) → AnyIs (KnownDef (known (s .decls))) o → All Unbroken (domainRules s n p b w o) →
-      GoodDef (known (s .decls)) (newDomain s n p w o)
+  new-domain : (o : Option Def) → AnyIs (KnownDef (known (s .decls))) o → All Unbroken (domainRules s n p b w o g) →
+      GoodDef (known (s .decls)) (newDomain s n p w o g)
   unfolding newDomain
   new-domain none k q = record {
-    proper-type = type-proper false (w .place) (w .type) Y.structure refl (domain-types none (domain-early none q));
+    proper-type = type-proper false (w .place) (w .type) g Y.structure refl (domain-types none (domain-early none q));
     chained = tt;
     bare = λ z. refl;
     inherits = refl;
@@ -141,9 +144,9 @@ module _ (s : State) (n : Name) (p : List (List ℕ)) (b : Option Reference) (w 
     uses = tt;
   }
   new-domain (some d) k q = record {
-    proper-type = type-proper true (w .place) (w .type) (d .type) (k .good .proper-type)
+    proper-type = type-proper true (w .place) (w .type) g (d .type) (k .good .proper-type)
         (domain-types (some d) (domain-early (some d) q));
-    chained = (domain-fits d q, (d, k .again, refl, refl), k .good .chained);
+    chained = (domain-inside d q, (d, k .again, refl, refl), k .good .chained);
     bare = λ z. refl;
     inherits = sym (ap (λ (o : Option Def). attributesOf (orNoDef o)) (k .again)
         ∙ k .good .bare (domain-sort d (domain-early (some d) q)));
@@ -151,16 +154,16 @@ module _ (s : State) (n : Name) (p : List (List ℕ)) (b : Option Reference) (w 
     uses = tt;
   }
 
-  domain-number : (o : Option Def) → newDomain s n p w o .number ≡ length (records s)
+  domain-number : (o : Option Def) → newDomain s n p w o g .number ≡ length (records s)
   unfolding newDomain
   domain-number o = refl
 
   sound-domain : (o : Option Def) → Sound s → isOpen s ≡ false → AnyIs (KnownDef (known (s .decls))) o
-      → All Unbroken (domainRules s n p b w o)
-      → Sound (declare s (def (newDomain s n p w o)))
-  sound-domain o h c k q = new-sound s h c (newDomain s n p w o) (domain-number o) (new-domain o k q)
+      → All Unbroken (domainRules s n p b w o g)
+      → Sound (declare s (def (newDomain s n p w o g)))
+  sound-domain o h c k q = new-sound s h c (newDomain s n p w o g) (domain-number o) (new-domain o k q)
 
--- ---- classes and structures
+-- ---- classes, structures and units
 module _ (s : State) (x : Sort) (n : Name) (p : List (List ℕ)) where
   new-class : isSort domain x ≡ false → (o : Option Def) → AnyIs (KnownDef (known (s .decls))) o
       → GoodDef (known (s .decls)) (newClass s x n p o)
@@ -175,7 +178,7 @@ module _ (s : State) (x : Sort) (n : Name) (p : List (List ℕ)) where
   }
   new-class z (some d) k = record {
     proper-type = refl;
-    chained = (refl, (d, k .again, refl, refl), k .good .chained);
+    chained = (λ v. structure-none v, (d, k .again, refl, refl), k .good .chained);
     bare = λ y. not-both y z;
     inherits = ap (λ (o : Option Def). attributesOf (orNoDef o)) (sym (k .again));
     own = tt;
@@ -202,19 +205,23 @@ module _ (s : State) (x : Sort) (n : Name) (p : List (List ℕ)) where
       opened-sound s h e (new-class z o k) (class-sort z o)
       (all-map (λ d y. omega arith) (known (s .decls)) (h .before)) (omega arith) (omega arith)
 
+  sound-unit : isSort domain x ≡ false → (o : Option Def) → Sound s → isOpen s ≡ false
+      → AnyIs (KnownDef (known (s .decls))) o
+      → Sound (declare s (def (newClass s x n p o)))
+  sound-unit z o h c k = new-sound s h c (newClass s x n p o) (class-number o) (new-class z o k)
+
 -- ---- attributes
 pub good-use : (K : List Def) (based : Bool) (p : ℕ) (x : Option WrittenType) (g : Option Def) (b : Use)
     → AnyIs (KnownDef K) g → GoodUse K b
     → All Unbroken (typeRules based p x) → GoodUse K (attributeUse x g b)
 good-use K based p none g b h z k = z
 good-use K based p (some (G.text m n)) g b h z k = refl
-good-use K based p (some (G.range x y)) g b h z k = meant-proper based p (G.range x y) (tyOf b) k
-good-use K based p (some G.numeric) g b h z k = refl
+good-use K based p (some (G.numeric q r)) g b h z k = meant-proper based p (G.numeric q r) g (tyOf b) k
 good-use K based p (some (G.enum e)) g b h z k = merged-proper (tyOf b) e
 good-use K based p (some (G.named r)) none b h z k = tt
 good-use K based p (some (G.named r)) (some d) b h z k = good-naming K d h
 
-over-self : (b : Use) → fits (tyOf b) (tyOf b) ≡ true → Over b b
+over-self : (b : Use) → Inside (tyOf b) (tyOf b) → Over b b
 over-self (inline t) f = f
 over-self (ofDomain l bs) f = or-l _ (eq-eqb (l .number) (l .number) refl)
 over-self (ofStructure l bs) f = tt
@@ -231,14 +238,13 @@ alike true false p q = q
 alike false true p q = sym p
 alike false false p q = refl
 
--- 17 and 18 are kept
+-- 17, 18 and 22 are kept
 late-over : (p : ℕ) (x : Option WrittenType) (g : Option Def) (b : Use) →
-    All Unbroken (attribute17To18 p true (isGiven (referenceIn x)) (attributeUse x g b) b) → Over (attributeUse x g b) b
-late-over p none g b k = over-self b (not-fails (k .0))
-late-over p (some (G.text m n)) g b k = not-fails (k .0)
-late-over p (some (G.range x y)) g b k = not-fails (k .0)
-late-over p (some G.numeric) g b k = not-fails (k .0)
-late-over p (some (G.enum e)) g b k = not-fails (k .0)
+    All Unbroken (attributeFrom17 p true (isNaming x) (attributeUse x g b) b) → Over (attributeUse x g b) b
+late-over p none g b k = over-self b (inside (tyOf b) (tyOf b) (not-fails (k .0)) (not-fails (k .1 .1 .0)))
+late-over p (some (G.text m n)) g b k = inside _ (tyOf b) (not-fails (k .0)) (not-fails (k .1 .1 .0))
+late-over p (some (G.numeric q r)) g b k = inside _ (tyOf b) (not-fails (k .0)) (not-fails (k .1 .1 .0))
+late-over p (some (G.enum e)) g b k = inside _ (tyOf b) (not-fails (k .0)) (not-fails (k .1 .1 .0))
 late-over p (some (G.named r)) g b k =
     let d = orNoDef g in
     over-naming (isSort domain (d .sort)) (linkOf d) (d .bases) b (not-fails (k .1 .0))
@@ -314,6 +320,7 @@ head-grows D.topic c a = omega arith
 head-grows D.class c a = let h = attributes-count (c .own) a in omega arith
 head-grows D.struct c a = let h = attributes-count (c .own) a in omega arith
 head-grows D.domain c a = omega arith
+head-grows D.unit c a = omega arith
 
 with-number : (c : Def) (a : Attribute) → withAttribute c a .number ≡ c .number
 unfolding withAttribute
@@ -387,6 +394,7 @@ class-no-domain D.topic e = never e
 class-no-domain D.class e = refl
 class-no-domain D.struct e = refl
 class-no-domain D.domain e = never e
+class-no-domain D.unit e = never e
 
 pub judge-sound : (s : State) (u : U.Unit) (b : Bool) → Sound s → Moves (isOpen s) (some u) b
     → All Unbroken (rulesOf s u) → Sound (nextState s u)
@@ -396,8 +404,10 @@ judge-sound s (U.topic n) b h m q =
     new-sound s h (m .0) (newTopic s n) (topic-number s n) (topic-good (known (s .decls)) s n)
 judge-sound s (U.class c n p r) b h m q =
     sound-class s c n p (class-no-domain c (m .2)) (resolved s r) h (m .0) (based s h r)
-judge-sound s (U.domain n p r w) b h m q = sound-domain s n p r w (resolved s r) h (m .0) (based s h r) q
+judge-sound s (U.domain n p r w) b h m q =
+    sound-domain s n p r w (resolved s (referenceIn (w .type))) (resolved s r) h (m .0) (based s h r) q
 judge-sound s (U.attribute n p w) b h m q = sound-member s n p w h (s .open-class) refl q
+judge-sound s (U.unit n p r) b h m q = sound-unit s unit n p refl (resolved s r) h (m .0) (based s h r)
 judge-sound s (U.close n) b h m q = sound-close s h (s .open-class) refl (s .topic)
 
 -- ---- the open class after a unit
@@ -418,4 +428,5 @@ next-open s (U.topic n) b m = sym (m .1)
 next-open s (U.class c n p r) b m = sym (m .1)
 next-open s (U.domain n p r w) b m = sym (m .1)
 next-open s (U.attribute n p w) b m = member-open s n p w (s .open-class) refl ∙ (m .0 ∙ sym (m .1))
+next-open s (U.unit n p r) b m = sym (m .1)
 next-open s (U.close n) b m = close-open s (s .open-class) (s .topic) refl ∙ sym m

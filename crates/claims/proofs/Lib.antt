@@ -1,3 +1,4 @@
+pub mod MeasureLaws
 pub mod NumberLaws
 pub mod TextLaws
 pub mod EnumerationLaws
@@ -10,6 +11,7 @@ pub mod UnitLaws
 pub mod JudgeLaws
 pub mod RunLaws
 pub mod StepLaws
+pub mod MeasuredLaws
 pub mod PromiseLaws
 pub mod PlaceLaws
 pub mod SymbolFirstLaws

@@ -13,13 +13,13 @@ use Rattle.rules.specs.Declarations.{State}
 use Rattle.rules.specs.Book.{Record, bytes, isDefinition, definitions, records}
 use Rattle.rules.specs.Judge.{rule}
 use Rattle.rules.specs.Check.{Given, check}
-use Rattle.rules.specs.All.{In, first, later}
+use Rattle.rules.specs.All.{In, first}
 use Rattle.rules.proofs.AllLaws.{any-is}
 use Rattle.rules.proofs.Tests.{never, split, or-split}
 use Rattle.claims.specs.Reached.{Reaches, begin, pass}
 use Rattle.claims.specs.Ranking.{order, isIn, allRules, Unread, long, stuck, RuleBroken, Refused}
 use Rattle.claims.specs.Numbered.{table, Numbered, RefusedNumbered, AcceptedSmall}
-use Rattle.claims.proofs.StateLaws.{in-all}
+use Rattle.claims.proofs.StateLaws.{in-all, in-right}
 use Rattle.claims.proofs.RunLaws.{reached-place, reached-reads}
 use Rattle.claims.proofs.PromiseLaws.{accepted-book}
 use Rattle.claims.proofs.RankingLaws.{units-ranked, of-order-in, texts-ranked}
@@ -46,10 +46,6 @@ fault-number too-large = refl
 fault-number impossible = refl
 fault-number reserved = refl
 
-in-behind : {A : Type 0} (l m : List A) (a : A) → In a (l ++ (a ∷ m))
-in-behind [] m a = first
-in-behind (b ∷ l) m a = later (in-behind l m a)
-
 -- ---- places
 module _ (t : List ℕ) (g : Given) where
   pub reached-short : {f : ℕ} {w : _} {s : State} {at : ℕ} → Reaches t g f w s at → length t ≤ 65535
@@ -68,7 +64,7 @@ module _ (t : List ℕ) (g : Given) where
       let f = b .first in
       let l = allRules g s (b .unit) in
       let i : In (rule n p true) l =
-      subst (In (rule n p true)) (sym (f .split)) (in-behind (f .before) (f .behind) (rule n p true)) in
+      subst (In (rule n p true)) (sym (f .split)) (in-right (f .before) first) in
       let j = b .judges in
       let u : UnitIn t (b .unit) = any-is (UnitIn t) _ (b .unit)
       (reached-reads t g (j .reaches) (j .step) (j .after) (j .reads) .places) (j .unit) in

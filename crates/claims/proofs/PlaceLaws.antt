@@ -51,8 +51,7 @@ module _ (t : List ℕ) (i : ℕ) where
   element-in : (x : Option WrittenType) → AnyIs (W.TypeIn t i) x → RuleIn t (elementRule x)
   element-in none h = omega arith
   element-in (some (G.text m n)) h = omega arith
-  element-in (some (G.range x y)) h = omega arith
-  element-in (some G.numeric) h = omega arith
+  element-in (some (G.numeric q r)) h = omega arith
   element-in (some (G.enum e)) h = doubled-in (twice e []) (twice-in e [] h)
   element-in (some (G.named r)) h = omega arith
 
@@ -61,16 +60,15 @@ module _ (t : List ℕ) (i : ℕ) where
   types-in based p none k h = tt
   types-in based p (some (G.text m none)) k h = tt
   types-in based p (some (G.text m (some y))) k h = (h .1, tt)
-  types-in based p (some (G.range x y)) k h = (h .1, tt)
-  types-in based p (some G.numeric) k h = tt
+  types-in based p (some (G.numeric none r)) k h = tt
+  types-in based p (some (G.numeric (some q) r)) k h = (h .0 .1, tt)
   types-in based p (some (G.enum e)) k h = (k .1, tt)
   types-in based p (some (G.named r)) k h = tt
 
-  written-reference : (x : Option WrittenType) → AnyIs (W.TypeIn t i) x → AnyIs (W.ReferenceIn t i) (referenceIn x)
+  pub written-reference : (x : Option WrittenType) → AnyIs (W.TypeIn t i) x → AnyIs (W.ReferenceIn t i) (referenceIn x)
   written-reference none h = tt
   written-reference (some (G.text m n)) h = tt
-  written-reference (some (G.range x y)) h = tt
-  written-reference (some G.numeric) h = tt
+  written-reference (some (G.numeric q r)) h = h .1
   written-reference (some (G.enum e)) h = tt
   written-reference (some (G.named r)) h = h
 
@@ -81,17 +79,19 @@ module _ (t : List ℕ) (i : ℕ) where
 
   module _ (s : State) (n : Name) (p : List (List ℕ)) (w : Written)
       (h : n .offset ≤ length t) (j : W.WrittenIn t i w) where
-    domain-to-16 : (r : Option Reference) (o : Option Def) → AnyIs (W.ReferenceIn t i) r
-        → All (RuleIn t) (domainTo16 s n p r w o)
-    unfolding domainTo16 extendsRules
-    domain-to-16 r o q =
+    domain-to-16 : (r : Option Reference) (o g : Option Def) → AnyIs (W.ReferenceIn t i) r
+        → All (RuleIn t) (domainTo16 s n p r w o g)
+    unfolding domainTo16
+    domain-to-16 r o g q =
         let a = reference-in r q in
-        (h, (element-in (w .type) (j .1), (a, (a, (a, (h, kinds-in (isFound o) w _ j (j .0 .1)))))))
+        let b = reference-in (referenceIn (w .type)) (written-reference (w .type) (j .1)) in
+        (h, (element-in (w .type) (j .1), (a, (b, (a, (b, (a, (h, kinds-in (isFound o) w _ j (j .0 .1)))))))))
 
-    domain-in : (r : Option Reference) (o : Option Def) → AnyIs (W.ReferenceIn t i) r
-        → All (RuleIn t) (domainRules s n p r w o)
+    domain-in : (r : Option Reference) (o g : Option Def) → AnyIs (W.ReferenceIn t i) r
+        → All (RuleIn t) (domainRules s n p r w o g)
     unfolding domainRules
-    domain-in r o q = all-append (RuleIn t) (domainTo16 s n p r w o) _ (domain-to-16 r o q) (j .0 .1, tt)
+    domain-in r o g q =
+        all-append (RuleIn t) (domainTo16 s n p r w o g) _ (domain-to-16 r o g q) (j .0 .1, (j .0 .1, tt))
 
     attribute-to-16 : (c : Def) (o : Option Attribute) (g : Option Def) → All (RuleIn t) (attributeTo16 s c n p w o g)
     unfolding attributeTo16
@@ -105,7 +105,7 @@ module _ (t : List ℕ) (i : ℕ) where
     member-in (some c) =
         let g = resolved s (referenceIn (w .type)) in
         all-append (RuleIn t) (attributeTo16 s c n p w (inheritedAs c n) g) _
-        (attribute-to-16 c (inheritedAs c n) g) (j .0 .1, (j .0 .1, tt))
+        (attribute-to-16 c (inheritedAs c n) g) (j .0 .1, (j .0 .1, (j .0 .1, tt)))
 
 module _ (t : List ℕ) where
   unit-in : (u : U.Unit) → W.UnitIn t u → unitPlace u ≤ length t
@@ -115,6 +115,7 @@ module _ (t : List ℕ) where
   unit-in (U.class c n p r) h = h .0 .1
   unit-in (U.domain n p r w) h = h .0 .1
   unit-in (U.attribute n p w) h = h .0 .1
+  unit-in (U.unit n p r) h = h .0 .1
   unit-in (U.close n) h = h .1
 
   rules-in : (s : State) (u : U.Unit) → W.UnitIn t u → All (RuleIn t) (rulesOf s u)
@@ -123,8 +124,10 @@ module _ (t : List ℕ) where
   rules-in s (U.model n q) h = tt
   rules-in s (U.topic n) h = (h .1, tt)
   rules-in s (U.class c n p r) h = let a = reference-in t 0 r (h .1) in (h .0 .1, (a, (a, (a, (h .0 .1, tt)))))
-  rules-in s (U.domain n p r w) h = domain-in t (n .offset) s n p w (h .0 .1) (h .2) r (resolved s r) (h .1)
+  rules-in s (U.domain n p r w) h = domain-in t (n .offset) s n p w (h .0 .1) (h .2) r (resolved s r)
+      (resolved s (referenceIn (w .type))) (h .1)
   rules-in s (U.attribute n p w) h = member-in t (n .offset) s n p w (h .0 .1) (h .1) (s .open-class)
+  rules-in s (U.unit n p r) h = let a = reference-in t 0 r (h .1) in (h .0 .1, (a, (a, (a, (h .0 .1, tt)))))
   rules-in s (U.close n) h = (h .1, tt)
 
   pub all-rules-in : (g : Given) (s : State) (u : U.Unit) → W.UnitIn t u → All (RuleIn t) (allRules g s u)

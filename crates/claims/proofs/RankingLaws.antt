@@ -43,16 +43,16 @@ module _ (s : State) (n : Name) (p : List (List ℕ)) (m : Bool) (at k : ℕ) (b
   abbrev writing : Option WrittenType → Written
   writing x = record { mandatory = m; place = at; type = x }
 
-  domain-ranked : (r : Option Reference) (o : Option Def) (x : Option WrittenType)
-      → Ranked (domainRules s n p r (writing x) o ++ last)
-  unfolding rank domainRules domainTo16 extendsRules
-  domain-ranked r o none = (refl, refl)
-  domain-ranked r o (some (G.text l none)) = (refl, refl)
-  domain-ranked r o (some (G.text l (some y))) = (refl, refl)
-  domain-ranked r o (some (G.range x y)) = (refl, refl)
-  domain-ranked r o (some G.numeric) = (refl, refl)
-  domain-ranked r o (some (G.enum e)) = let q = doubled-nine (twice e []) in (rw q, rw q)
-  domain-ranked r o (some (G.named x)) = (refl, refl)
+  domain-ranked : (r : Option Reference) (o g : Option Def) (x : Option WrittenType)
+      → Ranked (domainRules s n p r (writing x) o g ++ last)
+  unfolding rank domainRules domainTo16
+  domain-ranked r o g none = (refl, refl)
+  domain-ranked r o g (some (G.text l none)) = (refl, refl)
+  domain-ranked r o g (some (G.text l (some y))) = (refl, refl)
+  domain-ranked r o g (some (G.numeric none y)) = (refl, refl)
+  domain-ranked r o g (some (G.numeric (some x) y)) = (refl, refl)
+  domain-ranked r o g (some (G.enum e)) = let q = doubled-nine (twice e []) in (rw q, rw q)
+  domain-ranked r o g (some (G.named x)) = (refl, refl)
 
   attribute-ranked : (c : Def) (o : Option Attribute) (g : Option Def) (x : Option WrittenType) →
       Ranked (attributeRules s c n p (writing x) o g ++ last)
@@ -60,8 +60,8 @@ module _ (s : State) (n : Name) (p : List (List ℕ)) (m : Bool) (at k : ℕ) (b
   attribute-ranked c o g none = (refl, refl)
   attribute-ranked c o g (some (G.text l none)) = (refl, refl)
   attribute-ranked c o g (some (G.text l (some y))) = (refl, refl)
-  attribute-ranked c o g (some (G.range x y)) = (refl, refl)
-  attribute-ranked c o g (some G.numeric) = (refl, refl)
+  attribute-ranked c o g (some (G.numeric none y)) = (refl, refl)
+  attribute-ranked c o g (some (G.numeric (some x) y)) = (refl, refl)
   attribute-ranked c o g (some (G.enum e)) = let q = doubled-nine (twice e []) in (rw q, rw q)
   attribute-ranked c o g (some (G.named x)) = (refl, refl)
 
@@ -76,8 +76,10 @@ unit-ranked g s (U.header v) = (refl, refl)
 unit-ranked g s (U.model n q) = (refl, refl)
 unit-ranked g s (U.topic n) = (refl, refl)
 unit-ranked g s (U.class c n p r) = (refl, refl)
-unit-ranked g s (U.domain n p r w) = domain-ranked s n p (w .mandatory) (w .place) _ _ r (resolved s r) (w .type)
+unit-ranked g s (U.domain n p r w) = domain-ranked s n p (w .mandatory) (w .place) _ _ r (resolved s r)
+    (resolved s (referenceIn (w .type))) (w .type)
 unit-ranked g s (U.attribute n p w) = member-ranked s n p (w .mandatory) (w .place) _ _ (w .type) (s .open-class)
+unit-ranked g s (U.unit n p r) = (refl, refl)
 unit-ranked g s (U.close n) = (refl, refl)
 
 -- ---- ranks

@@ -43,6 +43,7 @@ Own D.topic n l = l ≡ []
 Own D.class n l = Placed n l
 Own D.struct n l = Placed n l
 Own D.domain n l = l ≡ []
+Own D.unit n l = l ≡ []
 
 record DefAt (n : ℕ) (d : Def) : Type 0 where
   number : d .number ≡ n
@@ -87,6 +88,7 @@ own-append D.topic n l a z h e = never z
 own-append D.class n l a z h e = placed-append n l a h e
 own-append D.struct n l a z h e = placed-append n l a h e
 own-append D.domain n l a z h e = never z
+own-append D.unit n l a z h e = never z
 
 head-length : (x : Sort) (c : Def) → isClass x ≡ true
     → length (headRecords x c) ≡ suc (length (attributesRecords (c .own)))
@@ -94,11 +96,12 @@ head-length D.topic c z = never z
 head-length D.class c z = refl
 head-length D.struct c z = refl
 head-length D.domain c z = never z
+head-length D.unit c z = never z
 
-new-domain-at : (s : State) (n : Name) (p : List (List ℕ)) (w : Written) (o : Option Def) → isOpen s ≡ false →
-    DefAt (length (declsRecords (s .decls))) (newDomain s n p w o)
+new-domain-at : (s : State) (n : Name) (p : List (List ℕ)) (w : Written) (o g : Option Def) → isOpen s ≡ false →
+    DefAt (length (declsRecords (s .decls))) (newDomain s n p w o g)
 unfolding newDomain
-new-domain-at s n p w o c = record { number = closed-records s c; own = refl }
+new-domain-at s n p w o g c = record { number = closed-records s c; own = refl }
 
 new-topic-at : (s : State) (n : Name) → isOpen s ≡ false → DefAt (length (declsRecords (s .decls))) (newTopic s n)
 unfolding newTopic
@@ -112,6 +115,12 @@ new-class-at s D.topic n p o c z = never z
 new-class-at s D.class n p o c z = record { def-at = record { number = closed-records s c; own = tt }; sort = refl }
 new-class-at s D.struct n p o c z = record { def-at = record { number = closed-records s c; own = tt }; sort = refl }
 new-class-at s D.domain n p o c z = never z
+new-class-at s D.unit n p o c z = never z
+
+new-unit-at : (s : State) (n : Name) (p : List (List ℕ)) (o : Option Def) → isOpen s ≡ false
+    → DefAt (length (declsRecords (s .decls))) (newClass s D.unit n p o)
+unfolding newClass
+new-unit-at s n p o c = record { number = closed-records s c; own = refl }
 
 with-attribute-at : (k : ℕ) (c : Def) (a : Attribute) → OpenAt k c
     → a .number ≡ suc k + length (attributesRecords (c .own))
@@ -167,8 +176,11 @@ next-order s (U.class c n p r) b h m q = record {
   opened = new-class-at s c n p (resolved s r) (m .0) (m .2);
 }
 next-order s (U.domain n p r w) b h m q =
-    declared-laid s h (def (newDomain s n p w (resolved s r))) (new-domain-at s n p w (resolved s r) (m .0))
+    let g = resolved s (referenceIn (w .type)) in
+    declared-laid s h (def (newDomain s n p w (resolved s r) g)) (new-domain-at s n p w (resolved s r) g (m .0))
 next-order s (U.attribute n p w) b h m q = member-order s n p w h (s .open-class) refl
+next-order s (U.unit n p r) b h m q =
+    declared-laid s h (def (newClass s D.unit n p (resolved s r))) (new-unit-at s n p (resolved s r) (m .0))
 next-order s (U.close n) b h m q = close-order s h (s .open-class) refl (s .topic)
 
 order : Invariant InOrder
@@ -236,6 +248,7 @@ own-in D.topic c n h i = in-none h i
 own-in D.class c n h i = headed (defRecord 4 c) c n h i (endRecords D.class)
 own-in D.struct c n h i = headed (defRecord 5 c) c n h i (endRecords D.struct)
 own-in D.domain c n h i = in-none h i
+own-in D.unit c n h i = in-none h i
 
 record Found (l : List Decl) (n : ℕ) (d : Def) : Type 0 where
   at : ℕ

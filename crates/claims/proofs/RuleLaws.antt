@@ -7,13 +7,13 @@ use Prim.Native.Nat.{ℕ, _≤_, _<_}
 use native.Mathlib.Omega.{arith}
 use lib.ListN.{length}
 use lib.Dec.{eqb, ltb}
-use borrow.Author.Tests.{eq-eqb, ltb-true, ltb-false}
+use borrow.Author.Tests.{eq-eqb, ltb-true, ltb-false, lt-ltb}
 use Rattle.rules.specs.Units as U
 use Rattle.rules.specs.Declarations.{State}
 use Rattle.rules.specs.Book.{book}
 use Rattle.rules.specs.Judge.{Rule, rule, Judged, ok, refused, firstBrokenOr, rulesOf, nextState, judge}
 use Rattle.rules.specs.Check.{Given, unitPlace, capacity, room, judged}
-use Rattle.rules.specs.All.{All, Unbroken}
+use Rattle.rules.specs.All.{All, In, first, later, Unbroken}
 use Rattle.rules.proofs.AllLaws.{all-left, all-right}
 use Rattle.rules.proofs.RuleLaws.{first-broken-ok}
 use Rattle.rules.proofs.Tests.{both, split, not-both, not-is}
@@ -74,6 +74,13 @@ under-append k (r ∷ l) m h q =
     let z : (ltb (rank (r .number)) (rank k) ≡ true) × (under k l ≡ true) = split h in
     both (z .0) (under-append k l m (z .1) q)
 
+pub under-more : (k m : ℕ) (l : List Rule) → rank k ≤ rank m → under k l ≡ true → under m l ≡ true
+under-more k m [] e h = refl
+under-more k m (r ∷ l) e h =
+    let z : (ltb (rank (r .number)) (rank k) ≡ true) × (under k l ≡ true) = split h in
+    let y = ltb-true (rank (r .number)) (rank k) (z .0) in
+    both (lt-ltb (rank (r .number)) (rank m) (omega arith)) (under-more k m l e (z .1))
+
 number-of : (r : Rule) (k p : ℕ) → refused (r .number) (r .place) ≡ refused k p → r .number ≡ k
 number-of r k p q = cc
 
@@ -117,19 +124,32 @@ first-broken-hit r l s k p h q = go (r .broken) refl q
     go true e z = e
     go false e z = absurd (first-broken-never l s k p h z)
 
--- ---- a broken rule refuses, unless one before it does
+-- ---- of rules whose ranks are below that of k, a broken one refuses, or one before it
 abbrev pub Refuses : ℕ → Judged → Type 0
-Refuses k j = (n p : ℕ) × (j ≡ refused n p) × (rank n ≤ rank k)
+Refuses k j = (n p : ℕ) × (j ≡ refused n p) × (rank n < rank k)
 
-pub first-broken-refuses : (pre : List Rule) (r : Rule) (post : List Rule) (s : State)
-    → under (r .number) pre ≡ true → r .broken ≡ true
-    → Refuses (r .number) (firstBrokenOr (pre ++ (r ∷ post)) s)
-first-broken-refuses [] r post s h b = (r .number, r .place, rw b, omega arith)
-first-broken-refuses (x ∷ pre) r post s h b =
-    let z : (ltb (rank (x .number)) (rank (r .number)) ≡ true) × (under (r .number) pre ≡ true) = split h in
-    go (x .broken) (ltb-true (rank (x .number)) (rank (r .number)) (z .0)) (first-broken-refuses pre r post s (z .1) b)
+pub in-refuses : (k : ℕ) (l : List Rule) (s : State) → under k l ≡ true → (r : Rule) → In r l → r .broken ≡ true
+    → Refuses k (firstBrokenOr l s)
+in-refuses k (x ∷ l) s h r i b =
+    let z : (ltb (rank (x .number)) (rank k) ≡ true) × (under k l ≡ true) = split h in
+    go x r (x .broken) refl (ltb-true (rank (x .number)) (rank k) (z .0)) i b (λ j. in-refuses k l s (z .1) r j b)
   where
-    go : (t : Bool) → rank (x .number) < rank (r .number) → Refuses (r .number) (firstBrokenOr (pre ++ (r ∷ post)) s) →
-        Refuses (r .number) (cond t (refused (x .number) (x .place)) (firstBrokenOr (pre ++ (r ∷ post)) s))
-    go true l ih = (x .number, x .place, refl, omega arith)
-    go false l ih = ih
+    go : (x r : Rule) (t : Bool) → x .broken ≡ t → rank (x .number) < rank k → In r (x ∷ l) → r .broken ≡ true
+        → (In r l → Refuses k (firstBrokenOr l s))
+        → Refuses k (cond t (refused (x .number) (x .place)) (firstBrokenOr l s))
+    go x r true e q i b ih = (x .number, x .place, refl, q)
+    go x r false e q first b ih = not-both b e
+    go x r false e q (later i) b ih = ih i
+
+-- and whatever stands behind it
+pub behind-refuses : (k : ℕ) (l m : List Rule) (s : State) (r : Rule) → under k l ≡ true → rank (r .number) < rank k
+    → r .broken ≡ true → Refuses k (firstBrokenOr (l ++ (r ∷ m)) s)
+behind-refuses k [] m s r h q b = rw b (r .number, r .place, refl, q)
+behind-refuses k (x ∷ l) m s r h q b =
+    let z : (ltb (rank (x .number)) (rank k) ≡ true) × (under k l ≡ true) = split h in
+    go (x .broken) (ltb-true (rank (x .number)) (rank k) (z .0)) (behind-refuses k l m s r (z .1) q b)
+  where
+    go : (t : Bool) → rank (x .number) < rank k → Refuses k (firstBrokenOr (l ++ (r ∷ m)) s)
+        → Refuses k (cond t (refused (x .number) (x .place)) (firstBrokenOr (l ++ (r ∷ m)) s))
+    go true i ih = (x .number, x .place, refl, i)
+    go false i ih = ih

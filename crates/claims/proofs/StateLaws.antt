@@ -1,4 +1,5 @@
--- What holds of every state that the units lead to: each definition fits its base, each attribute its own.
+-- What holds of every state that the units lead to: the values of each definition read at its base, those of each
+-- attribute at its own.
 use mathlib.Core.Path.{_≡_, refl, sym, ap, _∙_}
 use mathlib.Core.Bool.{Bool, true, false, cond}
 use mathlib.Core.Option.{Option, none, some}
@@ -8,19 +9,24 @@ use native.Mathlib.Omega.{arith}
 use lib.ListN.{length}
 use lib.Dec.{eqb}
 use borrow.Author.Tests.{eqb-true, eq-eqb}
-use Rattle.rules.specs.Types.{Ty, fits}
+use Rattle.rules.specs.Types.{Ty}
 use Rattle.rules.specs.Declarations.{Link, Use, inline, ofDomain, ofStructure, tyOf, Attribute, Def, linkOf}
 use Rattle.rules.specs.Declarations.{attributesOf, attributeAt, isFound, isSort, domain, State, known, lookup}
 use Rattle.rules.specs.Book.{records}
 use Rattle.rules.specs.Judge.{orNoDef, baseOfAttribute, naming, descends}
 use Rattle.rules.specs.All.{All, AnyIs, In, first, later}
 use Rattle.rules.proofs.AllLaws.{all-map, all-append}
-use Rattle.claims.specs.Readings.{proper}
+use Rattle.claims.specs.Readings.{proper, Inside}
 
 -- a member has what all have
 pub in-all : {A : Type 0} (P : A → Type 0) {a : A} {l : List A} → All P l → In a l → P a
 in-all P h first = h .0
 in-all P h (later k) = in-all P (h .1) k
+
+-- and a member of a list is one of every longer list
+pub in-right : {A : Type 0} {a : A} (l : List A) {m : List A} → In a m → In a (l ++ m)
+in-right [] i = i
+in-right (b ∷ l) i = later (in-right l i)
 
 -- ---- a definition is found again by its number
 abbrev pub hasNumber : ℕ → Def → Bool
@@ -30,10 +36,11 @@ hasNumber k d = eqb (d .number) k
 abbrev pub Linked : List Def → Link → List Link → Type 0
 Linked K l bs = (d : Def) × (lookup (hasNumber (l .number)) K ≡ some d) × (linkOf d ≡ l) × (d .bases ≡ bs)
 
--- t fits the first link's type, that type the next one's, and so on; each link's bases are those behind it
+-- the values of t read at the first link's type, those of that type at the next one's, and so on; each link's bases are
+-- those behind it
 abbrev pub Chained : List Def → Ty → List Link → Type 0
 Chained K t [] = Unit
-Chained K t (l ∷ bs) = (fits t (l .type) ≡ true) × Linked K l bs × Chained K (l .type) bs
+Chained K t (l ∷ bs) = Inside t (l .type) × Linked K l bs × Chained K (l .type) bs
 
 -- ---- what is good
 abbrev pub GoodUse : List Def → Use → Type 0
@@ -41,9 +48,10 @@ GoodUse K (inline t) = proper t ≡ true
 GoodUse K (ofDomain l bs) = (proper (l .type) ≡ true) × Linked K l bs × Chained K (l .type) bs
 GoodUse K (ofStructure l bs) = Unit
 
--- an attribute's type over its base's: it fits, or names a domain that is the base's or descends from it
+-- an attribute's type over its base's: its values read there, or it names a domain that is the base's or descends from
+-- it
 abbrev pub Over : Use → Use → Type 0
-Over (inline t) b = fits t (tyOf b) ≡ true
+Over (inline t) b = Inside t (tyOf b)
 Over (ofDomain l bs) b = descends (ofDomain l bs) b ≡ true
 Over (ofStructure l bs) b = Unit
 

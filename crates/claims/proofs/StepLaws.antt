@@ -9,7 +9,7 @@ use native.Mathlib.Omega.{arith}
 use lib.Dec.{eqb}
 use borrow.Author.Tests.{eqb-true}
 use Rattle.rules.specs.Bytes.{same}
-use Rattle.rules.specs.Types.{Ty, structure, Value, string, number, path, legal, reading, fits}
+use Rattle.rules.specs.Types.{Ty, Value, legal, reading}
 use Rattle.rules.specs.Declarations.{Link, Use, inline, ofDomain, ofStructure, tyOf, Attribute, Def, linkOf}
 use Rattle.rules.specs.Declarations.{attributesOf, attributeAt, isFound, State, known}
 use Rattle.rules.specs.Book.{baseNumber}
@@ -17,11 +17,11 @@ use Rattle.rules.specs.Judge.{orNoDef, isAmong, isDomain, baseOfAttribute}
 use Rattle.rules.specs.All.{In}
 use Rattle.rules.proofs.AllLaws.{all-left, any-is, any-lookup, apart}
 use Rattle.rules.proofs.Tests.{never, not-both}
-use Rattle.claims.specs.Readings.{readable}
+use Rattle.claims.specs.Readings.{readable, Inside}
 use Rattle.claims.specs.Steps.{Declared, numbered, firstOf, baseOf, Climbs, DomainHolds, Inherits, near, far}
 use Rattle.claims.specs.Steps.{Nearest, domainIn, Passes, through, straight, Rises, AttributeHolds, EveryReading}
 use Rattle.claims.specs.Steps.{BookedBases}
-use Rattle.claims.proofs.TypeLaws.{fits-reads}
+use Rattle.claims.proofs.TypeLaws.{structure-none}
 use Rattle.claims.proofs.StateLaws.{in-all, hasNumber, Linked, Chained, GoodUse, Over, GoodOwn, firstDef}
 use Rattle.claims.proofs.StateLaws.{GoodDef, KnownDef, Sound, GoodAttribute, OverBase}
 use Rattle.claims.proofs.JudgeLaws.{inherited-use}
@@ -37,17 +37,12 @@ readable-legally b v p = go (reading b v) refl
     go none e = not-both p (rw e)
     go (some x) e = (x, e, rw e at p)
 
-fits-legally : (t b : Ty) → fits t b ≡ true → (v : Value) → legal t v ≡ true → Legally b v
-fits-legally t b f v p = readable-legally b v (fits-reads t b f v p)
+inside-legally : (t b : Ty) → Inside t b → (v : Value) → legal t v ≡ true → Legally b v
+inside-legally t b f v p = readable-legally b v (f v p)
 
 -- the reading is the legal one
 legal-reading : (b : Ty) (v x : Value) → Legally b v → reading b v ≡ some x → legal b x ≡ true
 legal-reading b v x (y, e, p) f = let r : y ≡ x = cc in subst (λ (z : Value). legal b z ≡ true) r p
-
-structure-none : {A : Type 0} (v : Value) → legal structure v ≡ true → A
-structure-none (string s) p = never p
-structure-none (number d v) p = never p
-structure-none (path q) p = never p
 
 -- ---- an attribute among own and inherited ones
 own-first : (n : List ℕ) (l m : List Attribute) (a : Attribute) → attributeAt n l ≡ some a
@@ -73,7 +68,7 @@ module _ (s : State) (sound : Sound s) where
   abbrev K : List Def
   K = known (s .decls)
 
-  known-in : (d : Def) → Declared s d → KnownDef K d
+  pub known-in : (d : Def) → Declared s d → KnownDef K d
   known-in d i = in-all (KnownDef K) (sound .defs) i
 
   first-same : (bs : List Link) → firstOf s bs ≡ firstDef K bs
@@ -83,7 +78,7 @@ module _ (s : State) (sound : Sound s) where
   numbered-known : (k : ℕ) (d : Def) → numbered s k ≡ some d → KnownDef K d
   numbered-known k d e = any-is (KnownDef K) (numbered s k) d (any-lookup (KnownDef K) (hasNumber k) K (sound .defs)) e
 
-  base-known : (bs : List Link) (d : Def) → firstOf s bs ≡ some d → KnownDef K d
+  pub base-known : (bs : List Link) (d : Def) → firstOf s bs ≡ some d → KnownDef K d
   base-known [] d e = apart (sym e)
   base-known (l ∷ bs) d e = numbered-known (l .number) d e
 
@@ -107,13 +102,14 @@ module _ (s : State) (sound : Sound s) where
     good : KnownDef K b
     legal-here : legal (b .type) w ≡ true
 
-  base-fits : (t : Ty) (bs : List Link) → Chained K t bs → (c : Def) → firstOf s bs ≡ some c → fits t (c .type) ≡ true
-  base-fits t [] h c e = apart (sym e)
-  base-fits t (l ∷ bs) h c e = subst (λ (x : Ty). fits t x ≡ true) (sym (linked-type l bs (h .1) c e)) (h .0)
+  base-inside : (t : Ty) (bs : List Link) → Chained K t bs → (c : Def) → firstOf s bs ≡ some c → Inside t (c .type)
+  base-inside t [] h c e = apart (sym e)
+  base-inside t (l ∷ bs) h c e = subst (λ (x : Ty). Inside t x) (sym (linked-type l bs (h .1) c e)) (h .0)
 
   up-legally : (b : Def) (w : Value) → Stands b w → (c : Def) → baseOf s b ≡ some c → Legally (c .type) w
   up-legally b w h c e =
-      fits-legally (b .type) (c .type) (base-fits (b .type) (b .bases) (h .good .good .chained) c e) w (h .legal-here)
+      inside-legally (b .type) (c .type)
+      (base-inside (b .type) (b .bases) (h .good .good .chained) c e) w (h .legal-here)
 
   climb : (d : Def) (v : Value) → Stands d v → {b : Def} {w : Value} → Climbs s d v b w → Stands b w
   climb d v h Climbs.start = h
@@ -228,7 +224,7 @@ module _ (s : State) (sound : Sound s) where
       → Over u (b .use-of) → (v : Value)
       → legal (tyOf u) v ≡ true → Passed a b v
   passed a b (inline t) e g k o v p =
-      let (x, f, q) = fits-legally t (tyOf (b .use-of)) o v p in
+      let (x, f, q) = inside-legally t (tyOf (b .use-of)) o v p in
       (x, straight (ap isDomain e) f, q)
   passed a b (ofDomain l bs) e g k o v p = passed-named a b l bs e g (b .use-of) refl k o v p
   passed a b (ofStructure l bs) e g k o v p = structure-none v p
@@ -241,7 +237,7 @@ module _ (s : State) (sound : Sound s) where
       let z : Stands d v = named-stands u g v p d (ap (domainIn s) (sym e) ∙ f) in
       stands-named (b .use-of) k x c h ((climb d v z r) .legal-here)
   pass-legal a b (inline t) e g k o v x p (straight i f) =
-      legal-reading (tyOf (b .use-of)) v x (fits-legally t (tyOf (b .use-of)) o v p) f
+      legal-reading (tyOf (b .use-of)) v x (inside-legally t (tyOf (b .use-of)) o v p) f
   pass-legal a b (ofDomain l bs) e g k o v x p (straight i f) = not-both (ap isDomain e) i
   pass-legal a b (ofStructure l bs) e g k o v x p (straight i f) = structure-none v p
 
@@ -276,7 +272,7 @@ module _ (s : State) (sound : Sound s) where
   }
 
   -- ---- the book's numbers
-  bases-booked : (t : Ty) (bs : List Link) → Chained K t bs → (l : Link) (ls : List Link) → bs ≡ l ∷ ls →
+  pub bases-booked : (t : Ty) (bs : List Link) → Chained K t bs → (l : Link) (ls : List Link) → bs ≡ l ∷ ls →
       (b : Def) × (firstOf s bs ≡ some b) × (linkOf b ≡ l) × (b .bases ≡ ls)
   bases-booked t [] h l ls e = let z : _≡_ {A = ℕ} 0 1 = cc in absurd (omega arith)
   bases-booked t (m ∷ bs) h l ls e =

@@ -1,10 +1,10 @@
 -- Of one number the first symbol is named: of two rules with one number, the first along the list stands at the unit's
--- name, and the other, if it is broken, behind it.
+-- name or its base, and the other, if it is broken, behind it.
 use mathlib.Core.Path.{_≡_, refl, sym, _∙_}
 use mathlib.Core.Bool.{Bool, true, false, cond, not, _&&_, _||_}
 use mathlib.Core.Option.{Option, none, some}
 use mathlib.Core.List.{List, [], _∷_, _++_}
-use Prim.Native.Nat.{ℕ}
+use Prim.Native.Nat.{ℕ, _≤_}
 use native.Mathlib.Omega.{arith}
 use lib.Dec.{eqb, leb}
 use borrow.Author.Tests.{eq-eqb, leb-true, le-leb}
@@ -14,7 +14,7 @@ use Rattle.rules.specs.Grammar as G
 use Rattle.rules.specs.Grammar.{Reference, WrittenType, Written}
 use Rattle.rules.specs.Units as U
 use Rattle.rules.specs.Declarations.{Attribute, Def, isFound, State}
-use Rattle.rules.specs.Judge.{Rule, rule, refused, firstBrokenOr, firstPlace, doubled, resolved, referenceIn}
+use Rattle.rules.specs.Judge.{Rule, rule, refused, firstBrokenOr, firstPlace, placeOf, doubled, resolved, referenceIn}
 use Rattle.rules.specs.Judge.{extendsRules, classRules, domainTo16, domainRules, attributeTo16, attributeRules}
 use Rattle.rules.specs.Judge.{inheritedAs, memberRules, nextState}
 use Rattle.rules.specs.Check.{Given, judged}
@@ -27,7 +27,7 @@ use Rattle.claims.specs.Ranking.{allRules, NoneBefore}
 use Rattle.claims.proofs.RuleLaws.{not-refused, judged-rules}
 use Rattle.claims.proofs.UnitLaws as W
 use Rattle.claims.proofs.RunLaws.{reached-reads}
-use Rattle.claims.proofs.PlaceLaws.{twice-in}
+use Rattle.claims.proofs.PlaceLaws.{twice-in, written-reference}
 
 -- ---- lists where no broken rule stands before an earlier one of its number
 abbrev notBefore : Rule → Rule → Bool
@@ -73,6 +73,10 @@ doubled-behind : (t : List ℕ) (i : ℕ) (o : Option ℕ) → AnyIs (W.Within t
 doubled-behind t i none h = refl
 doubled-behind t i (some p) h = le-leb i p (h .0)
 
+-- 10 and 11 of a reference that stands from i on
+reference-behind : (i : ℕ) (r : Reference) → i ≤ firstPlace r → (x : Bool) → (not x || leb i (firstPlace r)) ≡ true
+reference-behind i r h x = or-r (not x) (le-leb i (firstPlace r) h)
+
 -- 19 at the place k behind the others
 module _ (t : List ℕ) (s : State) (n : Name) (p : List (List ℕ)) (m : Bool) (at k : ℕ) (b : Bool) where
   abbrev last : List Rule
@@ -84,18 +88,24 @@ module _ (t : List ℕ) (s : State) (n : Name) (p : List (List ℕ)) (m : Bool) 
   abbrev Typed : Option WrittenType → Type 0
   Typed x = AnyIs (W.TypeIn t (n .offset)) x
 
+  abbrev target : Option WrittenType → Option Def
+  target x = resolved s (referenceIn x)
+
   domain-ascending : (r : Option Reference) (o : Option Def) (x : Option WrittenType) → Typed x
-      → ascending (domainRules s n p r (writing x) o ++ last) ≡ true
-  unfolding domainRules domainTo16 extendsRules
-  domain-ascending r o none h = refl
-  domain-ascending r o (some (G.text l none)) h = refl
-  domain-ascending r o (some (G.text l (some y))) h = refl
-  domain-ascending r o (some (G.range x y)) h = refl
-  domain-ascending r o (some G.numeric) h = refl
-  domain-ascending r o (some (G.enum e)) h =
+      → AnyIs (λ y. placeOf r ≤ firstPlace y) (referenceIn x)
+      → ascending (domainRules s n p r (writing x) o (target x) ++ last) ≡ true
+  unfolding domainRules domainTo16
+  domain-ascending r o none h k = refl
+  domain-ascending r o (some (G.text l none)) h k = refl
+  domain-ascending r o (some (G.text l (some y))) h k = refl
+  domain-ascending r o (some (G.numeric none none)) h k = refl
+  domain-ascending r o (some (G.numeric (some x) none)) h k = refl
+  domain-ascending r o (some (G.numeric none (some y))) h k = let q = reference-behind (placeOf r) y k in simp q
+  domain-ascending r o (some (G.numeric (some x) (some y))) h k = let q = reference-behind (placeOf r) y k in simp q
+  domain-ascending r o (some (G.enum e)) h k =
       let q = doubled-nine (twice e []) in
-      let k = doubled-behind t (n .offset) (twice e []) (twice-in t (n .offset) e [] h) in rw q (rw k)
-  domain-ascending r o (some (G.named x)) h = refl
+      let j = doubled-behind t (n .offset) (twice e []) (twice-in t (n .offset) e [] h) in rw q (rw j)
+  domain-ascending r o (some (G.named y)) h k = let q = reference-behind (placeOf r) y k in simp q
 
   attribute-ascending : (c : Def) (o : Option Attribute) (g : Option Def) (x : Option WrittenType) → Typed x →
       ascending (attributeRules s c n p (writing x) o g ++ last) ≡ true
@@ -103,19 +113,29 @@ module _ (t : List ℕ) (s : State) (n : Name) (p : List (List ℕ)) (m : Bool) 
   attribute-ascending c o g none h = refl
   attribute-ascending c o g (some (G.text l none)) h = refl
   attribute-ascending c o g (some (G.text l (some y))) h = refl
-  attribute-ascending c o g (some (G.range x y)) h = refl
-  attribute-ascending c o g (some G.numeric) h = refl
+  attribute-ascending c o g (some (G.numeric none none)) h = refl
+  attribute-ascending c o g (some (G.numeric (some x) none)) h = refl
+  attribute-ascending c o g (some (G.numeric none (some y))) h =
+      let k = reference-behind (n .offset) y (h .1 .0) (not (isFound g)) in rw k
+  attribute-ascending c o g (some (G.numeric (some x) (some y))) h =
+      let k = reference-behind (n .offset) y (h .1 .0) (not (isFound g)) in rw k
   attribute-ascending c o g (some (G.enum e)) h =
       let q = doubled-nine (twice e []) in
       let k = doubled-behind t (n .offset) (twice e []) (twice-in t (n .offset) e [] h) in rw q (rw k)
   attribute-ascending c o g (some (G.named x)) h =
-      let q = le-leb (n .offset) (firstPlace x) (h .0) in
-      let k = or-r (not (not (isFound g))) q in rw k
+      let k = reference-behind (n .offset) x (h .0) (not (isFound g)) in rw k
 
   member-ascending : (x : Option WrittenType) (o : Option Def) → Typed x
       → ascending (memberRules s n p (writing x) o ++ last) ≡ true
   member-ascending x none h = refl
   member-ascending x (some c) h = attribute-ascending c (inheritedAs c n) (resolved s (referenceIn x)) x h
+
+-- a domain's type stands behind its base
+behind-base : (t : List ℕ) (i : ℕ) (r x : Option Reference) → AnyIs (W.ReferenceIn t (W.behindBase i r)) x
+    → AnyIs (λ y. placeOf r ≤ firstPlace y) x
+behind-base t i r none h = tt
+behind-base t i none (some y) h = omega arith
+behind-base t i (some r) (some y) h = h .0
 
 unit-ascending : (t : List ℕ) (g : Given) (s : State) (u : U.Unit) → W.UnitIn t u → ascending (allRules g s u) ≡ true
 unfolding classRules extendsRules
@@ -125,8 +145,11 @@ unit-ascending t g s (U.topic n) h = refl
 unit-ascending t g s (U.class c n p r) h = refl
 unit-ascending t g s (U.domain n p r w) h =
     domain-ascending t s n p (w .mandatory) (w .place) _ _ r (resolved s r) (w .type) (h .2 .1)
+    (behind-base t (n .offset) r (referenceIn (w .type))
+    (written-reference t (W.behindBase (n .offset) r) (w .type) (h .3 .1)))
 unit-ascending t g s (U.attribute n p w) h =
     member-ascending t s n p (w .mandatory) (w .place) _ _ (w .type) (s .open-class) (h .1 .1)
+unit-ascending t g s (U.unit n p r) h = refl
 unit-ascending t g s (U.close n) h = refl
 
 pub first-symbol : (t : List ℕ) (g : Given) (s : State) (u : U.Unit) (n p : ℕ) → Judges t g s u

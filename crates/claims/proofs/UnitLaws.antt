@@ -16,17 +16,19 @@ use Rattle.rules.specs.Symbols.{Fault, Symbol, endOf, name, number, quoted, dot
 use Rattle.rules.specs.Symbols.{isWord, isOneWord}
 use Rattle.rules.specs.Numbers.{digits}
 use Rattle.rules.specs.Enumerations.{Enum, end, elem}
-use Rattle.rules.specs.Readers.{Result, done, refused, Reader, andThen, _>>=_, _>>_, ret, refuse, expect, aName, ifNext}
-use Rattle.rules.specs.Readers.{optional}
+use Rattle.rules.specs.Readers.{Result, done, refused, Reader, andThen, _>>=_, _>>_, ret, refuse, expect, aName}
+use Rattle.rules.specs.Readers.{theMark}
+use Rattle.rules.specs.Readers.{ifNext, optional}
 use Rattle.rules.specs.Grammar as G
 use Rattle.rules.specs.Grammar.{enough, propertiesFrom, properties, Reference, reference, extends, closeFinal, Element}
 use Rattle.rules.specs.Grammar.{deepest, openingBracket, enumeration, elements, element, WrittenType, isLength}
-use Rattle.rules.specs.Grammar.{textLength, textType, rangeType, typeOf, typeOrReference, Written, placeOfNext, written}
+use Rattle.rules.specs.Grammar.{textLength, textType, unitReference, optionalUnit, rangeType, numericType, typeOf}
+use Rattle.rules.specs.Grammar.{typeOrReference, Bounds, Written, placeOfNext, written}
 use Rattle.rules.specs.Units as U
-use Rattle.rules.specs.Units.{Around, in-model, in-topic, isModel, ofDomains, isHead, domains, no-run, a-member}
-use Rattle.rules.specs.Units.{isGiven, classSort, Where, start, afterHeader, over, body, members, Step, step}
-use Rattle.rules.specs.Units.{headerUnit, modelUnit, topicUnit, classUnit, domainUnit, attributeUnit, endUnit, wordStep}
-use Rattle.rules.specs.Units.{bodyEnd, bodyUnit, memberUnit, lastStep, unitAt}
+use Rattle.rules.specs.Units.{Around, in-model, in-topic, isModel, ofDomains, ofUnits, isHead, domains, units, no-run}
+use Rattle.rules.specs.Units.{a-member, isGiven, classSort, Where, start, afterHeader, over, body, members, Step, step}
+use Rattle.rules.specs.Units.{headerUnit, modelUnit, topicUnit, classUnit, domainUnit, unitUnit, attributeUnit, endUnit}
+use Rattle.rules.specs.Units.{wordStep, bodyEnd, bodyUnit, memberUnit, lastStep, unitAt}
 use Rattle.rules.specs.Judge.{firstPlace}
 use Rattle.rules.specs.All.{AnyIs}
 use Rattle.rules.proofs.SymbolLaws.{either, Lies, lies-from, next-lies}
@@ -45,6 +47,7 @@ isClass N.topic = false
 isClass N.class = true
 isClass N.struct = true
 isClass N.domain = false
+isClass N.unit = false
 
 class-sort : (b : Bool) → isClass (classSort b) ≡ true
 class-sort true = refl
@@ -58,7 +61,13 @@ Moves a (some (U.topic n)) b = (a ≡ false) × (b ≡ false)
 Moves a (some (U.class c n p r)) b = (a ≡ false) × (b ≡ true) × (isClass c ≡ true)
 Moves a (some (U.domain n p r w)) b = (a ≡ false) × (b ≡ false)
 Moves a (some (U.attribute n p w)) b = (a ≡ true) × (b ≡ true)
+Moves a (some (U.unit n p r)) b = (a ≡ false) × (b ≡ false)
 Moves a (some (U.close n)) b = b ≡ false
+
+-- from where on a type stands: from the base that is written, or else from the place i
+abbrev pub behindBase : ℕ → Option Reference → ℕ
+behindBase i none = i
+behindBase i (some r) = firstPlace r
 
 module _ (t : List ℕ) where
   -- ---- what has its places within the text, from the place i on
@@ -78,24 +87,28 @@ module _ (t : List ℕ) where
   EnumIn i (end f) = Unit
   EnumIn i (elem n e r) = NameIn i n × EnumIn i e × EnumIn i r
 
+  abbrev pub BoundsIn : ℕ → Bounds → Type 0
+  BoundsIn i q = SymbolIn i (q .first)
+
   abbrev pub TypeIn : ℕ → WrittenType → Type 0
   TypeIn i (G.text m n) = AnyIs (SymbolIn i) n
-  TypeIn i (G.range x y) = SymbolIn i x
-  TypeIn i G.numeric = Unit
+  TypeIn i (G.numeric q r) = AnyIs (BoundsIn i) q × AnyIs (ReferenceIn i) r
   TypeIn i (G.enum e) = EnumIn i e
   TypeIn i (G.named r) = ReferenceIn i r
 
   abbrev pub WrittenIn : ℕ → Written → Type 0
   WrittenIn i w = Within i (w .place) × AnyIs (TypeIn i) (w .type)
 
-  -- what stands behind the name of a domain or an attribute lies from it on
+  -- what stands behind the name of a domain or an attribute lies from it on, and a domain's type from its base on
   abbrev pub UnitIn : U.Unit → Type 0
   UnitIn (U.header v) = SymbolIn 0 v
   UnitIn (U.model n q) = NameIn 0 n
   UnitIn (U.topic n) = NameIn 0 n
   UnitIn (U.class c n p r) = NameIn 0 n × AnyIs (ReferenceIn 0) r
   UnitIn (U.domain n p r w) = NameIn 0 n × AnyIs (ReferenceIn (n .offset)) r × WrittenIn (n .offset) w
+      × WrittenIn (behindBase (n .offset) r) w
   UnitIn (U.attribute n p w) = NameIn 0 n × WrittenIn (n .offset) w
+  UnitIn (U.unit n p r) = NameIn 0 n × AnyIs (ReferenceIn 0) r
   UnitIn (U.close n) = NameIn 0 n
 
   -- ---- readers: from a symbol there they come to what has its places there, and to a symbol there, or
@@ -144,6 +157,14 @@ module _ (t : List ℕ) where
     reads = λ y l. either (Ends _ (SymbolIn _)) (p y) (λ _. ((l .starts, start-in l), behind l)) (λ _. start-in l);
   }
 
+  -- a symbol from its own place on, and what is read from an earlier one
+  from-it : {i : ℕ} {y : Symbol} → Lies i (length t) y → Lies (y .place) (length t) y
+  from-it l = record { starts = omega arith; ends = l .ends; solid = l .solid }
+
+  earlier : {A : Type 0} (P : A → Type 0) {i j : ℕ} → i ≤ j → (m : Result A) → Ends j P m → Ends i P m
+  earlier P e (done a z) h = (h .0, lies-from e (h .1))
+  earlier P e (refused f p) h = h
+
   -- a symbol of which nothing is kept
   skip : {A : Type 0} {i : ℕ} {P : A → Type 0} {r : Reader A} (p : Symbol → Bool)
       → Reads i P r → Reads i P (expect p >> r)
@@ -174,16 +195,71 @@ module _ (t : List ℕ) where
   the-properties l = if-next (isMark "(")
       (skip (isMark "(") (by-text (λ u. propertiesFrom (enough u) l) (properties-from (enough t) l))) (gives _ tt)
 
+  -- behind its first name
+  abbrev behindName : Name → Reader Reference
+  behindName a = ifNext (isMark ".")
+      (theMark "." >> (aName >>= λ b. ifNext (isMark ".") (theMark "." >> (aName >>= λ c. ret (G.inTopic a b c)))
+      (ret (G.inModel a b)))) (ret (G.bare a))
+
+  reference-from : {i : ℕ} {P : Reference → Type 0} (a : Name)
+      → ((r : Reference) → firstPlace r ≡ a .offset → P r) → Reads i P (behindName a)
+  reference-from a h =
+      if-next (isMark ".")
+      (skip (isMark ".") (bind a-name (λ b _. if-next (isMark ".")
+      (skip (isMark ".") (bind a-name (λ c _. gives _ (h _ refl)))) (gives _ (h _ refl))))) (gives _ (h _ refl))
+
   the-reference : {i : ℕ} → Reads i (ReferenceIn i) reference
   unfolding reference
-  the-reference =
-      bind a-name (λ a h. if-next (isMark ".")
-      (skip (isMark ".") (bind a-name
-      (λ b _. if-next (isMark ".") (skip (isMark ".") (bind a-name (λ c _. gives _ h))) (gives _ h)))) (gives _ h))
+  the-reference {i} = bind a-name (λ a h. reference-from a (λ r e. rw e h))
 
   the-base : {i : ℕ} → Reads i (AnyIs (ReferenceIn i)) extends
   unfolding extends
   the-base = option (isWord (ascii "EXTENDS")) (skip (isWord (ascii "EXTENDS")) the-reference)
+
+  -- ---- a base, and from its first symbol on what stands behind it
+  -- what is read, and a symbol from the place on that f gives
+  abbrev EndsAt : {A : Type 0} → (A → ℕ) → (A → Type 0) → Result A → Type 0
+  EndsAt f P (done a z) = P a × Lies (f a) (length t) z
+  EndsAt f P (refused g p) = p ≤ length t
+
+  reference-ends : (i : ℕ) (y : Symbol) → Lies i (length t) y → EndsAt firstPlace (ReferenceIn i) (reference t y)
+  unfolding reference
+  reference-ends i y l =
+      either (λ m. EndsAt firstPlace (ReferenceIn i) (andThen t (andThen t m (λ x. ret (nameOf x))) behindName))
+      (isKind name y)
+      (λ _. go (behindName (nameOf y) t (symbolAt t (endOf y)))
+      (reference-from (nameOf y) (λ r e. e) .reads (symbolAt t (endOf y)) (behind (from-it l)))) (λ _. start-in l)
+    where
+      go : (m : Result Reference) → Ends (y .place) (λ r. firstPlace r ≡ y .place) m
+          → EndsAt firstPlace (ReferenceIn i) m
+      go (done r z) (e, k) =
+          let h = l .starts in let j = start-in l in ((omega arith, omega arith), lies-from (omega arith) k)
+      go (refused g p) k = k
+
+  base-ends : (i : ℕ) (y : Symbol) → Lies i (length t) y
+      → EndsAt (behindBase i) (AnyIs (ReferenceIn i)) (extends t y)
+  unfolding extends
+  base-ends i y l =
+      either (EndsAt (behindBase i) (AnyIs (ReferenceIn i))) (isWord (ascii "EXTENDS") y)
+      (λ _. either (λ (m : Result Symbol). EndsAt (behindBase i) (AnyIs (ReferenceIn i))
+      (andThen t (andThen t m (λ _. reference)) (λ r. ret (some r)))) (isWord (ascii "EXTENDS") y)
+      (λ _. go (reference t (symbolAt t (endOf y))) (reference-ends i (symbolAt t (endOf y)) (behind l)))
+      (λ _. start-in l)) (λ _. (tt, l))
+    where
+      go : (m : Result Reference) → EndsAt firstPlace (ReferenceIn i) m
+          → EndsAt (behindBase i) (AnyIs (ReferenceIn i)) (andThen t m (λ r. ret (some r)))
+      go (done r z) k = k
+      go (refused g p) k = k
+
+  based-on : {A : Type 0} {i : ℕ} {P : A → Type 0} {k : Option Reference → Reader A}
+      → ((r : Option Reference) → AnyIs (ReferenceIn i) r → Reads (behindBase i r) P (k r)) → Reads i P (extends >>= k)
+  based-on {i} {P} {k} f = record { reads = λ y l. go (extends t y) (base-ends i y l) }
+    where
+      go : (m : Result (Option Reference)) → EndsAt (behindBase i) (AnyIs (ReferenceIn i)) m
+          → Ends i P (andThen t m k)
+      go (done none z) (h, l) = f none h .reads z l
+      go (done (some r) z) (h, l) = earlier P (h .0) (k (some r) t z) (f (some r) h .reads z l)
+      go (refused g p) h = h
 
   close-final : {i : ℕ} → Reads i (EnumIn i) closeFinal
   unfolding closeFinal
@@ -227,16 +303,26 @@ module _ (t : List ℕ) where
       bind (passes (isOneWord (ascii "TEXT" ∷ ascii "MTEXT" ∷ [])))
       (λ _ _. bind (option (isMark "*") (skip (isMark "*") the-length)) (λ n h. gives _ h))
 
+  the-measure : {i : ℕ} → Reads i (AnyIs (ReferenceIn i)) optionalUnit
+  unfolding optionalUnit unitReference
+  the-measure =
+      option (isMark "[") (skip (isMark "[") (bind the-reference (λ r h. skip (isMark "]") (gives _ h))))
+
   the-range : {i : ℕ} → Reads i (TypeIn i) rangeType
   unfolding rangeType
   the-range =
-      bind (passes (isKind number)) (λ x h. skip (isKind dots) (bind (passes (isKind number)) (λ y _. gives _ h)))
+      bind (passes (isKind number)) (λ x h. skip (isKind dots)
+      (bind (passes (isKind number)) (λ y _. bind the-measure (λ u k. gives _ (h, k)))))
+
+  the-numeric : {i : ℕ} → Reads i (TypeIn i) numericType
+  unfolding numericType
+  the-numeric = skip (isWord (ascii "NUMERIC")) (bind the-measure (λ u k. gives _ (tt, k)))
 
   the-type : {i : ℕ} → Reads i (TypeIn i) typeOf
   unfolding typeOf
   the-type =
       if-next (isOneWord (ascii "TEXT" ∷ ascii "MTEXT" ∷ [])) the-text
-      (if-next (isWord (ascii "NUMERIC")) (skip (isWord (ascii "NUMERIC")) (gives _ tt))
+      (if-next (isWord (ascii "NUMERIC")) the-numeric
       (if-next (isMark "(") (bind (by-text (λ u. enumeration (enough u) deepest) (the-enumeration (enough t) deepest))
       (λ e h. gives _ h)) the-range))
 
@@ -257,23 +343,36 @@ module _ (t : List ℕ) where
       (bind next-place (λ p k. bind h (λ x j. gives (record { mandatory = false; place = p; type = some x }) (k, j))))
 
   -- ---- units
-  earlier : {A : Type 0} (P : A → Type 0) (i : ℕ) (m : Result A) → Ends i P m → Ends 0 P m
-  earlier P i (done a z) h = (h .0, lies-from (omega arith) (h .1))
-  earlier P i (refused f p) h = h
-
   -- a name, and from it on what stands behind it
   named : {A : Type 0} {P : A → Type 0} {k : Name → Reader A}
       → ((n : Name) → NameIn 0 n → Reads (n .offset) P (k n)) → Reads 0 P (aName >>= k)
   named {P} {k} f =
       record {
         reads = λ y l. either (λ m. Ends 0 P (andThen t (andThen t m (λ x. ret (nameOf x))) k)) (isKind name y)
-            (λ _. earlier P (y .place) (k (nameOf y) t (symbolAt t (endOf y)))
+            (λ _. earlier P (omega arith) (k (nameOf y) t (symbolAt t (endOf y)))
             (f (nameOf y) (l .starts, start-in l) .reads (symbolAt t (endOf y)) (behind (from-it l))))
             (λ _. start-in l);
       }
+
+  -- what is read has its places from two places on
+  from-both : {A : Type 0} {i j : ℕ} {P Q : A → Type 0} {r : Reader A} → i ≤ j → Reads i P r → Reads j Q r
+      → Reads j (λ a. P a × Q a) r
+  from-both {A} {i} {j} {P} {Q} {r} e h g =
+      record { reads = λ y l. go (r t y) (h .reads y (lies-from e l)) (g .reads y l) }
     where
-      from-it : {y : Symbol} → Lies 0 (length t) y → Lies (y .place) (length t) y
-      from-it l = record { starts = omega arith; ends = l .ends; solid = l .solid }
+      go : (m : Result A) → Ends i P m → Ends j Q m → Ends j (λ a. P a × Q a) m
+      go (done a z) k l = ((k .0, l .0), l .1)
+      go (refused f p) k l = k
+
+  -- a domain's type, from its name on and from its base on
+  base-written : (i : ℕ) (r : Option Reference) → AnyIs (ReferenceIn i) r
+      → Reads (behindBase i r) (λ x. WrittenIn i x × WrittenIn (behindBase i r) x) (written (isGiven r) typeOf)
+  base-written i r h =
+      from-both (base-behind r h) (the-written (isGiven r) typeOf the-type) (the-written (isGiven r) typeOf the-type)
+    where
+      base-behind : (r : Option Reference) → AnyIs (ReferenceIn i) r → i ≤ behindBase i r
+      base-behind none h = omega arith
+      base-behind (some q) h = h .0
 
   pub record Read (w : Where) (q : Step) : Type 0 where
     pub places : AnyIs UnitIn (q .unit)
@@ -299,8 +398,14 @@ module _ (t : List ℕ) where
     the-domain : (a : Around) → inClass w ≡ false → Reads 0 (Read w) (domainUnit a)
     unfolding domainUnit
     the-domain a m =
-        named (λ n h. bind (the-properties _) (λ p _. bind the-base (λ r i. skip (isMark "=")
-        (bind (the-written (isGiven r) typeOf the-type) (λ x j. last (isMark ";") _ _ (h, i, j) (m, refl))))))
+        named (λ n h. bind (the-properties _) (λ p _. based-on (λ r i. skip (isMark "=")
+        (bind (base-written (n .offset) r i) (λ x j. last (isMark ";") _ _ (h, i, j .0, j .1) (m, refl))))))
+
+    the-unit-of : (a : Around) → inClass w ≡ false → Reads 0 (Read w) (unitUnit a)
+    unfolding unitUnit
+    the-unit-of a m =
+        bind a-name (λ n h. bind (the-properties _) (λ p _. bind the-base (λ r i.
+        last (isMark ";") _ _ (h, i) (m, refl))))
 
     the-attribute : (a : Around) → inClass w ≡ true → Reads 0 (Read w) (attributeUnit a)
     unfolding attributeUnit
@@ -337,7 +442,9 @@ module _ (t : List ℕ) where
       if-next (λ y. isModel a && isWord (ascii "TOPIC") y) (the-topic w refl)
       (if-next (isOneWord (ascii "CLASS" ∷ ascii "STRUCTURE" ∷ [])) (the-class w a refl)
       (if-next (isWord (ascii "DOMAIN")) (the-word w (ascii "DOMAIN") (body a domains) refl)
-      (if-next (λ y. ofDomains r && isKind name y) (the-domain w a refl) (the-body-end w a))))
+      (if-next (isWord (ascii "UNIT")) (the-word w (ascii "UNIT") (body a units) refl)
+      (if-next (λ y. ofDomains r && isKind name y) (the-domain w a refl)
+      (if-next (λ y. ofUnits r && isKind name y) (the-unit-of w a refl) (the-body-end w a))))))
   the-unit (members a b) =
       let w = members a b in
       if-next (λ y. isHead b && isWord (ascii "ATTRIBUTE") y) (the-word w (ascii "ATTRIBUTE") (members a a-member) refl)

@@ -7,7 +7,7 @@ use mathlib.Core.List.{List, [], _∷_, _++_, map, map-append}
 use Prim.Native.Nat.{ℕ, zero, suc}
 use lib.ListN.{length, length-append, length-map}
 use Rattle.rules.specs.Enumerations.{Enum, end, elem}
-use Rattle.rules.specs.Types.{Ty, text, range, numeric, structure, enum}
+use Rattle.rules.specs.Types.{Ty, text, numeric, structure, enum}
 use Rattle.rules.specs.Declarations as D
 use Rattle.rules.specs.Declarations.{Link, Use, inline, ofDomain, ofStructure, Attribute, Sort, Def, Decl, State}
 use Rattle.rules.specs.Book.{Record, openRecord, innerRecords, elementRecords, typeRecords, useRecords}
@@ -51,8 +51,10 @@ type-unplaced : (t : Ty) → typeRecords (unplacedTy t) ≡ bares (typeRecords t
 unfolding isNamed
 type-unplaced (text true n) = refl
 type-unplaced (text false n) = refl
-type-unplaced (range r) = refl
-type-unplaced numeric = refl
+type-unplaced (numeric none none) = refl
+type-unplaced (numeric none (some u)) = refl
+type-unplaced (numeric (some r) none) = refl
+type-unplaced (numeric (some r) (some u)) = refl
 type-unplaced structure = refl
 type-unplaced (enum e) = rw (open-unplaced e, element-unplaced e)
 
@@ -81,6 +83,7 @@ head-unplaced D.topic d = refl
 head-unplaced D.class d = rw (base-unplaced (d .bases), attributes-unplaced (d .own))
 head-unplaced D.struct d = rw (base-unplaced (d .bases), attributes-unplaced (d .own))
 head-unplaced D.domain d = rw (base-unplaced (d .bases), type-unplaced (d .type))
+head-unplaced D.unit d = rw (base-unplaced (d .bases))
 
 end-unplaced : (x : Sort) → endRecords x ≡ bares (endRecords x)
 unfolding isNamed
@@ -88,6 +91,7 @@ end-unplaced D.topic = refl
 end-unplaced D.class = refl
 end-unplaced D.struct = refl
 end-unplaced D.domain = refl
+end-unplaced D.unit = refl
 
 decl-unplaced : (d : Decl) → declRecords (unplacedDecl d) ≡ bares (declRecords d)
 unfolding isNamed

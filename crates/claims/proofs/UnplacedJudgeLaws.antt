@@ -12,32 +12,34 @@ use Rattle.rules.specs.Names.{Name}
 use Rattle.rules.specs.Symbols.{Symbol}
 use Rattle.rules.specs.Enumerations.{Enum, twice}
 use Rattle.rules.specs.Grammar as G
-use Rattle.rules.specs.Grammar.{Reference, WrittenType, Written}
+use Rattle.rules.specs.Grammar.{Reference, Bounds, WrittenType, Written}
 use Rattle.rules.specs.Units as U
-use Rattle.rules.specs.Units.{isGiven}
 use Rattle.rules.specs.Types as Y
 use Rattle.rules.specs.Types.{Ty}
 use Rattle.rules.specs.Declarations as D
 use Rattle.rules.specs.Declarations.{Link, Use, inline, ofDomain, ofStructure, tyOf, Attribute, Sort, isSort, Def}
-use Rattle.rules.specs.Declarations.{linkOf, attributesOf, attributeAt, isFound, Decl, State, atHand}
+use Rattle.rules.specs.Declarations.{linkOf, numbersOf, measureIn, attributesOf, attributeAt, isFound, Decl, State}
+use Rattle.rules.specs.Declarations.{atHand}
 use Rattle.rules.specs.Book.{records, book}
 use Rattle.rules.specs.Judge.{Rule, Judged, ok, refused, firstBrokenOr, orNoDef, orNoAttribute, placeOf, resolved}
-use Rattle.rules.specs.Judge.{basesOf, lengthIn, mergedInto, meant, domainType, naming, attributeUse, referenceIn}
-use Rattle.rules.specs.Judge.{isNumeric, doubled, elementRule, typeRules, kindRule, declare, newTopic, newClass}
-use Rattle.rules.specs.Judge.{extendsRules, classRules, newDomain, domainTo16, domain17, domainRules, isDomain}
+use Rattle.rules.specs.Judge.{basesOf, lengthIn, rangeIn, mergedInto, meant, domainType, naming, attributeUse}
+use Rattle.rules.specs.Judge.{referenceIn, isNaming, isNumeric, doubled, elementRule, typeRules, kindRule, declare}
+use Rattle.rules.specs.Judge.{newTopic, newClass, extendsRules, classRules, newDomain, domainTo16, domain17, domain22}
+use Rattle.rules.specs.Judge.{domainRules, isDomain}
 use Rattle.rules.specs.Judge.{baseOfAttribute, newAttribute, withAttribute, attributeTo16, isAmong, descends}
-use Rattle.rules.specs.Judge.{attribute17To18, attributeRules, inheritedAs, memberRules, afterMember, openName}
+use Rattle.rules.specs.Judge.{attributeFrom17, attributeRules, inheritedAs, memberRules, afterMember, openName}
 use Rattle.rules.specs.Judge.{endRules, afterClose, rulesOf, nextState, judge}
 use Rattle.rules.specs.Check.{Given, unitPlace, capacity, room, judged}
-use Rattle.claims.specs.Unplaced.{unplacedName, unplacedSymbol, unplacedReference, unplacedEnum, unplacedType}
-use Rattle.claims.specs.Unplaced.{unplacedWritten, unplacedUnit, unplacedTy, unplacedLink, unplacedUse}
+use Rattle.claims.specs.Unplaced.{unplacedName, unplacedSymbol, unplacedReference, unplacedEnum, unplacedBounds}
+use Rattle.claims.specs.Unplaced.{unplacedType, unplacedWritten, unplacedUnit, unplacedTy, unplacedLink}
+use Rattle.claims.specs.Unplaced.{unplacedUse}
 use Rattle.claims.specs.Unplaced.{unplacedAttribute, unplacedDef, unplacedDecl, unplacedState, unplacedRule}
 use Rattle.claims.specs.Unplaced.{unplacedJudged, unplacedPlace, SameStates, SameUnits, Alike, PlacesIdle}
 use Rattle.claims.proofs.UnplacedLaws.{cond-unplaced, found-unplaced, leaf-unplaced, legal-unplaced}
 use Rattle.claims.proofs.UnplacedLaws.{reading-unplaced, merge-unplaced, twice-unplaced, kind-unplaced}
-use Rattle.claims.proofs.UnplacedLaws.{fits-unplaced, ty-unplaced, attribute-unplaced, count-unplaced}
-use Rattle.claims.proofs.UnplacedLaws.{attributes-unplaced, number-unplaced, around-unplaced, hand-unplaced}
-use Rattle.claims.proofs.UnplacedLaws.{resolve-unplaced}
+use Rattle.claims.proofs.UnplacedLaws.{fits-unplaced, units-fit-unplaced, ty-unplaced, attribute-unplaced}
+use Rattle.claims.proofs.UnplacedLaws.{count-unplaced, attributes-unplaced, number-unplaced, around-unplaced}
+use Rattle.claims.proofs.UnplacedLaws.{hand-unplaced, resolve-unplaced}
 use Rattle.claims.proofs.UnplacedBookLaws.{records-unplaced, records-count-unplaced, book-length-unplaced}
 use Rattle.claims.proofs.UnplacedBookLaws.{definitions-unplaced}
 
@@ -66,29 +68,41 @@ bases-unplaced : (o : Option Def) → basesOf (Option·map unplacedDef o) ≡ ma
 bases-unplaced none = refl
 bases-unplaced (some d) = refl
 
+numbers-unplaced : (l : List Link) → numbersOf (map unplacedLink l) ≡ numbersOf l
+numbers-unplaced [] = refl
+numbers-unplaced (l ∷ bs) = rw (numbers-unplaced bs)
+
+measure-unplaced : (o : Option Def) → measureIn (Option·map unplacedDef o) ≡ measureIn o
+measure-unplaced none = refl
+measure-unplaced (some d) = rw (numbers-unplaced (d .bases))
+
 -- ---- types
+range-unplaced : (q : Option Bounds) → rangeIn (Option·map unplacedBounds q) ≡ rangeIn q
+range-unplaced none = refl
+range-unplaced (some q) = refl
+
 length-unplaced : (n : Option Symbol) → lengthIn (Option·map unplacedSymbol n) ≡ lengthIn n
 length-unplaced none = refl
 length-unplaced (some y) = refl
 
 merged-unplaced : (b : Ty) (e : Enum) → mergedInto (unplacedTy b) (unplacedEnum e) ≡ unplacedTy (mergedInto b e)
 merged-unplaced (Y.text m n) e = refl
-merged-unplaced (Y.range r) e = refl
-merged-unplaced Y.numeric e = refl
+merged-unplaced (Y.numeric r u) e = refl
 merged-unplaced Y.structure e = refl
 merged-unplaced (Y.enum b) e = ap Y.enum (merge-unplaced b e)
 
-meant-unplaced : (x : WrittenType) (b : Ty) → meant (unplacedType x) (unplacedTy b) ≡ unplacedTy (meant x b)
-meant-unplaced (G.text m n) b = ap (Y.text m) (length-unplaced n)
-meant-unplaced (G.range x y) b = refl
-meant-unplaced G.numeric b = refl
-meant-unplaced (G.enum e) b = merged-unplaced b e
-meant-unplaced (G.named r) b = refl
+meant-unplaced : (x : WrittenType) (g : Option Def) (b : Ty)
+    → meant (unplacedType x) (Option·map unplacedDef g) (unplacedTy b) ≡ unplacedTy (meant x g b)
+meant-unplaced (G.text m n) g b = ap (Y.text m) (length-unplaced n)
+meant-unplaced (G.numeric q r) g b = rw (range-unplaced q, measure-unplaced g)
+meant-unplaced (G.enum e) g b = merged-unplaced b e
+meant-unplaced (G.named r) g b = refl
 
-domain-type-unplaced : (x : Option WrittenType) (b : Ty)
-    → domainType (Option·map unplacedType x) (unplacedTy b) ≡ unplacedTy (domainType x b)
-domain-type-unplaced none b = refl
-domain-type-unplaced (some x) b = meant-unplaced x b
+domain-type-unplaced : (x : Option WrittenType) (g : Option Def) (b : Ty)
+    → domainType (Option·map unplacedType x) (Option·map unplacedDef g) (unplacedTy b)
+    ≡ unplacedTy (domainType x g b)
+domain-type-unplaced none g b = refl
+domain-type-unplaced (some x) g b = meant-unplaced x g b
 
 naming-unplaced : (d : Def) → naming (unplacedDef d) ≡ unplacedUse (naming d)
 naming-unplaced d = cond-unplaced unplacedUse (isSort D.domain (d .sort)) (ofDomain (linkOf d) (d .bases))
@@ -98,8 +112,7 @@ use-unplaced : (x : Option WrittenType) (g : Option Def) (b : Use) → attribute
     (Option·map unplacedDef g) (unplacedUse b) ≡ unplacedUse (attributeUse x g b)
 use-unplaced none g b = refl
 use-unplaced (some (G.text m n)) g b = rw (length-unplaced n)
-use-unplaced (some (G.range x y)) g b = refl
-use-unplaced (some G.numeric) g b = refl
+use-unplaced (some (G.numeric q r)) g b = rw (range-unplaced q, measure-unplaced g)
 use-unplaced (some (G.enum e)) g b = ap inline (rw (ty-unplaced b) (merged-unplaced (tyOf b) e))
 use-unplaced (some (G.named r)) g b = rw (or-def-unplaced g) (naming-unplaced (orNoDef g))
 
@@ -107,15 +120,21 @@ reference-unplaced : (x : Option WrittenType)
     → referenceIn (Option·map unplacedType x) ≡ Option·map unplacedReference (referenceIn x)
 reference-unplaced none = refl
 reference-unplaced (some (G.text m n)) = refl
-reference-unplaced (some (G.range x y)) = refl
-reference-unplaced (some G.numeric) = refl
+reference-unplaced (some (G.numeric q r)) = refl
 reference-unplaced (some (G.enum e)) = refl
 reference-unplaced (some (G.named r)) = refl
 
+is-naming-unplaced : (x : Option WrittenType) → isNaming (Option·map unplacedType x) ≡ isNaming x
+is-naming-unplaced none = refl
+is-naming-unplaced (some (G.text m n)) = refl
+is-naming-unplaced (some (G.numeric q r)) = refl
+is-naming-unplaced (some (G.enum e)) = refl
+is-naming-unplaced (some (G.named r)) = refl
+
 numeric-unplaced : (t : Ty) → isNumeric (unplacedTy t) ≡ isNumeric t
 numeric-unplaced (Y.text m n) = refl
-numeric-unplaced (Y.range r) = refl
-numeric-unplaced Y.numeric = refl
+numeric-unplaced (Y.numeric none u) = refl
+numeric-unplaced (Y.numeric (some r) u) = refl
 numeric-unplaced Y.structure = refl
 numeric-unplaced (Y.enum e) = refl
 
@@ -127,8 +146,7 @@ element-rule-unplaced : (x : Option WrittenType)
     → elementRule (Option·map unplacedType x) ≡ unplacedRule (elementRule x)
 element-rule-unplaced none = refl
 element-rule-unplaced (some (G.text m n)) = refl
-element-rule-unplaced (some (G.range x y)) = refl
-element-rule-unplaced (some G.numeric) = refl
+element-rule-unplaced (some (G.numeric q r)) = refl
 element-rule-unplaced (some (G.enum e)) = ap doubled (twice-unplaced e []) ∙ doubled-unplaced (twice e [])
 element-rule-unplaced (some (G.named r)) = refl
 
@@ -137,8 +155,8 @@ type-rules-unplaced : (b : Bool) (p : ℕ) (x : Option WrittenType)
 type-rules-unplaced b p none = refl
 type-rules-unplaced b p (some (G.text m none)) = refl
 type-rules-unplaced b p (some (G.text m (some y))) = refl
-type-rules-unplaced b p (some (G.range x y)) = refl
-type-rules-unplaced b p (some G.numeric) = refl
+type-rules-unplaced b p (some (G.numeric none r)) = refl
+type-rules-unplaced b p (some (G.numeric (some q) r)) = refl
 type-rules-unplaced b p (some (G.enum e)) = rw (leaf-unplaced e)
 type-rules-unplaced b p (some (G.named r)) = refl
 
@@ -184,21 +202,39 @@ unfolding extendsRules
 extends-unplaced c r o =
     rw (place-unplaced r, found-unplaced unplacedReference r, found-unplaced unplacedDef o, or-def-unplaced o)
 
-domain-17-unplaced : (w : Written) (o : Option Def)
-    → domain17 (unplacedWritten w) (Option·map unplacedDef o) ≡ unplacedRule (domain17 w o)
-domain-17-unplaced w o =
+domain-17-unplaced : (w : Written) (o g : Option Def)
+    → domain17 (unplacedWritten w) (Option·map unplacedDef o) (Option·map unplacedDef g)
+    ≡ unplacedRule (domain17 w o g)
+domain-17-unplaced w o g =
     let b = orNoDef o .type in
     rw (
       found-unplaced unplacedDef o,
       or-def-unplaced o,
-      domain-type-unplaced (w .type) b,
-      fits-unplaced (domainType (w .type) b) b,
+      domain-type-unplaced (w .type) g b,
+      fits-unplaced (domainType (w .type) g b) b,
     )
 
-attribute-17-to-18-unplaced : (p : ℕ) (b m : Bool) (u v : Use) →
-    attribute17To18 (unplacedPlace p) b m (unplacedUse u) (unplacedUse v) ≡ map unplacedRule (attribute17To18 p b m u v)
-attribute-17-to-18-unplaced p b m u v =
-    rw (descends-unplaced u v, ty-unplaced u, ty-unplaced v, fits-unplaced (tyOf u) (tyOf v))
+domain-22-unplaced : (w : Written) (o g : Option Def)
+    → domain22 (unplacedWritten w) (Option·map unplacedDef o) (Option·map unplacedDef g)
+    ≡ unplacedRule (domain22 w o g)
+domain-22-unplaced w o g =
+    let b = orNoDef o .type in
+    rw (
+      found-unplaced unplacedDef o,
+      or-def-unplaced o,
+      domain-type-unplaced (w .type) g b,
+      units-fit-unplaced (domainType (w .type) g b) b,
+    )
+
+attribute-from-17-unplaced : (p : ℕ) (b m : Bool) (u v : Use) →
+    attributeFrom17 (unplacedPlace p) b m (unplacedUse u) (unplacedUse v) ≡ map unplacedRule (attributeFrom17 p b m u v)
+attribute-from-17-unplaced p b m u v = rw (
+  descends-unplaced u v,
+  ty-unplaced u,
+  ty-unplaced v,
+  fits-unplaced (tyOf u) (tyOf v),
+  units-fit-unplaced (tyOf u) (tyOf v),
+)
 
 -- ---- topics, classes
 new-topic-unplaced : (s : State) (n : Name) → newTopic (unplacedState s) (unplacedName n) ≡ unplacedDef (newTopic s n)
@@ -228,9 +264,10 @@ module _ (s : State) (c : Sort) (n : Name) (p : List (List ℕ)) (o : Option Def
   )
 
 -- ---- domains
-module _ (s : State) (n : Name) (p : List (List ℕ)) (w : Written) (o : Option Def) where
+module _ (s : State) (n : Name) (p : List (List ℕ)) (w : Written) (o g : Option Def) where
   new-domain-unplaced : newDomain (unplacedState s) (unplacedName n) p (unplacedWritten w) (Option·map unplacedDef o)
-      ≡ unplacedDef (newDomain s n p w o)
+      (Option·map unplacedDef g)
+      ≡ unplacedDef (newDomain s n p w o g)
   unfolding newDomain
   new-domain-unplaced =
       rw (
@@ -239,35 +276,45 @@ module _ (s : State) (n : Name) (p : List (List ℕ)) (w : Written) (o : Option 
         records-count-unplaced s,
         bases-unplaced o,
         or-def-unplaced o,
-        domain-type-unplaced (w .type) (orNoDef o .type),
+        domain-type-unplaced (w .type) g (orNoDef o .type),
       )
 
   domain-to-16-unplaced : (r : Option Reference) →
       domainTo16 (unplacedState s) (unplacedName n) p (Option·map unplacedReference r) (unplacedWritten w)
-      (Option·map unplacedDef o) ≡ map unplacedRule (domainTo16 s n p r w o)
+      (Option·map unplacedDef o) (Option·map unplacedDef g) ≡ map unplacedRule (domainTo16 s n p r w o g)
   unfolding domainTo16
   domain-to-16-unplaced r =
-      let t = newDomain s n p w o .type in
+      let t = newDomain s n p w o g .type in
       rw (
         taken-unplaced s n,
         element-rule-unplaced (w .type),
-        extends-unplaced D.domain r o,
+        place-unplaced r,
+        found-unplaced unplacedReference r,
+        reference-unplaced (w .type),
+        place-unplaced (referenceIn (w .type)),
+        found-unplaced unplacedReference (referenceIn (w .type)),
+        is-naming-unplaced (w .type),
         new-domain-unplaced,
         numeric-unplaced t,
         found-unplaced unplacedDef o,
         or-def-unplaced o,
+        found-unplaced unplacedDef g,
+        or-def-unplaced g,
         type-rules-unplaced (isFound o) (w .place) (w .type),
         kind-rule-unplaced (w .place) (isFound o) t (orNoDef o .type),
-        map-append unplacedRule (extendsRules D.domain r o),
         map-append unplacedRule (typeRules (isFound o) (w .place) (w .type)),
       )
 
   domain-rules-unplaced : (r : Option Reference) →
       domainRules (unplacedState s) (unplacedName n) p (Option·map unplacedReference r) (unplacedWritten w)
-      (Option·map unplacedDef o) ≡ map unplacedRule (domainRules s n p r w o)
+      (Option·map unplacedDef o) (Option·map unplacedDef g) ≡ map unplacedRule (domainRules s n p r w o g)
   unfolding domainRules
-  domain-rules-unplaced r =
-      rw (domain-to-16-unplaced r, domain-17-unplaced w o, map-append unplacedRule (domainTo16 s n p r w o))
+  domain-rules-unplaced r = rw (
+    domain-to-16-unplaced r,
+    domain-17-unplaced w o g,
+    domain-22-unplaced w o g,
+    map-append unplacedRule (domainTo16 s n p r w o g),
+  )
 
 -- ---- attributes
 module _ (s : State) (n : Name) (p : List (List ℕ)) (w : Written) (o : Option Attribute) (g : Option Def) where
@@ -304,6 +351,7 @@ module _ (s : State) (n : Name) (p : List (List ℕ)) (w : Written) (o : Option 
         reference-unplaced (w .type),
         place-unplaced (referenceIn (w .type)),
         found-unplaced unplacedReference (referenceIn (w .type)),
+        is-naming-unplaced (w .type),
         found-unplaced unplacedDef g,
         or-def-unplaced g,
         or-attribute-unplaced o,
@@ -326,10 +374,9 @@ module _ (s : State) (n : Name) (p : List (List ℕ)) (w : Written) (o : Option 
         attribute-to-16-unplaced c,
         new-attribute-unplaced,
         found-unplaced unplacedAttribute o,
-        reference-unplaced (w .type),
-        found-unplaced unplacedReference (referenceIn (w .type)),
+        is-naming-unplaced (w .type),
         or-attribute-unplaced o,
-        attribute-17-to-18-unplaced (w .place) (isFound o) (isGiven (referenceIn (w .type)))
+        attribute-from-17-unplaced (w .place) (isFound o) (isNaming (w .type))
             (newAttribute s n p w o g .use-of) (orNoAttribute o .use-of),
         map-append unplacedRule (attributeTo16 s c n p w o g),
       )
@@ -383,8 +430,12 @@ module _ (s : State) where
   rules-unplaced (U.model n q) = refl
   rules-unplaced (U.topic n) = rw (taken-unplaced s n)
   rules-unplaced (U.class c n p r) = rw (resolved-unplaced s r) (class-rules-unplaced s c n p (resolved s r) r)
-  rules-unplaced (U.domain n p r w) = rw (resolved-unplaced s r) (domain-rules-unplaced s n p w (resolved s r) r)
+  rules-unplaced (U.domain n p r w) =
+      let x = referenceIn (w .type) in
+      rw (resolved-unplaced s r, reference-unplaced (w .type), resolved-unplaced s x)
+      (domain-rules-unplaced s n p w (resolved s r) (resolved s x) r)
   rules-unplaced (U.attribute n p w) = member-rules-unplaced s n p w (s .open-class)
+  rules-unplaced (U.unit n p r) = rw (resolved-unplaced s r) (class-rules-unplaced s D.unit n p (resolved s r) r)
   rules-unplaced (U.close n) = end-rules-unplaced n (s .open-class) (s .topic)
 
   pub next-unplaced : (u : U.Unit) → nextState (unplacedState s) (unplacedUnit u) ≡ unplacedState (nextState s u)
@@ -393,9 +444,18 @@ module _ (s : State) where
   next-unplaced (U.topic n) =
       rw (new-topic-unplaced s n, map-append unplacedDecl (s .decls) (D.def (newTopic s n) ∷ []))
   next-unplaced (U.class c n p r) = rw (resolved-unplaced s r, new-class-unplaced s c n p (resolved s r))
-  next-unplaced (U.domain n p r w) = rw (resolved-unplaced s r, new-domain-unplaced s n p w (resolved s r))
-      (declare-unplaced s (D.def (newDomain s n p w (resolved s r))))
+  next-unplaced (U.domain n p r w) =
+      let g = resolved s (referenceIn (w .type)) in
+      rw (
+        resolved-unplaced s r,
+        reference-unplaced (w .type),
+        resolved-unplaced s (referenceIn (w .type)),
+        new-domain-unplaced s n p w (resolved s r) g,
+      )
+      (declare-unplaced s (D.def (newDomain s n p w (resolved s r) g)))
   next-unplaced (U.attribute n p w) = after-member-unplaced s n p w (s .open-class)
+  next-unplaced (U.unit n p r) = rw (resolved-unplaced s r, new-class-unplaced s D.unit n p (resolved s r))
+      (declare-unplaced s (D.def (newClass s D.unit n p (resolved s r))))
   next-unplaced (U.close n) = after-close-unplaced (s .open-class) (s .topic)
 
 -- ---- the judgement
@@ -423,6 +483,7 @@ unit-place-unplaced (U.topic n) = refl
 unit-place-unplaced (U.class c n p r) = refl
 unit-place-unplaced (U.domain n p r w) = refl
 unit-place-unplaced (U.attribute n p w) = refl
+unit-place-unplaced (U.unit n p r) = refl
 unit-place-unplaced (U.close n) = refl
 
 pub judged-unplaced : (g : Given) (s : State) (u : Option U.Unit)
@@ -450,6 +511,7 @@ places-idle = record {
   merging = merge-unplaced;
   doubling = twice-unplaced;
   fitting = fits-unplaced;
+  unit-fitting = units-fit-unplaced;
   references = resolve-unplaced;
   recorded = records-unplaced;
   counted = records-count-unplaced;

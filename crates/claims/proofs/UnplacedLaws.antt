@@ -12,8 +12,8 @@ use Rattle.rules.specs.Enumerations.{beyond, onward, orEmpty, inner, isThere, h
 use Rattle.rules.specs.Enumerations.{fitsIn, enumFits, first, twice}
 use Rattle.rules.specs.Grammar as G
 use Rattle.rules.specs.Grammar.{Reference}
-use Rattle.rules.specs.Types.{Ty, text, range, numeric, structure, enum, kindOf, Value, string, number, path, legal}
-use Rattle.rules.specs.Types.{somePath, reading, fits}
+use Rattle.rules.specs.Types.{Ty, text, numeric, structure, enum, kindOf, unitOf, Value, string, number, path, legal}
+use Rattle.rules.specs.Types.{somePath, reading, fits, unitsFit}
 use Rattle.rules.specs.Declarations as D
 use Rattle.rules.specs.Declarations.{Use, inline, ofDomain, ofStructure, tyOf, Attribute, isSort, Def, attributesOf}
 use Rattle.rules.specs.Declarations.{attributeAt, isFound, nameCount, Decl, State, known, lookup, numberIn, topicName}
@@ -62,11 +62,10 @@ legal-path-unplaced e p = rw (leaf-unplaced e, legal-in-unplaced e p)
 
 pub legal-unplaced : (t : Ty) (v : Value) → legal (unplacedTy t) v ≡ legal t v
 legal-unplaced (text m n) v = refl
-legal-unplaced (range r) v = refl
-legal-unplaced numeric v = refl
+legal-unplaced (numeric r u) v = refl
 legal-unplaced structure v = refl
 legal-unplaced (enum e) (string s) = refl
-legal-unplaced (enum e) (number d v) = refl
+legal-unplaced (enum e) (number d v u) = refl
 legal-unplaced (enum e) (path p) = legal-path-unplaced e p
 
 beyond-unplaced : (b : Enum) → beyond (unplacedEnum b) ≡ beyond b
@@ -85,11 +84,10 @@ read-path-unplaced b (into n p) =
 
 pub reading-unplaced : (b : Ty) (v : Value) → reading (unplacedTy b) v ≡ reading b v
 reading-unplaced (text m n) v = refl
-reading-unplaced (range r) v = refl
-reading-unplaced numeric v = refl
+reading-unplaced (numeric r u) v = refl
 reading-unplaced structure v = refl
 reading-unplaced (enum e) (string s) = refl
-reading-unplaced (enum e) (number d v) = refl
+reading-unplaced (enum e) (number d v u) = refl
 reading-unplaced (enum e) (path p) = ap somePath (read-path-unplaced e p)
 
 -- ---- merging
@@ -151,33 +149,33 @@ enum-fits-unplaced e b = rw (leaf-unplaced e, leaf-unplaced b, fits-in-unplaced 
 
 pub kind-unplaced : (t : Ty) → kindOf (unplacedTy t) ≡ kindOf t
 kind-unplaced (text m n) = refl
-kind-unplaced (range r) = refl
-kind-unplaced numeric = refl
+kind-unplaced (numeric r u) = refl
 kind-unplaced structure = refl
 kind-unplaced (enum e) = refl
 
 pub fits-unplaced : (t b : Ty) → fits (unplacedTy t) (unplacedTy b) ≡ fits t b
 fits-unplaced (text m n) (text k l) = refl
-fits-unplaced (text m n) (range r) = refl
-fits-unplaced (text m n) numeric = refl
+fits-unplaced (text m n) (numeric r u) = refl
 fits-unplaced (text m n) structure = refl
 fits-unplaced (text m n) (enum e) = refl
-fits-unplaced (range r) (text k l) = refl
-fits-unplaced (range r) (range q) = refl
-fits-unplaced (range r) numeric = refl
-fits-unplaced (range r) structure = refl
-fits-unplaced (range r) (enum e) = refl
-fits-unplaced numeric (text k l) = refl
-fits-unplaced numeric (range q) = refl
-fits-unplaced numeric numeric = refl
-fits-unplaced numeric structure = refl
-fits-unplaced numeric (enum e) = refl
+fits-unplaced (numeric r u) (text k l) = refl
+fits-unplaced (numeric r u) (numeric q w) = refl
+fits-unplaced (numeric r u) structure = refl
+fits-unplaced (numeric r u) (enum e) = refl
 fits-unplaced structure b = refl
 fits-unplaced (enum e) (text k l) = refl
-fits-unplaced (enum e) (range q) = refl
-fits-unplaced (enum e) numeric = refl
+fits-unplaced (enum e) (numeric q w) = refl
 fits-unplaced (enum e) structure = refl
 fits-unplaced (enum e) (enum b) = enum-fits-unplaced e b
+
+unit-of-unplaced : (t : Ty) → unitOf (unplacedTy t) ≡ unitOf t
+unit-of-unplaced (text m n) = refl
+unit-of-unplaced (numeric r u) = refl
+unit-of-unplaced structure = refl
+unit-of-unplaced (enum e) = refl
+
+pub units-fit-unplaced : (t b : Ty) → unitsFit (unplacedTy t) (unplacedTy b) ≡ unitsFit t b
+units-fit-unplaced t b = rw (unit-of-unplaced t, unit-of-unplaced b)
 
 pub ty-unplaced : (u : Use) → tyOf (unplacedUse u) ≡ unplacedTy (tyOf u)
 ty-unplaced (inline t) = refl

@@ -6,7 +6,7 @@ use mathlib.Core.Option.{none, some}
 use mathlib.Core.List.{List, []}
 use Prim.Native.Nat.{ℕ}
 use Rattle.rules.specs.Enumerations.{Enum, twice}
-use Rattle.rules.specs.Types.{Ty, text, range, numeric, structure, enum, fits}
+use Rattle.rules.specs.Types.{Ty, text, numeric, structure, enum, fits}
 use Rattle.rules.specs.Units.{Where}
 use Rattle.rules.specs.Declarations.{tyOf, Attribute, Def, attributesOf, State}
 use Rattle.rules.specs.Judge.{mergedInto}
@@ -18,8 +18,7 @@ use Rattle.claims.specs.Reached.{Reaches}
 
 abbrev pub distinctIn : Ty → Bool
 distinctIn (text m n) = true
-distinctIn (range r) = true
-distinctIn numeric = true
+distinctIn (numeric r u) = true
 distinctIn (enum e) = distinct e
 distinctIn structure = true
 

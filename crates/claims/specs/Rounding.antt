@@ -3,14 +3,14 @@
 use mathlib.Core.Path.{_≡_}
 use mathlib.Core.Logic.{_↔_}
 use mathlib.Core.Bool.{true, false}
-use mathlib.Core.Option.{some}
+use mathlib.Core.Option.{none, some}
 use mathlib.Core.List.{[], _∷_}
 use Prim.Native.Nat.{ℕ, suc, _+_, _-_, _/_, _^_, _≤_, _<_}
 use lib.IntN.{ℤ, pos, negsuc, negℤ, _+ℤ_, _*ℤ_}
 use lib.Signed.{shrZ, quotZ, _≤ℤ_}
 use Rattle.rules.specs.Numbers as N
 use Rattle.rules.specs.Numbers.{rounded, readNumber}
-use Rattle.rules.specs.Types.{Ty, range, Value, number, reading, fits}
+use Rattle.rules.specs.Types.{Ty, numeric, Value, number, reading, fits}
 use Rattle.claims.specs.Readings.{readable, through, reads}
 
 -- ---- v / m rounds to w: w is the greatest whole number that is at most a half above it
@@ -41,7 +41,7 @@ OtherRoundings = Elsewhere shrZ × Elsewhere awayFromZero × Elsewhere towardsZe
 
 -- ---- two steps are not one: 0.45 of 0.45..7.00 over 0.5..7.0 over 1..7
 abbrev pub ranged : ℕ → ℕ → ℕ → Ty
-ranged d l h = range (record { decimals = d; low = pos l; high = pos h })
+ranged d l h = numeric (some (record { decimals = d; low = pos l; high = pos h })) none
 
 abbrev pub near : Ty
 near = ranged 1 5 70
@@ -50,9 +50,9 @@ abbrev pub far : Ty
 far = ranged 0 1 7
 
 pub record NotStraight (t : Ty) (v : Value) : Type 0 where
-  pub by-steps : (through (near ∷ far ∷ []) v ≡ some (number 0 (pos 1))) × (reads (near ∷ far ∷ []) v ≡ true)
-  pub at-once : (reading far v ≡ some (number 0 (pos 0))) × (readable far v ≡ false)
+  pub by-steps : (through (near ∷ far ∷ []) v ≡ some (number 0 (pos 1) none)) × (reads (near ∷ far ∷ []) v ≡ true)
+  pub at-once : (reading far v ≡ some (number 0 (pos 0) none)) × (readable far v ≡ false)
   pub judged : (fits t near ≡ true) × (fits near far ≡ true) × (fits t far ≡ false)
 
 abbrev pub TwoSteps : Type 0
-TwoSteps = NotStraight (ranged 2 45 700) (number 2 (pos 45))
+TwoSteps = NotStraight (ranged 2 45 700) (number 2 (pos 45) none)

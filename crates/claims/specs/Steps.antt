@@ -8,10 +8,10 @@ use mathlib.Core.List.{List, [], _∷_, _++_}
 use Prim.Native.Nat.{ℕ}
 use lib.ListN.{length}
 use lib.Dec.{eqb}
-use Rattle.rules.specs.All.{In}
-use Rattle.rules.specs.Types.{Value, legal, reading}
+use Rattle.rules.specs.All.{AnyIs, In}
+use Rattle.rules.specs.Types.{Measure, unitFits, Ty, unitOf, Value, legal, reading}
 use Rattle.rules.specs.Declarations.{Link, Use, inline, ofDomain, ofStructure, tyOf, Attribute, Def, def, State, known}
-use Rattle.rules.specs.Declarations.{lookup, attributeAt}
+use Rattle.rules.specs.Declarations.{lookup, attributeAt, unit, isSort, measureOf}
 use Rattle.rules.specs.Book.{Record, baseNumber, records, declRecords, attributeRecords}
 use Rattle.rules.specs.Judge.{isDomain}
 
@@ -26,7 +26,7 @@ abbrev pub firstOf : State → List Link → Option Def
 firstOf s [] = none
 firstOf s (l ∷ bs) = numbered s (l .number)
 
--- what a domain, class or structure extends: the definition with the record number that EXTENDS resolved
+-- what a domain, class, structure or unit extends: the definition with the record number that EXTENDS resolved
 -- to where it was judged
 abbrev pub baseOf : State → Def → Option Def
 baseOf s d = firstOf s (d .bases)
@@ -113,3 +113,20 @@ pub record RecordNumbers (s : State) : Type 0 where
   pub definition : (d : Def) → Declared s d → StandsAt s (d .number) (declRecords (def d))
   pub attribute : (c : Def) → Declared s c → (a : Attribute) → In a (c .own)
       → StandsAt s (a .number) (attributeRecords a)
+
+-- ---- units of numbers: the one of a type, if it has one, is a declared unit's
+abbrev pub Measured : State → Ty → Type 0
+Measured s t =
+    AnyIs (λ (u : Measure). (d : Def) × Declared s d × (isSort unit (d .sort) ≡ true) × (measureOf d ≡ u)) (unitOf t)
+
+-- from a unit up along what it extends
+pub data Descends (s : State) (d : Def) : Def → Type 0 where
+  itself : Descends s d d
+  up : {b : Def} → Descends s d b → (c : Def) → baseOf s b ≡ some c → Descends s d c
+
+-- and one may stand where another is asked for exactly if it is that one or descends from it
+pub record UnitsDeclared (s : State) : Type 0 where
+  pub domains : (d : Def) → Declared s d → Measured s (d .type)
+  pub attributes : (c : Def) → Declared s c → (a : Attribute) → In a (c .own) → Measured s (tyOf (a .use-of))
+  pub descent : (d e : Def) → Declared s d → Declared s e
+      → (unitFits (some (measureOf d)) (some (measureOf e)) ≡ true) ↔ Descends s d e

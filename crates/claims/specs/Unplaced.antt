@@ -10,9 +10,9 @@ use lib.ListN.{length}
 use Rattle.rules.specs.Names.{Name}
 use Rattle.rules.specs.Symbols.{Symbol, symbol}
 use Rattle.rules.specs.Enumerations.{Enum, end, elem, merge, twice}
-use Rattle.rules.specs.Types.{Ty, text, range, numeric, structure, enum, Value, legal, reading, fits}
+use Rattle.rules.specs.Types.{Ty, text, numeric, structure, enum, Value, legal, reading, fits, unitsFit}
 use Rattle.rules.specs.Grammar as G
-use Rattle.rules.specs.Grammar.{Reference, WrittenType, Written}
+use Rattle.rules.specs.Grammar.{Reference, Bounds, WrittenType, Written}
 use Rattle.rules.specs.Units as U
 use Rattle.rules.specs.Units.{Strings}
 use Rattle.rules.specs.Declarations as D
@@ -44,10 +44,12 @@ abbrev pub unplacedEnum : Enum → Enum
 unplacedEnum (end f) = end f
 unplacedEnum (elem n i r) = elem (unplacedName n) (unplacedEnum i) (unplacedEnum r)
 
+abbrev pub unplacedBounds : Bounds → Bounds
+unplacedBounds q = record { first = unplacedSymbol (q .first); second = unplacedSymbol (q .second) }
+
 abbrev pub unplacedType : WrittenType → WrittenType
 unplacedType (G.text m n) = G.text m (Option·map unplacedSymbol n)
-unplacedType (G.range x y) = G.range (unplacedSymbol x) (unplacedSymbol y)
-unplacedType G.numeric = G.numeric
+unplacedType (G.numeric q r) = G.numeric (Option·map unplacedBounds q) (Option·map unplacedReference r)
 unplacedType (G.enum e) = G.enum (unplacedEnum e)
 unplacedType (G.named r) = G.named (unplacedReference r)
 
@@ -65,13 +67,13 @@ unplacedUnit (U.topic n) = U.topic (unplacedName n)
 unplacedUnit (U.class c n p r) = U.class c (unplacedName n) p (Option·map unplacedReference r)
 unplacedUnit (U.domain n p r w) = U.domain (unplacedName n) p (Option·map unplacedReference r) (unplacedWritten w)
 unplacedUnit (U.attribute n p w) = U.attribute (unplacedName n) p (unplacedWritten w)
+unplacedUnit (U.unit n p r) = U.unit (unplacedName n) p (Option·map unplacedReference r)
 unplacedUnit (U.close n) = U.close (unplacedName n)
 
 -- ---- as it is declared
 abbrev pub unplacedTy : Ty → Ty
 unplacedTy (text m n) = text m n
-unplacedTy (range r) = range r
-unplacedTy numeric = numeric
+unplacedTy (numeric r u) = numeric r u
 unplacedTy structure = structure
 unplacedTy (enum e) = enum (unplacedEnum e)
 
@@ -160,12 +162,13 @@ Alike (refused n p) (refused m q) = n ≡ m
 
 -- ---- the claims
 pub record PlacesIdle : Type 0 where
-  -- types: legal values, readings, merging, elements that stand twice, and 17
+  -- types: legal values, readings, merging, elements that stand twice, 17, and 22
   pub values : (t : Ty) (v : Value) → legal (unplacedTy t) v ≡ legal t v
   pub readings : (b : Ty) (v : Value) → reading (unplacedTy b) v ≡ reading b v
   pub merging : (b x : Enum) → merge (unplacedEnum b) (unplacedEnum x) ≡ unplacedEnum (merge b x)
   pub doubling : (e : Enum) (l : List (List ℕ)) → twice (unplacedEnum e) l ≡ Option·map unplacedPlace (twice e l)
   pub fitting : (t b : Ty) → fits (unplacedTy t) (unplacedTy b) ≡ fits t b
+  pub unit-fitting : (t b : Ty) → unitsFit (unplacedTy t) (unplacedTy b) ≡ unitsFit t b
   -- names
   pub references : (s : State) (r : Reference)
       → resolve (unplacedState s) (unplacedReference r) ≡ Option·map unplacedDef (resolve s r)

@@ -1,4 +1,4 @@
--- Heads of classes and structures.
+-- Heads of classes, structures and units.
 use mathlib.Core.Path.{_≡_, refl, sym, ap, _∙_, subst}
 use mathlib.Core.Bool.{Bool, true, false, cond, _&&_, _||_}
 use mathlib.Core.Option.{Option, none, some}
@@ -6,18 +6,20 @@ use mathlib.Core.List.{List, [], _∷_, _++_, append-nil}
 use Prim.Native.Nat.{ℕ, _+_, _*_, _≤_, _<_}
 use native.Mathlib.Omega.{arith}
 use lib.ListN.{length}
-use borrow.Author.Tests.{lt-ltb}
+use borrow.Author.Tests.{ne-eqb, lt-ltb}
 use Rattle.state.proofs.SharedLaws.{extends-positive}
 use Rattle.rules.specs.Names as R
 use Rattle.rules.specs.Grammar as G
 use Rattle.rules.specs.Units as U
+use Rattle.rules.specs.Declarations as D
 use Rattle.rules.specs.Declarations.{Attribute, Def, Sort, State, sortNumber, isFound, atHand, known, attributesOf}
-use Rattle.rules.specs.Declarations.{nameCount}
-use Rattle.rules.specs.Book.{bytes, flags, baseNumber, headRecords, book}
+use Rattle.rules.specs.Declarations.{nameCount, def}
+use Rattle.rules.specs.Book.{bytes, flags, baseNumber, headRecords, declRecords, book}
 use Rattle.rules.specs.Judge as J
 use Rattle.rules.specs.Units.{classSort}
 use Rattle.rules.specs.Judge.{Rule, ok, refused, rule, firstBrokenOr, judge, hasTwice, isAbstract, isFinal, orNoDef}
-use Rattle.rules.specs.Judge.{basesOf, resolved, extendsRules, classRules, newClass, opened, nextState}
+use Rattle.rules.specs.Judge.{basesOf, resolved, extendsRules, classRules, newClass, declare, opened, nextState}
+use Rattle.rules.specs.Check.{unitPlace, lent, room}
 use Rattle.ground.specs.Parts.{splice}
 use Rattle.ground.specs.declared.Name.{Name}
 use Rattle.book.specs.Forms.{headForm}
@@ -25,16 +27,18 @@ use Rattle.book.specs.Sizes.{headSize}
 use Rattle.enumerations.specs.Standing.{InText}
 use Rattle.names.specs.declared.NewDefinition.{NewDefinition}
 use Rattle.names.specs.Index.{entry, row, definitionWidth, Rows}
+use Rattle.names.specs.Chains.{Chains}
 use Rattle.names.specs.References.{bytesOf, Inside}
 use Rattle.names.specs.Rows.{definitionRow, Narrow}
 use Rattle.members.specs.Members.{most}
 use Rattle.members.specs.Held.{heading, Held, Opened, InHand, attributesIn}
-use Rattle.members.proofs.HeldLaws.{agree-def, row-written}
-use Rattle.members.proofs.StateLaws.{book-opened}
+use Rattle.members.proofs.HeldLaws.{Agree, agree-def, row-written}
+use Rattle.members.proofs.StateLaws.{book-opened, book-declared}
 use Rattle.readers.specs.Reads.{nameCut}
-use Rattle.units.specs.declared.ClassHead.{ClassHead}
-use Rattle.units.specs.declared.Unit.the-variants.{Class}
-use Rattle.wellformed.specs.Fairness.{FairState}
+use Rattle.units.specs.declared.Head.{Head}
+use Rattle.units.specs.declared.Unit.the-variants.{Class, Measure}
+use Rattle.units.specs.Steps.{headOf}
+use Rattle.wellformed.specs.Fairness.{FairState, FairUnit, MayStand}
 use Rattle.wellformed.proofs.KeepLaws.{judge-fair}
 use Rattle.ground.specs.declared.Ruling.{Ruling}
 use Rattle.ground.specs.Rulings.{rulingOf, judgedBy}
@@ -43,12 +47,13 @@ use Rattle.state.specs.declared.State as code
 use Rattle.state.specs.declared.Extension.{Extension}
 use Rattle.state.specs.declared.Judged as code-judged
 use Rattle.state.specs.declared.Judged.the-variants.{Fine, Refused}
-use Rattle.state.specs.Keeping.{Keeps, OpenIs, JudgedAs, Comes, verdict, Small}
-use Rattle.state.specs.Next.{openedBy}
-use Rattle.state.proofs.KeepLaws.{Written, written-splice, none-open, book-grown, records-opened, keeps-opened}
-use Rattle.state.proofs.JudgeLaws.{home-number, judged-refused, judged-over, judged-fine}
-use Rattle.state.proofs.RowLaws.{Tells, open-row}
-use Rattle.classes.specs.Classes.{kindOf, headOf, classDefinition, classBytes, ClassRuled}
+use Rattle.state.specs.Keeping.{Keeps, OpenIs, Grows, JudgedAs, Comes, verdict, Small}
+use Rattle.state.specs.Next.{openedBy, declaredBy}
+use Rattle.state.proofs.KeepLaws.{Written, written-splice, book-grown, records-opened, records-declared}
+use Rattle.state.proofs.KeepLaws.{keeps-opened, keeps-declared}
+use Rattle.state.proofs.JudgeLaws.{home-number, room-over, room-within}
+use Rattle.state.proofs.RowLaws.{Tells, open-row, def-row}
+use Rattle.classes.specs.Classes.{kindOf, classDefinition, classBytes, ClassRuled, Heads, HeadRuled}
 use Rattle.book.specs.Places.{Stands}
 use Rattle.book.proofs.StandLaws.{stands-new}
 
@@ -62,39 +67,42 @@ taken-by t s n m v e h q =
 pub le-zero : (n : ℕ) → n ≤ 0 → n ≡ 0
 le-zero n h = omega arith
 
+pub not-zero : (n : ℕ) → 0 < n → ¬ (n ≡ 0)
+not-zero n h e = omega arith
+
 broken-on : (r : Ruling) (i j : J.Judged) → 0 < r .number → judgedBy r i ≡ judgedBy r j
 broken-on r i j h = rw (lt-ltb 0 (r .number) h)
 
 whole-on : (r : Ruling) (i : J.Judged) → r .number ≡ 0 → judgedBy r i ≡ i
 whole-on r i h = rw (h)
 
-module _ (s : State) (k : Bool) (n : R.Name) (p : List (List ℕ)) (b : Option G.Reference) where
+module _ (s : State) (c : Sort) (n : R.Name) (p : List (List ℕ)) (b : Option G.Reference) where
   abbrev mixed : Bool
   mixed = hasTwice p || (isAbstract p && isFinal p)
 
   abbrev among : List Rule
-  among = extendsRules (classSort k) b (resolved s b)
+  among = extendsRules c b (resolved s b)
 
   pub ruled-taken : (r : Extension) → r .ruling .number ≡ 9 → r .ruling .place ≡ n .offset
-      → isFound (atHand s (n .bytes)) ≡ true → ClassRuled s k n p b r
+      → isFound (atHand s (n .bytes)) ≡ true → ClassRuled s c n p b r
   unfolding classRules
   ruled-taken r er ep e = record { ruling = λ x. rw (e, er, ep); base = λ z. absurd (omega arith) }
 
   module _ (free : isFound (atHand s (n .bytes)) ≡ false) where
     rest : (x : State) (u : Ruling) → u ≡ rulingOf among → firstBrokenOr
-        (classRules s (classSort k) n p b (resolved s b)) x ≡ judgedBy u (cond mixed (refused 13 (n .offset)) (ok x))
+        (classRules s c n p b (resolved s b)) x ≡ judgedBy u (cond mixed (refused 13 (n .offset)) (ok x))
     unfolding classRules
     rest x u e = rw (free, e)
-        (first-broken-by among (rule 13 (n .offset) mixed ∷ []) x (extends-positive (classSort k) b (resolved s b)))
+        (first-broken-by among (rule 13 (n .offset) mixed ∷ []) x (extends-positive c b (resolved s b)))
 
-    pub ruled-extends : (r : Extension) → r .ruling ≡ rulingOf among → 0 < r .ruling .number → ClassRuled s k n p b r
+    pub ruled-extends : (r : Extension) → r .ruling ≡ rulingOf among → 0 < r .ruling .number → ClassRuled s c n p b r
     ruled-extends r e h = record {
       ruling = λ x. rest x (r .ruling) e ∙ broken-on (r .ruling) (cond mixed (refused 13 (n .offset)) (ok x)) (ok x) h;
       base = λ z. absurd (omega arith);
     }
 
     pub ruled-mixed : (u : Ruling) → u ≡ rulingOf among → u .number ≡ 0 → true ≡ mixed → (r : Extension)
-        → r .ruling .number ≡ 13 → r .ruling .place ≡ n .offset → ClassRuled s k n p b r
+        → r .ruling .number ≡ 13 → r .ruling .place ≡ n .offset → ClassRuled s c n p b r
     ruled-mixed u e z m r er ep = record {
       ruling = λ x. rest x u e ∙ whole-on u (cond mixed (refused 13 (n .offset)) (ok x)) z
           ∙ ap (λ (v : Bool). cond v (refused 13 (n .offset)) (ok x)) (sym m) ∙ rw (er, ep);
@@ -102,7 +110,7 @@ module _ (s : State) (k : Bool) (n : R.Name) (p : List (List ℕ)) (b : Option G
     }
 
     pub ruled-fine : (r : Extension) → r .ruling ≡ rulingOf among → r .ruling .number ≡ 0 → false ≡ mixed
-        → entry (known (s .decls)) (r .base) ≡ resolved s b → ClassRuled s k n p b r
+        → entry (known (s .decls)) (r .base) ≡ resolved s b → ClassRuled s c n p b r
     ruled-fine r e z m f = record {
       ruling = λ x. rest x (r .ruling) e
           ∙ ap (λ (v : Bool). judgedBy (r .ruling) (cond v (refused 13 (n .offset)) (ok x))) (sym m);
@@ -110,30 +118,30 @@ module _ (s : State) (k : Bool) (n : R.Name) (p : List (List ℕ)) (b : Option G
     }
 
 -- ---- the record and the row
--- the row of a class of the sort m and the flags f
-abbrev rowOf : code.State → ClassHead → ℕ → ℕ → ℕ → NewDefinition
-rowOf st h base m f = record {
+-- the row with the flags f
+abbrev rowOf : code.State → Head → ℕ → ℕ → NewDefinition
+rowOf st h base f = record {
   name = h .name;
   home = st .context .home;
   number = st .extent .records;
-  sort = m;
+  sort = h .sort;
   flags = f;
   place = st .extent .used;
   base = base;
   first = st .listing .total;
 }
 
-pub class-row : (x : List ℕ) (st : code.State) (h : ClassHead) (base m f : ℕ) → m ≡ sortNumber
-    (classSort (h .structure)) → f ≡ flags (h .properties .«is_abstract») (h .properties .«is_final») false false
-    → splice x ((st .listing .count + 1) * definitionWidth) (definitionRow (rowOf st h base m f))
+pub class-row : (x : List ℕ) (st : code.State) (h : Head) (base f : ℕ)
+    → f ≡ flags (h .properties .«is_abstract») (h .properties .«is_final») false false
+    → splice x ((st .listing .count + 1) * definitionWidth) (definitionRow (rowOf st h base f))
     ≡ splice x ((st .listing .count + 1) * definitionWidth) (definitionRow (classDefinition st h base))
-class-row x st h base m f em ef = rw (em, ef)
+class-row x st h base f ef = rw ef
 
 -- its numbers fit their 16 bits
-pub class-narrow : (st : code.State) (h : ClassHead) (base m f n : ℕ) → h .name .offset + h .name .len ≤ 65535
-    → st .extent .used + headSize ≤ n → n ≤ 65535 → Small st → base ≤ st .listing .count → m < 3 → f < 256
-    → Narrow (rowOf st h base m f)
-class-narrow st h base m f n i w wn a wb wm wf =
+pub class-narrow : (st : code.State) (h : Head) (base f n : ℕ) → h .name .offset + h .name .len ≤ 65535
+    → st .extent .used + headSize ≤ n → n ≤ 65535 → Small st → base ≤ st .listing .count → h .sort ≤ 4 → f < 256
+    → Narrow (rowOf st h base f)
+class-narrow st h base f n i w wn a wb wm wf =
     let e = a .fewer in
     let o = a .home in
     let r = a .rows in
@@ -149,21 +157,41 @@ class-narrow st h base m f n i w wn a wb wm wf =
       first = omega arith;
     }
 
-pub class-record : (o : List ℕ) (u : ℕ) (h : ClassHead) (d : Option Def) (k f g : ℕ) (v : List ℕ)
-    → v ≡ headForm k (h .name .offset) (h .name .len) f g → k ≡ kindOf (classSort (h .structure))
+pub class-record : (o : List ℕ) (u : ℕ) (h : Head) (d : Option Def) (k f g : ℕ) (v : List ℕ)
+    → v ≡ headForm k (h .name .offset) (h .name .len) f g → k ≡ kindOf (h .sort)
     → f ≡ flags (h .properties .«is_abstract») (h .properties .«is_final») false false
     → g ≡ baseNumber (basesOf d) → splice o u v ≡ splice o u (classBytes h d)
 class-record o u h d k f g v ev ek ef eg = rw (ev, ek, ef, eg)
 
-head-bytes : (x : Sort) (k : Bool) (c : Def) → x ≡ classSort k → c .own ≡ []
-    → bytes (headRecords x c) ≡ headForm (kindOf (classSort k)) (c .name .offset) (length (c .name .bytes))
-    (flags (c .abstract) (c .final) false (c .mandatory)) (baseNumber (c .bases))
-head-bytes x true c e w = rw (e, w)
-head-bytes x false c e w = rw (e, w)
+pub kind-class : (k : ℕ) → k ≡ 1 → 4 ≡ kindOf k
+kind-class k e = rw e
 
-heading-is : (x : Sort) (k : Bool) (c : Def) → x ≡ classSort k → c .own ≡ [] → heading x c ≡ headRecords x c
-heading-is x true c e w = rw (e, w)
-heading-is x false c e w = rw (e, w)
+pub kind-structure : (k : ℕ) → k ≡ 2 → 5 ≡ kindOf k
+kind-structure k e = rw e
+
+pub kind-unit : (k : ℕ) → ¬ (k ≡ 1) → ¬ (k ≡ 2) → 18 ≡ kindOf k
+kind-unit k e f = rw (ne-eqb k 1 e, ne-eqb k 2 f)
+
+pub sort-small : (c : Sort) → sortNumber c ≤ 4
+sort-small D.topic = omega arith
+sort-small D.class = omega arith
+sort-small D.struct = omega arith
+sort-small D.domain = omega arith
+sort-small D.unit = omega arith
+
+-- what is first written of the sort c is one record
+pub record Formed (c : Sort) : Type 0 where
+  pub one : (d : Def) → d .own ≡ []
+      → bytes (headRecords c d) ≡ headForm (kindOf (sortNumber c)) (d .name .offset) (length (d .name .bytes))
+      (flags (d .abstract) (d .final) false (d .mandatory)) (baseNumber (d .bases))
+  pub heads : (d : Def) → d .own ≡ [] → heading c d ≡ headRecords c d
+
+class-formed : (k : Bool) → Formed (classSort k)
+class-formed true = record { one = λ d w. rw w; heads = λ d w. rw w }
+class-formed false = record { one = λ d w. rw w; heads = λ d w. rw w }
+
+unit-formed : Formed D.unit
+unit-formed = record { one = λ d w. refl; heads = λ d w. refl }
 
 -- the base of a class has few attributes
 few-base : (t b : List ℕ) (ks : List Def) (ms : List Attribute) (x : List ℕ) (count : ℕ) (y : List ℕ) (total : ℕ) → Held
@@ -171,28 +199,25 @@ few-base : (t b : List ℕ) (ks : List Def) (ms : List Attribute) (x : List ℕ)
 few-base t b ks ms x count y total h p none e = omega arith
 few-base t b ks ms x count y total h p (some d) e = h .def-rows p d e .owns .few
 
-module _ (t : List ℕ) (s : State) (st : code.State) (o x z y hs : List ℕ) (K : Keeps t s st o x z y hs) (k : Bool)
-    (n : R.Name) (p : List (List ℕ)) (b : Option G.Reference) (h : ClassHead) (eh : h ≡ headOf k n p b)
-    (it : InText t n) (c : s .open-class ≡ none)
-    (base : ℕ) (wb : base ≤ st .listing .count) (eb : entry (known (s .decls)) base ≡ resolved s b) where
+module _ (t : List ℕ) (s : State) (st : code.State) (o x z y hs : List ℕ) (K : Keeps t s st o x z y hs)
+    (c : Sort) (form : Formed c) (n : R.Name) (p : List (List ℕ)) (b : Option G.Reference) (h : Head)
+    (eh : h ≡ headOf c n p b) (it : InText t n) (base : ℕ) (wb : base ≤ st .listing .count)
+    (eb : entry (known (s .decls)) base ≡ resolved s b) where
   abbrev new : Def
-  new = newClass s (classSort k) n p (resolved s b)
-
-  name-is : h .name ≡ nameCut n
-  name-is = ap (λ (u : ClassHead). u .name) eh
+  new = newClass s c n p (resolved s b)
 
   flags-are : flags (h .properties .«is_abstract») (h .properties .«is_final») false false
       ≡ flags (isAbstract p) (isFinal p) false false
-  flags-are = ap (λ (u : ClassHead). flags (u .properties .«is_abstract») (u .properties .«is_final») false false) eh
+  flags-are = ap (λ (u : Head). flags (u .properties .«is_abstract») (u .properties .«is_final») false false) eh
 
   tells : Tells t (known (s .decls)) (attributesIn s) (st .listing .count + 1) new (classDefinition st h base)
   unfolding newClass
   tells = record {
     in-text = it;
-    named = name-is;
+    named = ap (λ (u : Head). u .name) eh;
     home = home-number t s st o x z y hs K;
     number = K .numbered;
-    sort = ap (λ (u : ClassHead). sortNumber (classSort (u .structure))) eh;
+    sort = ap (λ (u : Head). u .sort) eh;
     flagged = flags-are;
     before = omega arith;
     bases = ap basesOf eb;
@@ -203,38 +228,80 @@ module _ (t : List ℕ) (s : State) (st : code.State) (o x z y hs : List ℕ) (K
         (K .held) base (resolved s b) eb;
   }
 
-  class-bytes : classBytes h (entry (known (s .decls)) base) ≡ bytes (headRecords (classSort k) new)
+  class-bytes : classBytes h (entry (known (s .decls)) base) ≡ bytes (headRecords c new)
   unfolding newClass
   class-bytes =
-      ap (classBytes h) eb ∙ ap (λ (u : ClassHead). classBytes u (resolved s b)) eh
-      ∙ sym (head-bytes (classSort k) k new refl refl)
+      ap (classBytes h) eb ∙ ap (λ (u : Head). classBytes u (resolved s b)) eh ∙ sym (form .one new refl)
 
-  pub class-opened : (i : ℕ) (st' : code.State) → st' ≡ openedBy st i → i ≤ most → (hs' : List ℕ)
+  -- what is written
+  module _ (o' : List ℕ) (eo : o' ≡ splice o (st .extent .used) (classBytes h (entry (known (s .decls)) base)))
+      (w : st .extent .used + headSize ≤ length o) (x' : List ℕ)
+      (ex : x' ≡ splice x ((st .listing .count + 1) * definitionWidth) (definitionRow (classDefinition st h base)))
+      (wx : Rows x (st .listing .count + 2)) where
+    book-is : Written (book s) (bytes (headRecords c new)) o'
+    book-is =
+        subst (λ (a : List ℕ). Written (book s) a o') class-bytes (rw eo (written-splice (book s)
+        (classBytes h (entry (known (s .decls)) base)) o (st .extent .used) (K .used) (K .written) w))
+
+    row-is : row definitionWidth x' (st .listing .count + 1) ≡ definitionRow (classDefinition st h base)
+    row-is = rw ex (row-written definitionWidth x (definitionRow (classDefinition st h base))
+        (st .listing .count + 1) refl (omega arith))
+
+    rows-agree : Agree definitionWidth x x' (st .listing .count)
+    rows-agree = rw ex (agree-def x (definitionRow (classDefinition st h base)) (st .listing .count) (omega arith))
+
+  stands-as : (b' : List ℕ) → b' ≡ book s ++ bytes (headRecords c new)
+      → Stands b' (st .extent .used) (heading c new)
+  unfolding newClass
+  stands-as b' e =
+      rw (form .heads new refl, e, K .used, ← append-nil (bytes (headRecords c new)))
+      (stands-new (book s) (headRecords c new) [] refl)
+
+module _ (t : List ℕ) (s : State) (st : code.State) (o x z y hs : List ℕ) (K : Keeps t s st o x z y hs) (n : R.Name)
+    (p : List (List ℕ)) (b : Option G.Reference) (h : Head) (it : InText t n) (c : s .open-class ≡ none)
+    (base : ℕ) (wb : base ≤ st .listing .count) (eb : entry (known (s .decls)) base ≡ resolved s b)
+    (o' : List ℕ) (eo : o' ≡ splice o (st .extent .used) (classBytes h (entry (known (s .decls)) base)))
+    (w : st .extent .used + headSize ≤ length o) (x' : List ℕ)
+    (ex : x' ≡ splice x ((st .listing .count + 1) * definitionWidth) (definitionRow (classDefinition st h base)))
+    (wx : Rows x (st .listing .count + 2)) (y' : List ℕ) (ey : y' ≡ y) where
+  pub class-opened : (k : Bool) → h ≡ headOf (classSort k) n p b → (i : ℕ) (st' : code.State) → st' ≡ openedBy st i
+      → i ≤ most → (hs' : List ℕ)
       → ((d : Def) → d .own ≡ [] → d .inherited ≡ attributesOf (orNoDef (entry (known (s .decls)) base))
       → Opened (attributesIn s) hs' i d)
-      → (o' : List ℕ) → o' ≡ splice o (st .extent .used) (classBytes h (entry (known (s .decls)) base))
-      → st .extent .used + headSize ≤ length o
-      → (x' : List ℕ) → x' ≡ splice x ((st .listing .count + 1) * definitionWidth)
-      (definitionRow (classDefinition st h base)) → Rows x (st .listing .count + 2)
-      → (y' : List ℕ) → y' ≡ y → (z' : List ℕ) → z' ≡ z → FairState t (opened s new)
-      → Keeps t (opened s new) (openedBy st (st' .context .«in_hand»)) o' x' z' y' hs'
+      → (z' : List ℕ) → z' ≡ z → FairState t (opened s (newClass s (classSort k) n p (resolved s b)))
+      → Keeps t (opened s (newClass s (classSort k) n p (resolved s b))) (openedBy st (st' .context .«in_hand»))
+      o' x' z' y' hs'
   unfolding newClass
-  class-opened i st' es wi hs' op o' eo w x' ex wx y' ey z' ez fair =
-      let wr : Written (book s) (bytes (headRecords (classSort k) new)) o' =
-      subst (λ (a : List ℕ). Written (book s) a o') class-bytes (rw eo (written-splice (book s)
-      (classBytes h (entry (known (s .decls)) base)) o (st .extent .used) (K .used) (K .written) w)) in
-      let bk : book (opened s new) ≡ book s ++ bytes (headRecords (classSort k) new) = book-opened s new c in
-      let sd : Stands (book (opened s new)) (st .extent .used) (heading (classSort k) new) =
-      rw (heading-is (classSort k) k new refl refl, bk, K .used, ← append-nil (bytes (headRecords (classSort k) new)))
-      (stands-new (book s) (headRecords (classSort k) new) []) in
-      let dr = open-row t (book (opened s new)) (known (s .decls)) (attributesIn s) (st .listing .count + 1) new
-      (classDefinition st h base) tells sd in
-      let rw' : row definitionWidth x' (st .listing .count + 1)
-      ≡ definitionRow (classDefinition st h base) = rw ex (row-written definitionWidth x
-      (definitionRow (classDefinition st h base)) (st .listing .count + 1) refl (omega arith)) in
-      rw (es, ey, ez) (keeps-opened t s st o x z y hs K new k o' x' hs' i c refl refl wr
-      (rw ex (agree-def x (definitionRow (classDefinition st h base)) (st .listing .count) (omega arith)))
-      (rw rw' dr) wi (op new refl (ap (λ (u : Option Def). attributesOf (orNoDef u)) (sym eb))) fair)
+  class-opened k eh i st' es wi hs' op z' ez fair =
+      let d : Def = newClass s (classSort k) n p (resolved s b) in
+      let f = class-formed k in
+      let dr = open-row t (book (opened s d)) (known (s .decls)) (attributesIn s) (st .listing .count + 1) d
+      (classDefinition st h base) (tells t s st o x z y hs K (classSort k) f n p b h eh it base wb eb)
+      (stands-as t s st o x z y hs K (classSort k) f n p b h eh it base wb eb (book (opened s d))
+      (book-opened s d c)) in
+      rw (es, ey, ez) (keeps-opened t s st o x z y hs K d k o' x' hs' i c refl refl
+      (book-is t s st o x z y hs K (classSort k) f n p b h eh it base wb eb o' eo w x' ex wx)
+      (rows-agree t s st o x z y hs K (classSort k) f n p b h eh it base wb eb o' eo w x' ex wx)
+      (rw (row-is t s st o x z y hs K (classSort k) f n p b h eh it base wb eb o' eo w x' ex wx) dr) wi
+      (op d refl (ap (λ (u : Option Def). attributesOf (orNoDef u)) (sym eb))) fair)
+
+  pub unit-declared : h ≡ headOf D.unit n p b → (z' : List ℕ)
+      → ((d : Def) → bytesOf t (h .name) ≡ d .name .bytes → Chains (known (s .decls) ++ (d ∷ [])) z')
+      → FairState t (declare s (def (newClass s D.unit n p (resolved s b))))
+      → Keeps t (declare s (def (newClass s D.unit n p (resolved s b)))) (declaredBy st headSize 1 0) o' x' z' y' hs
+  unfolding newClass
+  unit-declared eh z' ch fair =
+      let d : Def = newClass s D.unit n p (resolved s b) in
+      let f = unit-formed in
+      let dr = def-row t (book (declare s (def d))) (known (s .decls)) (attributesIn s) (st .listing .count + 1) d
+      (classDefinition st h base) (tells t s st o x z y hs K D.unit f n p b h eh it base wb eb)
+      (stands-as t s st o x z y hs K D.unit f n p b h eh it base wb eb (book (declare s (def d)))
+      (book-declared s (declare s (def d)) (def d) c refl refl)) in
+      let named : bytesOf t (h .name) ≡ n .bytes = ap (λ (u : Head). bytesOf t (u .name)) eh ∙ it .there in
+      rw ey (keeps-declared t s st o x z y hs K d o' x' z' headSize 1 0 c refl refl refl refl
+      (book-is t s st o x z y hs K D.unit f n p b h eh it base wb eb o' eo w x' ex wx)
+      (rows-agree t s st o x z y hs K D.unit f n p b h eh it base wb eb o' eo w x' ex wx)
+      (rw (row-is t s st o x z y hs K D.unit f n p b h eh it base wb eb o' eo w x' ex wx) dr) (ch d named) fair)
 
 pub in-hand : (t : List ℕ) (s : State) (st : code.State) (o x z y hs : List ℕ) → Keeps t s st o x z y hs → s .open-class
     ≡ none → InHand (attributesIn s) hs (st .context .«in_hand») (entry (known (s .decls)) (st .context .held))
@@ -243,69 +310,114 @@ in-hand t s st o x z y hs K c = let i : OpenIs t s st x hs none = subst (OpenIs 
 pub opened-self : (st st' : code.State) (i : ℕ) → st' ≡ openedBy st i → st' ≡ openedBy st (st' .context .«in_hand»)
 opened-self st st' i e = e ∙ ap (openedBy st) (sym (ap (λ (u : code.State). u .context .«in_hand») e))
 
--- a class or a structure is told by its sort
-same-sort : (k j : Bool) → classSort k ≡ classSort j → k ≡ j
-same-sort true true e = refl
-same-sort true false e = let z : _≡_ {A = ℕ} 0 1 = cc in absurd (omega arith)
-same-sort false true e = let z : _≡_ {A = ℕ} 0 1 = cc in absurd (omega arith)
-same-sort false false e = refl
+-- ---- 9 to 13 and 19
+module _ (s : State) (c : Sort) (n : R.Name) (p : List (List ℕ)) (b : Option G.Reference) (v : U.Unit)
+    (H : Heads s c n p b v) (o : List ℕ) (m : length o ≤ 65535) (used : ℕ) (eu : used ≡ length (book s))
+    (r : Extension) (u : ClassRuled s c n p b r) where
+  judged-as : judge s v ≡ judgedBy (r .ruling) (ok (nextState s v))
+  unfolding judge
+  judged-as = ap (λ (l : List Rule). firstBrokenOr l (nextState s v)) (H .rules) ∙ u .ruling (nextState s v)
+
+  pub head-broken : 0 < r .ruling .number → HeadRuled s b v o r
+  head-broken h = record {
+    ruling =
+        ap (room (lent (length o)) (unitPlace v)) judged-as ∙ rw (lt-ltb 0 (r .ruling .number) h);
+    fine = λ z. absurd (omega arith);
+    base = λ z. absurd (omega arith);
+  }
+
+  module _ (z : r .ruling .number ≡ 0) where
+    none-broken : judge s v ≡ ok (nextState s v)
+    none-broken = judged-as ∙ whole-on (r .ruling) (ok (nextState s v)) z
+
+    pub head-over : length o < used + headSize → (r' : Extension) → r' .ruling .number ≡ 19
+        → r' .ruling .place ≡ n .offset → HeadRuled s b v o r'
+    head-over w r' en ep =
+        let g = H .grows in
+        record {
+          ruling =
+              ap (room (lent (length o)) (unitPlace v)) none-broken
+              ∙ room-over (length o) (unitPlace v) (nextState s v) m (omega arith)
+              ∙ rw (en, ep) (ap (refused 19) (H .place));
+          fine = λ z. absurd (omega arith);
+          base = λ z. absurd (omega arith);
+        }
+
+    pub head-fine : used + headSize ≤ length o → HeadRuled s b v o r
+    head-fine w =
+        let g = H .grows in
+        record {
+          ruling =
+              ap (room (lent (length o)) (unitPlace v)) none-broken
+              ∙ room-within (length o) (unitPlace v) (nextState s v) m (omega arith)
+              ∙ sym (whole-on (r .ruling) (ok (nextState s v)) z);
+          fine = λ i. none-broken;
+          base = u .base;
+        }
+
+-- ---- the units
+module _ (s : State) (n : R.Name) (p : List (List ℕ)) (b : Option G.Reference) (c : s .open-class ≡ none) where
+  pub class-heads : (k : Bool) → Heads s (classSort k) n p b (U.class (classSort k) n p b)
+  unfolding newClass
+  class-heads k =
+      let d : Def = newClass s (classSort k) n p (resolved s b) in
+      record {
+        rules = refl;
+        place = refl;
+        grows =
+            book-grown s (opened s d) (headRecords (classSort k) d) (records-opened s d c)
+            ∙ ap (λ (i : List ℕ). length (book s) + length i) (class-formed k .one d refl);
+      }
+
+  pub unit-heads : Heads s D.unit n p b (U.unit n p b)
+  unfolding newClass
+  unit-heads =
+      let d : Def = newClass s D.unit n p (resolved s b) in
+      record {
+        rules = refl;
+        place = refl;
+        grows = book-grown s (declare s (def d)) (declRecords (def d)) (records-declared s (def d) c);
+      }
+
+module _ (t : List ℕ) (s : State) (n : R.Name) (p : List (List ℕ)) (b : Option G.Reference) (head : Head)
+    (rs : List ℕ) where
+  pub class-is : (k : Bool) → Comes t s (U.class (classSort k) n p b) (Class head) rs
+      → head ≡ headOf (classSort k) n p b
+  class-is k c = let (j, e, f) = c .is in cc
+
+  pub unit-is : Comes t s (U.unit n p b) (Measure head) rs → head ≡ headOf D.unit n p b
+  unit-is c = let e = c .is in cc
+
+  module _ (c : Sort) (e : head ≡ headOf c n p b) where
+    pub head-inside : InText t n → Inside t (head .name)
+    head-inside h = rw e (h .fits)
+
+    pub head-sort : head .sort ≤ 4
+    head-sort = rw e (sort-small c)
 
 -- ---- the answer
-module _ (t : List ℕ) (s : State) (k : Bool) (n : R.Name) (p : List (List ℕ)) (b : Option G.Reference) (st : code.State)
-    (o x z y hs rs : List ℕ) (head : ClassHead) (K : Keeps t s st o x z y hs)
-    (c : Comes t s (U.class (classSort k) n p b) (Class head) rs) where
-  pub class-is : head ≡ headOf k n p b
-  class-is =
-      let (j, e, f) = c .is in
-      let g : head ≡ headOf j n p b = cc in
-      g ∙ ap (λ (i : Bool). headOf i n p b) (sym (same-sort k j e))
+module _ (t : List ℕ) (s : State) (b : Option G.Reference) (v : U.Unit) (o : List ℕ) (r : Extension)
+    (u : HeadRuled s b v o r) where
+  pub answer-fair : r .ruling .number ≡ 0 → FairUnit t v → MayStand s v → FairState t s → FairState t (nextState s v)
+  answer-fair z f m k = judge-fair t s (nextState s v) v f m k (u .fine z)
 
-  pub class-open : s .open-class ≡ none
-  class-open = none-open s (c .stands)
+  module _ (st : code.State) (a : code-judged.Judged) (o' x' z' y' hs' : List ℕ) where
+    answer : (j : J.Judged) → judgedBy (r .ruling) (ok (nextState s v)) ≡ j → JudgedAs t j st a o' x' z' y' hs'
+        → JudgedAs t (verdict s v o) st a o' x' z' y' hs'
+    answer j e h = subst (λ (i : J.Judged). JudgedAs t i st a o' x' z' y' hs') (sym (u .ruling ∙ e)) h
 
-  pub class-inside : Inside t (head .name)
-  class-inside = let e : head .name ≡ nameCut n = ap (λ (u : ClassHead). u .name) class-is in rw e (c .fair .0 .fits)
+    pub answer-broken : 0 < r .ruling .number → a ≡ Refused (r .ruling .number) (r .ruling .place)
+        → JudgedAs t (verdict s v o) st a o' x' z' y' hs'
+    answer-broken h ea =
+        answer (refused (r .ruling .number) (r .ruling .place)) (rw (lt-ltb 0 (r .ruling .number) h)) ea
 
-  module _ (r : Extension) (u : ClassRuled s k n p b r) where
-    pub class-broken : (a : code-judged.Judged) (o' x' z' y' hs' : List ℕ) → 0 < r .ruling .number
-        → a ≡ Refused (r .ruling .number) (r .ruling .place)
-        → JudgedAs t (verdict s (U.class (classSort k) n p b) o) st a o' x' z' y' hs'
-    unfolding judge
-    class-broken a o' x' z' y' hs' h ea =
-        let j : judge s (U.class (classSort k) n p b) ≡ refused (r .ruling .number) (r .ruling .place) =
-        u .ruling (nextState s (U.class (classSort k) n p b)) ∙ rw (lt-ltb 0 (r .ruling .number) h) in
-        judged-refused t s (U.class (classSort k) n p b) o st a o' x' z' y' hs'
-        (r .ruling .number) (r .ruling .place) j ea
+    pub answer-fine : r .ruling .number ≡ 0 → (st₁ st₂ : code.State) → a ≡ Fine st₁ → st₁ ≡ st₂
+        → Keeps t (nextState s v) st₂ o' x' z' y' hs' → Grows st st₂ → JudgedAs t (verdict s v o) st a o' x' z' y' hs'
+    answer-fine z st₁ st₂ ea es k g =
+        answer (ok (nextState s v)) (whole-on (r .ruling) (ok (nextState s v)) z) (st₂, ea ∙ ap Fine es, k, g)
 
-    module _ (h : r .ruling .number ≡ 0) (m : length o ≤ 65535) where
-      class-judged : judge s (U.class (classSort k) n p b) ≡ ok (nextState s (U.class (classSort k) n p b))
-      unfolding judge
-      class-judged =
-          u .ruling (nextState s (U.class (classSort k) n p b))
-          ∙ whole-on (r .ruling) (ok (nextState s (U.class (classSort k) n p b))) h
+pub class-grows : (st : code.State) (i : ℕ) → Grows st (openedBy st i)
+class-grows st i = record { by-one = omega arith; layout-stays = refl }
 
-      pub class-fair : FairState t (nextState s (U.class (classSort k) n p b))
-      class-fair = judge-fair t s (nextState s (U.class (classSort k) n p b)) (U.class (classSort k) n p b) (c .fair)
-          (c .stands) (K .fair) class-judged
-
-      pub class-over : (a : code-judged.Judged) (o' x' z' y' hs' : List ℕ) → length o < st .extent .used + headSize
-          → a ≡ Refused 19 (head .name .offset)
-          → JudgedAs t (verdict s (U.class (classSort k) n p b) o) st a o' x' z' y' hs'
-      unfolding newClass
-      class-over a o' x' z' y' hs' w ea =
-          let d : Def = newClass s (classSort k) n p (resolved s b) in
-          let l : length (book (opened s d)) ≡ length (book s) + length (bytes (headRecords (classSort k) d)) =
-          book-grown s (opened s d) (headRecords (classSort k) d) (records-opened s d class-open) in
-          let l' : length (bytes (headRecords (classSort k) d))
-          ≡ headSize = ap length (head-bytes (classSort k) k d refl refl) in
-          let us = K .used in
-          judged-over t s (U.class (classSort k) n p b) o st a o' x' z' y' hs' (opened s d) class-judged m (omega arith)
-          (ea ∙ ap (λ (q : ClassHead). Refused 19 (q .name .offset)) class-is)
-
-      pub class-fine : (a : code-judged.Judged) (o' x' z' y' hs' : List ℕ) (st' : code.State) (i : ℕ)
-          → st .extent .used + headSize ≤ length o → a ≡ Fine st' → st' ≡ openedBy st i
-          → Keeps t (nextState s (U.class (classSort k) n p b)) (openedBy st i) o' x' z' y' hs'
-          → JudgedAs t (verdict s (U.class (classSort k) n p b) o) st a o' x' z' y' hs'
-      class-fine a o' x' z' y' hs' st' i w ea es g = judged-fine t s (U.class (classSort k) n p b) o st a o' x' z' y'
-          hs' (nextState s (U.class (classSort k) n p b)) st' class-judged m (rw es w) ea (rw es g)
-          (rw es (record { by-one = omega arith; layout-stays = refl }))
+pub unit-grows : (st : code.State) → Grows st (declaredBy st headSize 1 0)
+unit-grows st = record { by-one = omega arith; layout-stays = refl }

@@ -1,4 +1,4 @@
-// Judging the heads of classes and structures.
+// Judging the heads of classes and structures, and units.
 use ground::Ruling;
 use members::Held;
 use names::NewDefinition;
@@ -6,7 +6,7 @@ use state::Extension;
 use state::Judged;
 use state::State;
 use state::refused;
-use units::ClassHead;
+use units::Head;
 ghost use mathlib.Core.Path.{_≡_};
 ghost use mathlib.Core.Bool.{Bool, false};
 ghost use mathlib.Core.Option.{Option, none};
@@ -17,7 +17,7 @@ ghost use Rattle.rules.specs.Names as R;
 ghost use Rattle.rules.specs.Grammar as G;
 ghost use Rattle.rules.specs.Units as U;
 ghost use Rattle.rules.specs.Declarations as D;
-ghost use Rattle.rules.specs.Declarations.{Def, attributesOf, known, sortNumber};
+ghost use Rattle.rules.specs.Declarations.{Def, Sort, attributesOf, known};
 ghost use Rattle.rules.specs.Units.{classSort};
 ghost use Rattle.rules.specs.Judge.{orNoDef, resolved, nextState};
 ghost use Rattle.rules.specs.All.{AnyIs};
@@ -29,35 +29,37 @@ ghost use Rattle.names.specs.References.{Inside};
 ghost use Rattle.names.specs.Rows.{definitionRow};
 ghost use Rattle.members.specs.Members.{most, Hand};
 ghost use Rattle.members.specs.Held.{Opened, attributesIn};
-ghost use Rattle.parts.specs.Forms.{extendsOf};
-ghost use Rattle.units.specs.declared.Unit.the-variants.{Class as V·Class};
+ghost use Rattle.parts.specs.Forms.{optionalOf};
+ghost use Rattle.units.specs.declared.Unit.the-variants.{Class as V·Class, Measure as V·Measure};
+ghost use Rattle.units.specs.Steps.{headOf};
 ghost use Rattle.wellformed.specs.Fairness.{FairReference, FairState};
 ghost use Rattle.state.specs.Parts.{indexIn, rowsIn, chainsIn, Ample};
 ghost use Rattle.state.specs.Keeping.{Kept, Answered, Comes, verdict, Small};
-ghost use Rattle.state.specs.Next.{openedBy};
-ghost use Rattle.classes.specs.Classes.{kindOf, headOf, classDefinition, classBytes, ClassRuled};
+ghost use Rattle.state.specs.Next.{openedBy, declaredBy};
+ghost use Rattle.classes.specs.Classes.{kindOf, classDefinition, classBytes, ClassRuled, Heads, HeadRuled};
 
-fn class_sort(structure: bool) -> usize
-    ensures { λ r. ⌜ (r ≡ sortNumber (classSort structure)) × (r < 3) ⌝ }
+// The kind of its record, by the number of its sort.
+fn class_kind(sort: usize) -> u8
+    ensures { λ r. ⌜ r ≡ kindOf sort ⌝ }
 {
-    if structure { 2 } else { 1 }
-}
-
-fn class_kind(structure: bool) -> u8
-    ensures { λ r. ⌜ r ≡ kindOf (classSort structure) ⌝ }
-{
-    if structure { 5 } else { 4 }
+    if sort == units::CLASS {
+        return 4;
+    }
+    if sort == units::STRUCTURE {
+        return 5;
+    }
+    18
 }
 
 // 9 to 13, and the position of the base.
-fn class_ruling(text: &[u8], work: &[u16], st: State, head: ClassHead) -> Extension
+fn class_ruling(text: &[u8], work: &[u16], st: State, head: Head) -> Extension
     requires { ⌜ Inside (now text) (head .name) × Inside (now text) (st .context .model)
         × Ample st (length (now work)) ⌝ }
-    requires { ⌜ ((b : Option G.Reference) × (head .base ≡ extendsOf b) × AnyIs (FairReference (now text)) b) ⌝ }
+    requires { ⌜ ((b : Option G.Reference) × (head .base ≡ optionalOf b) × AnyIs (FairReference (now text)) b) ⌝ }
     ensures { λ r. ⌜ (r .base ≤ st .listing .count)
-        × ((s : D.State) (k : Bool) (n : R.Name) (p : List (List ℕ)) (b : Option G.Reference) (o hs : List ℕ)
-        → Kept (now (text .entry)) s st o (now (work .entry)) hs → head ≡ headOf k n p b
-        → InText (now (text .entry)) n → AnyIs (FairReference (now (text .entry))) b → ClassRuled s k n p b r) ⌝ }
+        × ((s : D.State) (c : Sort) (n : R.Name) (p : List (List ℕ)) (b : Option G.Reference) (o hs : List ℕ)
+        → Kept (now (text .entry)) s st o (now (work .entry)) hs → head ≡ headOf c n p b
+        → InText (now (text .entry)) n → AnyIs (FairReference (now (text .entry))) b → ClassRuled s c n p b r) ⌝ }
 {
     let name = head.name;
     let place = name.offset;
@@ -73,7 +75,7 @@ fn class_ruling(text: &[u8], work: &[u16], st: State, head: ClassHead) -> Extens
         };
     }
     let base = head.base;
-    let e = state::extends(text, work, st, class_sort(head.structure), base);
+    let e = state::extends(text, work, st, head.sort, base);
     let ruling = e.ruling;
     if 0 < ruling.number {
         return e;
@@ -88,11 +90,11 @@ fn class_ruling(text: &[u8], work: &[u16], st: State, head: ClassHead) -> Extens
     e
 }
 
-// The record and the row of a class over the base at a position.
-fn write_class(book: &mut [u8], work: &mut [u16], st: State, head: ClassHead, base: usize)
+// The record and the row of a class or unit over the base at a position.
+fn write_class(book: &mut [u8], work: &mut [u16], st: State, head: Head, base: usize)
     requires { ⌜ (head .name .offset + head .name .len ≤ 65535) × (length (now book) ≤ 65535) ⌝ }
     requires { ⌜ (st .extent .used + headSize ≤ length (now book)) × Small st × Ample st (length (now work)) ⌝ }
-    requires { ⌜ base ≤ st .listing .count ⌝ }
+    requires { ⌜ (base ≤ st .listing .count) × (head .sort ≤ 4) ⌝ }
     ensures { λ _. ⌜ (indexIn (st .listing .layout) (now (work .exit))
         ≡ splice (indexIn (st .listing .layout) (now (work .entry))) ((st .listing .count + 1) * definitionWidth)
         (definitionRow (classDefinition st head base)))
@@ -105,7 +107,7 @@ fn write_class(book: &mut [u8], work: &mut [u16], st: State, head: ClassHead, ba
     let name = head.name;
     let p = head.properties;
     let flags = state::flags(p.is_abstract, p.is_final, false, false);
-    let kind = class_kind(head.structure);
+    let kind = class_kind(head.sort);
     let i = st.listing.layout.index;
     let m = st.listing.layout.rows;
     let number = state::base_number(&work[i..m], base);
@@ -115,13 +117,42 @@ fn write_class(book: &mut [u8], work: &mut [u16], st: State, head: ClassHead, ba
         name,
         home: st.context.home,
         number: st.extent.records,
-        sort: class_sort(head.structure),
+        sort: head.sort,
         flags: ground::wide(flags),
         place: st.extent.used,
         base,
         first: st.listing.total,
     };
     state::work::enter(work, st, d);
+}
+
+// 9 to 13 and 19 in a buffer of so many bytes, and the position of the base.
+fn head_ruling(text: &[u8], room: usize, work: &[u16], st: State, head: Head) -> Extension
+    requires { ⌜ Inside (now text) (head .name) × Inside (now text) (st .context .model) × (room ≤ 65535)
+        × (st .extent .used ≤ room) × Ample st (length (now work)) ⌝ }
+    requires { ⌜ ((b : Option G.Reference) × (head .base ≡ optionalOf b) × AnyIs (FairReference (now text)) b) ⌝ }
+    ensures { λ r. ⌜ (r .base ≤ st .listing .count) × (r .ruling .number ≡ 0 → st .extent .used + headSize ≤ room)
+        × ((s : D.State) (c : Sort) (n : R.Name) (p : List (List ℕ)) (b : Option G.Reference) (o hs : List ℕ)
+        (v : U.Unit) → Kept (now (text .entry)) s st o (now (work .entry)) hs → room ≡ length o
+        → head ≡ headOf c n p b → InText (now (text .entry)) n → AnyIs (FairReference (now (text .entry))) b
+        → Heads s c n p b v → HeadRuled s b v o r) ⌝ }
+{
+    let place = head.name.offset;
+    let full = room < st.extent.used + book::HEAD_SIZE;
+    let first = class_ruling(text, work, st, head);
+    let broken = first.ruling;
+    let wrong = 0 < broken.number;
+    let over = Extension {
+        ruling: Ruling { number: 19, place },
+        base: first.base,
+    };
+    if wrong {
+        return first;
+    }
+    if full {
+        return over;
+    }
+    first
 }
 
 // The attributes that a class over the base at a position inherits are in hand: how many.
@@ -160,16 +191,16 @@ fn open_class(
     work: &mut [u16],
     hand: &mut [u32],
     st: State,
-    head: ClassHead,
+    head: Head,
     base: usize,
 ) -> State
     requires { ⌜ Inside (now text) (head .name) × (length (now text) ≤ 65535) × (length (now book) ≤ 65535) ⌝ }
     requires { ⌜ (st .extent .used + headSize ≤ length (now book)) × Small st × Ample st (length (now work)) ⌝ }
-    requires { ⌜ Hand (now hand) × (st .context .«in_hand» ≤ most) × (base ≤ st .listing .count) ⌝ }
+    requires { ⌜ Hand (now hand) × (st .context .«in_hand» ≤ most) × (base ≤ st .listing .count) × (head .sort ≤ 4) ⌝ }
     ensures { λ r. ⌜ (r ≡ openedBy st (r .context .«in_hand»))
         × ((s : D.State) (k : Bool) (n : R.Name) (p : List (List ℕ)) (b : Option G.Reference)
         → Kept (now (text .entry)) s st (now (book .entry)) (now (work .entry)) (now (hand .entry))
-        → head ≡ headOf k n p b → InText (now (text .entry)) n → s .open-class ≡ none
+        → head ≡ headOf (classSort k) n p b → InText (now (text .entry)) n → s .open-class ≡ none
         → entry (known (s .decls)) base ≡ resolved s b
         → FairState (now (text .entry)) (nextState s (U.class (classSort k) n p b))
         → Kept (now (text .entry)) (nextState s (U.class (classSort k) n p b)) (openedBy st (r .context .«in_hand»))
@@ -187,7 +218,7 @@ pub fn judge_class(
     work: &mut [u16],
     hand: &mut [u32],
     st: State,
-    head: ClassHead,
+    head: Head,
 ) -> Judged
     requires { ⌜ (length (now text) ≤ 65535) × (length (now book) ≤ 65535) ⌝ }
     requires { ⌜ Ample st (length (now work)) × Hand (now hand) ⌝ }
@@ -201,19 +232,59 @@ pub fn judge_class(
         → Answered (now (text .entry)) (verdict s (U.class (classSort k) n p b) (now (book .entry))) st r
         (now (book .exit)) (now (work .exit)) (now (hand .exit))) ⌝ }
 {
-    let name = head.name;
-    let place = name.offset;
-    let used = st.extent.used;
-    let full = book.len() < used + book::HEAD_SIZE;
-    let e = class_ruling(text, work, st, head);
-    let broken = e.ruling;
-    let wrong = 0 < broken.number;
-    if wrong {
-        return refused(broken.number, broken.place);
-    }
-    if full {
-        return refused(19, place);
+    let e = head_ruling(text, book.len(), work, st, head);
+    let r = e.ruling;
+    if 0 < r.number {
+        return refused(r.number, r.place);
     }
     let next = open_class(text, book, work, hand, st, head, e.base);
     Judged::Fine(next)
+}
+
+// A unit over the base at a position: its record, its row and its name. It is not counted as a definition.
+fn declare_unit(
+    text: &[u8],
+    book: &mut [u8],
+    work: &mut [u16],
+    st: State,
+    head: Head,
+    base: usize,
+) -> State
+    requires { ⌜ Inside (now text) (head .name) × (length (now text) ≤ 65535) × (length (now book) ≤ 65535) ⌝ }
+    requires { ⌜ (st .extent .used + headSize ≤ length (now book)) × Small st × Ample st (length (now work)) ⌝ }
+    requires { ⌜ (base ≤ st .listing .count) × (head .sort ≤ 4) ⌝ }
+    ensures { λ r. ⌜ (r ≡ declaredBy st headSize 1 0)
+        × ((s : D.State) (n : R.Name) (p : List (List ℕ)) (b : Option G.Reference) (hs : List ℕ)
+        → Kept (now (text .entry)) s st (now (book .entry)) (now (work .entry)) hs
+        → head ≡ headOf D.unit n p b → InText (now (text .entry)) n → s .open-class ≡ none
+        → entry (known (s .decls)) base ≡ resolved s b
+        → FairState (now (text .entry)) (nextState s (U.unit n p b))
+        → Kept (now (text .entry)) (nextState s (U.unit n p b)) (declaredBy st headSize 1 0)
+        (now (book .exit)) (now (work .exit)) hs) ⌝ }
+{
+    write_class(book, work, st, head, base);
+    let name = head.name;
+    state::work::make_known(text, work, st, name);
+    st.declared(book::HEAD_SIZE, 1, 0)
+}
+
+// A unit: 9 to 13 and 19.
+pub fn judge_unit(text: &[u8], book: &mut [u8], work: &mut [u16], st: State, head: Head) -> Judged
+    requires { ⌜ (length (now text) ≤ 65535) × (length (now book) ≤ 65535) × Ample st (length (now work)) ⌝ }
+    requires { ⌜ ((s : D.State) × (n : R.Name) × (p : List (List ℕ)) × (b : Option G.Reference) × (hs : List ℕ)
+        × (rs : List ℕ)
+        × Kept (now text) s st (now book) (now work) hs
+        × Comes (now text) s (U.unit n p b) (V·Measure head) rs) ⌝ }
+    ensures { λ r. ⌜ ((s : D.State) (n : R.Name) (p : List (List ℕ)) (b : Option G.Reference) (hs rs : List ℕ)
+        → Kept (now (text .entry)) s st (now (book .entry)) (now (work .entry)) hs
+        → Comes (now (text .entry)) s (U.unit n p b) (V·Measure head) rs
+        → Answered (now (text .entry)) (verdict s (U.unit n p b) (now (book .entry))) st r
+        (now (book .exit)) (now (work .exit)) hs) ⌝ }
+{
+    let e = head_ruling(text, book.len(), work, st, head);
+    let r = e.ruling;
+    if 0 < r.number {
+        return refused(r.number, r.place);
+    }
+    Judged::Fine(declare_unit(text, book, work, st, head, e.base))
 }

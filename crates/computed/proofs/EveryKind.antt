@@ -5,4 +5,4 @@ use Rattle.computed.proofs.Computing.{computing}
 
 pub every-kind : EveryKind
 unfolding computing
-every-kind = record { size = refl; exact = refl; shown = refl }
+every-kind = record { size = refl; exact = refl; unit = refl; shown = refl }

@@ -2,6 +2,7 @@ pub mod Computing
 pub mod Marked
 pub mod Order
 pub mod Pinned
+pub mod Units
 pub mod Example
 pub mod EveryKind
 pub mod AttributeCount

@@ -10,8 +10,8 @@ use Rattle.rules.specs.Book.{definitions}
 use Rattle.rules.specs.Check as C
 use Rattle.rules.specs.Check.{Answer, accepting, refusing, check}
 use Rattle.computed.specs.Cases.{modelOf}
-use Rattle.computed.specs.Shut.{Way, Keeps, laterDomain, laterAttribute, stepwiseDomain, stepwiseAttribute}
-use Rattle.computed.specs.Shut.{straightDomain, Shut}
+use Rattle.computed.specs.Shut.{Way, Keeps, laterDomain, laterAttribute, laterUnit, stepwiseDomain}
+use Rattle.computed.specs.Shut.{stepwiseAttribute, straightDomain, Shut}
 use Rattle.computed.proofs.Computing.{computing}
 use Rattle.computed.proofs.Example.{readings}
 use Rattle.claims.proofs.PromiseLaws.{clash, accepted-book}
@@ -34,6 +34,7 @@ record Computed : Type 0 where
   later-domain : at256 laterDomain ≡ refusing 17 83
   later-zero : getD (check laterDomain (C.lent 256) .buffer) 0 0 ≡ 0
   later-attribute : at256 laterAttribute ≡ refusing 17 132
+  later-unit : at256 laterUnit ≡ refusing 22 108
   stepwise-domain : at256 stepwiseDomain ≡ accepting 93 3
   stepwise-attribute : at256 stepwiseAttribute ≡ accepting 149 7
   straight-domain : at256 straightDomain ≡ refusing 17 66
@@ -49,6 +50,7 @@ computed = record {
   later-domain = refl;
   later-zero = refl;
   later-attribute = refl;
+  later-unit = refl;
   stepwise-domain = refl;
   stepwise-attribute = refl;
   straight-domain = refl;
@@ -97,6 +99,7 @@ shut = record {
       omega arith;
   later-domain = λ f r k. clash (sym (computed .later-domain) ∙ (sym (answers f k laterDomain) ∙ r .2));
   later-attribute = λ f r k. clash (sym (computed .later-attribute) ∙ (sym (answers f k laterAttribute) ∙ r .2));
+  later-unit = λ f r k. clash (sym (computed .later-unit) ∙ (sym (answers f k laterUnit) ∙ r .2));
   stepwise-domain = λ f r k. clash (sym (r .2) ∙ (answers f k stepwiseDomain ∙ computed .stepwise-domain));
   stepwise-attribute = λ f r k. clash (sym (r .2) ∙ (answers f k stepwiseAttribute ∙ computed .stepwise-attribute));
   straight-domain = λ f r k. clash (sym (computed .straight-domain) ∙ (sym (answers f k straightDomain) ∙ r .2));

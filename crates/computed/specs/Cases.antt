@@ -1,7 +1,7 @@
 -- What a case of a table says of the definitions, and that it holds: of whole texts checked from end to end, and of
 -- readings at the domains that they declare.
 use mathlib.Core.Path.{_≡_}
-use mathlib.Core.Bool.{true}
+use mathlib.Core.Bool.{true, false}
 use mathlib.Core.Option.{none, some}
 use mathlib.Core.List.{List, _++_}
 use Prim.Native.Nat.{ℕ}
@@ -15,11 +15,13 @@ use Rattle.rules.specs.Check.{Outcome, kept, unread, ruledOut, accepting, refus
 
 -- passes: the model with these units is accepted, with a book length and a definition count; gives: it is refused, with
 -- a number and a place; givesIn: refused so with a buffer of a length; readsAt: accepted, and a
--- legal value of one domain has a reading at another, which is legal there
+-- legal value of one domain has a reading at another, which is legal there; strays: accepted, and of two values the
+-- first is legal at a domain and the second is not
 pub data Case : Type 0 where
   passes gives : String → ℕ → ℕ → Case
   givesIn : ℕ → String → ℕ → ℕ → Case
   readsAt : String → String → Value → String → Value → Case
+  strays : String → String → Value → Value → Case
 
 -- the units stand behind a header and the head of the model M, 40 bytes in all, and before its END
 abbrev pub modelOf : String → List ℕ
@@ -42,3 +44,4 @@ Holds (passes u l c) = answerOf (outcome u 65535) ≡ accepting l c
 Holds (gives u n p) = answerOf (outcome u 65535) ≡ refusing n p
 Holds (givesIn m u n p) = answerOf (outcome u m) ≡ refusing n p
 Holds (readsAt u e v b w) = let o = outcome u 65535 in ReadsTo (typeIn o (ascii e)) v (typeIn o (ascii b)) w
+Holds (strays u e v w) = let t = typeIn (outcome u 65535) (ascii e) in (legal t v ≡ true) × (legal t w ≡ false)

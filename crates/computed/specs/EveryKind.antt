@@ -1,4 +1,5 @@
--- Document 01, "The book": a text whose book has records of every kind from 1 to 17, and its book, written by hand.
+-- Document 01, "The book", and document 02, No. 1: a text whose book has records of every kind from 1 to 19, and its
+-- book, written by hand.
 use mathlib.Core.Path.{_≡_}
 use mathlib.Core.List.{List, [], _∷_}
 use Prim.Native.Nat.{ℕ}
@@ -8,7 +9,7 @@ use Rattle.rules.specs.Check.{lent, accepting, check}
 use Rattle.rules.specs.Show.{showName}
 use Rattle.computed.specs.Cases.{modelOf}
 
--- the lines begin at the places 40, 69, 106, 140, 179, 190, 290, 389 and 398
+-- the lines begin at the places 40, 69, 106, 140, 179, 190, 290, 389, 398, 438 and 461
 abbrev units : String
 units =
     "DOMAIN Any(ABSTRACT)=NUMERIC;"
@@ -19,7 +20,9 @@ units =
     ++ ("CLASS Place(ABSTRACT)=note:MANDATORY MTEXT;step:Half;line(FINAL):Line;sort:(a(x:FINAL),b);END Place;"
     ++ ("CLASS House(FINAL)EXTENDS Place=note(EXTENDED):MTEXT*7;sort(EXTENDED,FINAL):(c,b(FINAL));END House;"
     ++ ("END Town;"
-    ++ "DOMAIN Word=TEXT;")))))))
+    ++ ("UNIT Metre(ABSTRACT);Foot EXTENDS Metre;"
+    ++ ("DOMAIN Long=1..2[Foot];"
+    ++ "Word=TEXT;")))))))))
 
 abbrev pub text : List ℕ
 text = modelOf units
@@ -71,12 +74,18 @@ book =
     ∷ 15  -- 41: it closes
     ∷ 16  -- 42: END House
     ∷ 3  -- 43: END Town
-    ∷ 7 ∷ 149 ∷ 1 ∷ 0 ∷ 0 ∷ 4 ∷ 0 ∷ 255 ∷ 255 ∷ 255 ∷ 255  -- 44: the domain Word
-    ∷ 8 ∷ 0 ∷ 0 ∷ 0 ∷ 0  -- 45: TEXT
+    ∷ 18 ∷ 147 ∷ 1 ∷ 0 ∷ 0 ∷ 5 ∷ 1 ∷ 255 ∷ 255 ∷ 255 ∷ 255  -- 44: the unit Metre, ABSTRACT
+    ∷ 18 ∷ 163 ∷ 1 ∷ 0 ∷ 0 ∷ 4 ∷ 0 ∷ 44 ∷ 0 ∷ 0 ∷ 0  -- 45: the unit Foot, over Metre
+    ∷ 7 ∷ 189 ∷ 1 ∷ 0 ∷ 0 ∷ 4 ∷ 0 ∷ 255 ∷ 255 ∷ 255 ∷ 255  -- 46: the domain Long
+    ∷ 10 ∷ 0 ∷ 1 ∷ 0 ∷ 0 ∷ 0 ∷ 0 ∷ 0 ∷ 0 ∷ 0 ∷ 2 ∷ 0 ∷ 0 ∷ 0 ∷ 0 ∷ 0 ∷ 0 ∷ 0  -- 47: no decimals, 1..2
+    ∷ 19 ∷ 45 ∷ 0 ∷ 0 ∷ 0  -- 48: in Foot
+    ∷ 7 ∷ 205 ∷ 1 ∷ 0 ∷ 0 ∷ 4 ∷ 0 ∷ 255 ∷ 255 ∷ 255 ∷ 255  -- 49: the domain Word
+    ∷ 8 ∷ 0 ∷ 0 ∷ 0 ∷ 0  -- 50: TEXT
     ∷ []
 
--- a buffer of the book's length; and the name Word, before which records of every kind stand
+-- a buffer of the book's length; the name Foot, of a unit; and the name Word, before which records of every kind stand
 pub record EveryKind : Type 0 where
-  pub size : length text ≡ 421
-  pub exact : check text (lent 294) ≡ record { answer = accepting 294 14; buffer = book }
-  pub shown : showName text book 44 ≡ record { start = 405; length = 4 }
+  pub size : length text ≡ 477
+  pub exact : check text (lent 350) ≡ record { answer = accepting 350 15; buffer = book }
+  pub unit : showName text book 45 ≡ record { start = 419; length = 4 }
+  pub shown : showName text book 49 ≡ record { start = 461; length = 4 }

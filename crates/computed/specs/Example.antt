@@ -46,15 +46,15 @@ pub record Reads : Type 0 where
 abbrev part : ℕ → ℕ → Part
 part s l = record { start = s; length = l }
 
--- both names; the range has none; the fourth record is not there; a book cut off; a kind that is none; a name past the
--- text's end
+-- both names; the range has none; the fourth record is not there; a book cut off; 20, the first kind that is none; a
+-- name past the text's end
 pub record Shows : Type 0 where
   pub model : showName text book 0 ≡ part 19 1
   pub domain : showName text book 1 ≡ part 47 1
   pub range : showName text book 2 ≡ part 0 0
   pub none : showName text book 3 ≡ part 0 0
   pub cut : showName text (0x01 ∷ 0x13 ∷ 0 ∷ 0 ∷ 0 ∷ []) 0 ≡ part 0 0
-  pub unknown : showName text (18 ∷ 0x01 ∷ 0x13 ∷ 0 ∷ 0 ∷ 0 ∷ 0x01 ∷ []) 1 ≡ part 0 0
+  pub unknown : showName text (0x14 ∷ 0x01 ∷ 0x13 ∷ 0 ∷ 0 ∷ 0 ∷ 0x01 ∷ []) 1 ≡ part 0 0
   pub last : showName text (0x01 ∷ 62 ∷ 0 ∷ 0 ∷ 0 ∷ 0x01 ∷ []) 0 ≡ part 62 1
   pub past : showName text (0x01 ∷ 62 ∷ 0 ∷ 0 ∷ 0 ∷ 0x02 ∷ []) 0 ≡ part 0 0
   pub bare : showName text (0x01 ∷ 9 ∷ 0 ∷ 0 ∷ 0 ∷ 0x00 ∷ []) 0 ≡ part 9 0

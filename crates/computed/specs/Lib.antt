@@ -3,6 +3,7 @@ pub mod Cases
 pub mod Marked
 pub mod Order
 pub mod Pinned
+pub mod Units
 pub mod EveryKind
 pub mod AttributeCount
 pub mod Shut

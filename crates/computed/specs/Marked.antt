@@ -1,4 +1,5 @@
 -- Document 01, "Examples on both sides": the marked lines, as one table.
+use mathlib.Core.Option.{none}
 use mathlib.Core.List.{List, [], _∷_}
 use Prim.Native.String.{String}
 use lib.IntN.{pos}
@@ -25,8 +26,8 @@ marked =
     ∷ gives "DOMAIN B=0.00..7.99;E EXTENDS B=-0.0051..7.9900;" 17 72
     ∷ gives "DOMAIN B=-10..40;E EXTENDS B=-25..40;" 17 69
     ∷ passes twoSteps 93 3
-    ∷ readsAt twoSteps "C" (number 2 (pos 45)) "B" (number 1 (pos 5))
-    ∷ readsAt twoSteps "B" (number 1 (pos 5)) "A" (number 0 (pos 1))
+    ∷ readsAt twoSteps "C" (number 2 (pos 45) none) "B" (number 1 (pos 5) none)
+    ∷ readsAt twoSteps "B" (number 1 (pos 5) none) "A" (number 0 (pos 1) none)
     ∷ passes "DOMAIN B=0.50..7.00;E EXTENDS B=1..7;" 64 2
     ∷ gives "DOMAIN B=0.50..7.00;E EXTENDS B=0..7;" 17 72
     ∷ passes "DOMAIN B=TEXT*10;E EXTENDS B=TEXT*10;" 38 2

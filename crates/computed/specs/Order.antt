@@ -1,11 +1,12 @@
 -- Document 01, "Refusals in order": units broken by two rules at once, a text for each two neighbouring numbers from 7
--- to 19 that can meet in one unit, and the two places of one number; bounds of 18 digits with 17 decimals against none;
--- the other examples on both sides.
+-- to 19, with 22 before 19, that can meet in one unit, and the two places of one number; bounds of 18 digits with 17
+-- decimals against none; the other examples on both sides.
 use mathlib.Core.List.{List, [], _∷_}
 use Rattle.computed.specs.Cases.{Case, passes, gives, givesIn}
 
 -- 7 stands alone in the header and 8 in END, where only 19 can follow; 14 is of ranges and lengths, 15 of enumerations
--- without a base and 16 of any type with one, so 14 meets 16, and 15 meets 13 and 19. AttributeCount has 4 by count
+-- without a base and 16 of any type with one, so 14 meets 16, and 15 meets 13 and 19; 18 is of domains and structures
+-- that are named and 22 of types in place, so 22 meets 17 and 19. AttributeCount has 4 by count
 abbrev pub neighbours : List Case
 neighbours =
     givesIn 17 "CLASS C=END D;" 8 52
@@ -23,6 +24,13 @@ neighbours =
     ∷ gives "DOMAIN B=1..2;B=(a,a);" 9 54
     ∷ gives "CLASS C=a(EXTENDED):X;END C;" 10 48
     ∷ gives "DOMAIN B=(a(x,y,x),b,a);" 9 56
+    ∷ gives "UNIT a;DOMAIN D=TEXT;E EXTENDS D=1..3[a];" 16 73
+    ∷ gives "UNIT a;DOMAIN D=1..2[a];E EXTENDS D=1..3;" 17 76
+    ∷ givesIn 51 "UNIT a;DOMAIN D=1..2[a];E EXTENDS D=1..2;" 22 76
+    ∷ gives "UNIT a;DOMAIN D EXTENDS x=1..2[y];" 10 64
+    ∷ gives "UNIT a;DOMAIN D EXTENDS a=1..2[y];" 10 71
+    ∷ gives "UNIT a;DOMAIN C=1..2;D EXTENDS a=1..2[C];" 11 71
+    ∷ gives "UNIT a;CLASS C=x(EXTENDED):1..2[q];END C;" 10 55
     ∷ []
 
 abbrev pub others : List Case

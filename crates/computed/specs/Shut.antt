@@ -57,6 +57,10 @@ abbrev pub laterAttribute : List ℕ
 laterAttribute =
     modelOf "CLASS A=a:1..7;END A;CLASS B EXTENDS A=a(EXTENDED):1..7;END B;CLASS C EXTENDS B=a(EXTENDED):0..7;END C;"
 
+-- the same of units: the first extension has a descendant, a later one goes back to the unit of the first base
+abbrev pub laterUnit : List ℕ
+laterUnit = modelOf "UNIT a;b EXTENDS a;DOMAIN A=1..7[a];B EXTENDS A=1..7[b];C EXTENDS B=1..7[a];"
+
 -- every step is right, and straight from the first to the last is not: 0.45 would read 0; of domains, and of an
 -- attribute through domains
 abbrev pub stepwiseDomain : List ℕ
@@ -94,6 +98,7 @@ pub record Shut : Type 0 where
   pub idle-accepting : ShutOut IdleAccepting
   pub later-domain : ShutOut (Accepts laterDomain)
   pub later-attribute : ShutOut (Accepts laterAttribute)
+  pub later-unit : ShutOut (Accepts laterUnit)
   pub stepwise-domain : ShutOut (Refuses stepwiseDomain)
   pub stepwise-attribute : ShutOut (Refuses stepwiseAttribute)
   pub straight-domain : ShutOut (Accepts straightDomain)

@@ -1,13 +1,17 @@
 -- All demands, from the claims on `check` and from what the program promises.
 use mathlib.Core.Path.{_≡_, refl, sym, ap, _∙_, subst}
 use mathlib.Core.List.{List}
-use Prim.Native.Nat.{ℕ}
+use Prim.Native.Nat.{ℕ, _≤_}
 use native.Mathlib.Omega.{arith}
+use Rattle.rules.specs.Units as U
 use Rattle.rules.specs.Declarations.{State}
+use Rattle.rules.specs.Judge.{judge, refused}
 use Rattle.rules.specs.Check as C
 use Rattle.rules.specs.Check.{lent, kept, run, accepted, refusal, check}
 use Rattle.claims.specs.Promise.{OnlyOne}
+use Rattle.claims.specs.Ranking.{rank}
 use Rattle.claims.specs.Steps.{EveryReading}
+use Rattle.claims.specs.Demand3.{RefusedThere}
 use Rattle.computed.proofs.Marked.{marked-hold}
 use Rattle.claims.proofs.PromiseLaws.{same-accepted, same-refused, one-outcome, refused-zeros, accepted-book}
 use Rattle.claims.proofs.RankingLaws.{units-ranked, texts-ranked}
@@ -81,19 +85,26 @@ module _ (t : List ℕ) (m : ℕ) where
       let k : EveryReading s = subst EveryReading (same-kept (sym (r .runs) ∙ e)) (r .reads) in
       numbers-read t s (reached-fair t m (h .reaches) .0) (reached-typed t m (h .reaches)) k
 
+  refused-there : (s : State) (u : U.Unit) (k : ℕ) (r : Answer) (b : List ℕ) → Gives t m r b
+      → RefusedThere t (lent m) s u k
+      → (n p : ℕ) × (r ≡ Refused n p) × (judge s u ≡ refused n p) × (rank n ≤ rank k)
+  refused-there s u k r b h v = (
+    v .number,
+    v .place,
+    same-answer r (Refused (v .number) (v .place)) (h .answer ∙ v .answers),
+    v .refuses,
+    v .by,
+  )
+
   demand-3 : Demand3 t m
   demand-3 = record {
     reads = λ n k b h. demand3 .accepted-reads t (lent m) n k (sym (h .answer));
     numbers = numbers;
-    witness = λ p b h. demand3 .refused-has-value t (lent m) p (sym (h .answer));
-    refuses = λ s u j x y e o r b h.
-        let v = demand3 .value-refuses t (lent m) s u j x y e o in (
-          v .number,
-          v .place,
-          same-answer r (Refused (v .number) (v .place)) (h .answer ∙ v .answers),
-          v .refuses,
-          v .by,
-        );
+    number-witness = λ p b h. demand3 .refused-has-number t (lent m) p (sym (h .answer));
+    unit-witness = λ p b h. demand3 .refused-has-unit t (lent m) p (sym (h .answer));
+    refuses = λ s u j x y e o r b h. refused-there s u 22 r b h (demand3 .value-refuses t (lent m) s u j x y e o);
+    number-refuses = λ s u j x y e o r b h.
+        refused-there s u 17 r b h (demand3 .number-refuses t (lent m) s u j x y e o);
   }
 
 pub demands : Demands
@@ -104,6 +115,8 @@ demands = record {
   ranked = units-ranked;
   marked-hold = marked-hold;
   distinct = all-distinct;
+  descend = demand3 .descend;
+  unit-kept = demand3 .unit-kept;
   shut = shut;
   parts = unpacks-name;
 }

@@ -9,9 +9,9 @@ use Rattle.rules.specs.Symbols.{symbolAt}
 use Rattle.rules.specs.Units as U
 use Rattle.rules.specs.Units.{Where}
 use Rattle.rules.specs.Types.{structure}
-use Rattle.rules.specs.Declarations.{Def, domain, def, State, known}
-use Rattle.rules.specs.Judge.{ok, judge, resolved, newTopic, newClass, newDomain, withAttribute, afterMember}
-use Rattle.rules.specs.Judge.{afterClose, nextState}
+use Rattle.rules.specs.Declarations.{Def, domain, unit, def, State, known}
+use Rattle.rules.specs.Judge.{ok, judge, resolved, referenceIn, newTopic, newClass, newDomain, withAttribute}
+use Rattle.rules.specs.Judge.{afterMember, afterClose, nextState}
 use Rattle.rules.specs.Check.{lent, unitPlace, judged}
 use Rattle.rules.specs.All.{All, AnyIs}
 use Rattle.rules.proofs.AllLaws.{all-append}
@@ -73,8 +73,11 @@ next-typed s (U.header v) h = h
 next-typed s (U.model n q) h = (tt, tt)
 next-typed s (U.topic n) h = (declare-typed s (newTopic s n) h (inr refl), tt)
 next-typed s (U.class c n p r) h = (h .0, inr refl)
-next-typed s (U.domain n p r w) h = (declare-typed s (newDomain s n p w (resolved s r)) h (inl refl), tt)
+next-typed s (U.domain n p r w) h =
+    let g = resolved s (referenceIn (w .type)) in
+    (declare-typed s (newDomain s n p w (resolved s r) g) h (inl refl), tt)
 next-typed s (U.attribute n p w) h = member-typed s h n p w (s .open-class) (h .1)
+next-typed s (U.unit n p r) h = (declare-typed s (newClass s unit n p (resolved s r)) h (inr refl), tt)
 next-typed s (U.close n) h = close-typed s h (s .open-class) (s .topic) (h .1)
 
 pub reached-typed : (t : List ℕ) (m : ℕ) {f : ℕ} {w : Where} {s : State} {at : ℕ} → Reaches t (lent m) f w s at

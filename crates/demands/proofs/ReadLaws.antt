@@ -3,7 +3,7 @@
 use mathlib.Core.Path.{_≡_, refl, sym, _∙_, subst}
 use mathlib.Core.Logic.{inl, inr}
 use mathlib.Core.Bool.{true, false}
-use mathlib.Core.Option.{some}
+use mathlib.Core.Option.{Option, some}
 use mathlib.Core.List.{List, [], _∷_}
 use Prim.Native.Nat.{ℕ, _≤_, _<_, _^_}
 use native.Mathlib.Omega.{arith}
@@ -14,7 +14,7 @@ use lib.Dec.{eqb}
 use borrow.Author.Tests.{le-ltb, lt-leb, leb-true}
 use Rattle.rules.specs.Numbers as N
 use Rattle.rules.specs.Numbers.{Range, inRange, reads, readNumber}
-use Rattle.rules.specs.Types.{Ty, range, structure, Value, number, legal, reading}
+use Rattle.rules.specs.Types.{Measure, Ty, numeric, structure, Value, number, inBounds, legal, reading}
 use Rattle.rules.specs.Declarations.{Link, Use, inline, ofDomain, ofStructure, tyOf, Attribute, Def, State, known}
 use Rattle.rules.specs.Declarations.{attributeAt}
 use Rattle.rules.specs.Book.{records}
@@ -26,7 +26,7 @@ use Rattle.numbers.specs.declared.Reading.{Reading}
 use Rattle.numbers.specs.declared.Reading.the-variants as R
 use Rattle.numbers.specs.Answer.{Promised}
 use Rattle.numbers.proofs.ReadLaws.{one-answer}
-use Rattle.wellformed.specs.Fairness.{Fair, FairUse, FairAttribute, FairDef, FairState}
+use Rattle.wellformed.specs.Fairness.{Fair, FairRange, FairUse, FairAttribute, FairDef, FairState}
 use Rattle.claims.specs.Steps as S
 use Rattle.claims.specs.Steps.{Declared, baseOf, firstOf, numbered, domainIn, Inherits, near, far, Nearest, Passes}
 use Rattle.claims.specs.Steps.{through, straight, EveryReading}
@@ -42,10 +42,15 @@ between-small l (pos v) (negsuc h) k a b p q = never q
 between-small (pos l) (negsuc v) h k a b p q = never p
 between-small (negsuc l) (negsuc v) h k a b p q = omega (arith, leb-true v l p)
 
-range-small : (t : List ℕ) (r : Range) (v : ℤ) → Fair t (range r)
-    → legal (range r) (number (r .decimals) v) ≡ true → natAbs v < 10 ^ 18
-range-small t r v f e =
-    let i : inRange r v ≡ true = split {x = eqb (r .decimals) (r .decimals)} e .1 in
+-- a range with its unit
+abbrev ranged : Range → Option Measure → Ty
+ranged r i = numeric (some r) i
+
+range-small : (r : Range) (i : Option Measure) (v : ℤ) (u : Option Measure) → FairRange r
+    → legal (ranged r i) (number (r .decimals) v u) ≡ true → natAbs v < 10 ^ 18
+range-small r i v u f e =
+    let b : inBounds (some r) (r .decimals) v ≡ true = split {x = inBounds (some r) (r .decimals) v} e .0 in
+    let i : inRange r v ≡ true = split {x = eqb (r .decimals) (r .decimals)} b .1 in
     let (a, b) = split {x = leZ (r .low) v} i in
     between-small (r .low) v (r .high) (10 ^ 18) (f .1) (f .2) a b
 
@@ -60,41 +65,44 @@ read-small v d db a b c e =
 abbrev Reads : Ty → Ty → Type 0
 Reads x y = (v : Value) → legal x v ≡ true → (w : Value) × (reading y v ≡ some w) × (legal y w ≡ true)
 
-range-reads : (t : List ℕ) (r q : Range) → Fair t (range r) → Fair t (range q) → Reads (range r) (range q) →
-    (v : ℤ) → legal (range r) (number (r .decimals) v) ≡ true → (a : Reading) → Promised v (r .decimals) (q .decimals) a
-    → (w : ℤ) × (a ≡ R.Value w) × (reading (range q) (number (r .decimals) v) ≡ some (number (q .decimals) w))
-    × (legal (range q) (number (q .decimals) w) ≡ true)
-range-reads t r q f g h v e a p =
+range-reads : (r q : Range) (i j : Option Measure) → FairRange r → FairRange q → Reads (ranged r i) (ranged q j) →
+    (v : ℤ) (u : Option Measure) → legal (ranged r i) (number (r .decimals) v u) ≡ true
+    → (a : Reading) → Promised v (r .decimals) (q .decimals) a
+    → (w : ℤ) × (a ≡ R.Value w) × (reading (ranged q j) (number (r .decimals) v u) ≡ some (number (q .decimals) w u))
+    × (legal (ranged q j) (number (q .decimals) w u) ≡ true)
+range-reads r q i j f g h v u e a p =
     let w = N.reading (r .decimals) (q .decimals) v in
-    let (x, i, j) = h (number (r .decimals) v) e in
-    let z : x ≡ number (q .decimals) w = cc in
-    let l : legal (range q) (number (q .decimals) w) ≡ true = subst (λ (x : Value). legal (range q) x ≡ true) z j in
-    let n = read-small v (r .decimals) (q .decimals) (f .0) (g .0) (range-small t r v f e) (range-small t q w g l) in
+    let (x, k, o) = h (number (r .decimals) v u) e in
+    let z : x ≡ number (q .decimals) w u = cc in
+    let l : legal (ranged q j) (number (q .decimals) w u) ≡ true =
+    subst (λ (x : Value). legal (ranged q j) x ≡ true) z o in
+    let b = range-small r i v u f e in
+    let n = read-small v (r .decimals) (q .decimals) (f .0) (g .0) b (range-small q j w u g l) in
     (w, one-answer v (r .decimals) (q .decimals) a (R.Value w) p (record { number = rw n; value = rw n }), refl, l)
 
 -- a range is fair
 abbrev Ranged : List ℕ → Ty → Type 0
-Ranged t x = (r : Range) → x ≡ range r → Fair t x
+Ranged t x = (r : Range) (i : Option Measure) → x ≡ ranged r i → Fair t x
 
 read-by : (t : List ℕ) (x y : Ty) → Ranged t x → Ranged t y → Reads x y → ReadBy x y
-read-by t x y f g h r q i j =
-    let a : Fair t (range r) = subst (Fair t) i (f r i) in
-    let b : Fair t (range q) = subst (Fair t) j (g q j) in
-    let c : Reads (range r) (range q) = rw (i, j) at h in
-    rw (i, j) (range-reads t r q a b c)
+read-by t x y f g h r q i j k l =
+    let a : FairRange r = subst (Fair t) k (f r i k) in
+    let b : FairRange q = subst (Fair t) l (g q j l) in
+    let c : Reads (ranged r i) (ranged q j) = rw (k, l) at h in
+    rw (k, l) (range-reads r q i j a b c)
 
 -- ---- what is declared: domains, and what types attributes
-not-range : {A : Type 0} (r : Range) → structure ≡ range r → A
-not-range r e = absurd (let z : _≡_ {A = ℕ} 0 1 = cc in omega arith)
+not-range : {A : Type 0} (r : Range) (i : Option Measure) → structure ≡ ranged r i → A
+not-range r i e = absurd (let z : _≡_ {A = ℕ} 0 1 = cc in omega arith)
 
 def-ranged : (t : List ℕ) (n : ℕ) (d : Def) → FairDef t n d → Typed d → Ranged t (d .type)
-def-ranged t n d f (inl e) r i = f .type e
-def-ranged t n d f (inr e) r i = not-range r (sym e ∙ i)
+def-ranged t n d f (inl e) r i k = f .type e
+def-ranged t n d f (inr e) r i k = not-range r i (sym e ∙ k)
 
 use-ranged : (t : List ℕ) (u : Use) → FairUse t u → Ranged t (tyOf u)
-use-ranged t (inline x) f r e = f
-use-ranged t (ofDomain l bs) f r e = f
-use-ranged t (ofStructure l bs) f r e = not-range r e
+use-ranged t (inline x) f r i e = f
+use-ranged t (ofDomain l bs) f r i e = f
+use-ranged t (ofStructure l bs) f r i e = not-range r i e
 
 -- a base is declared, and a nearest inherited attribute is a declared class's own
 first-declared : (s : State) (l : List Link) (b : Def) → firstOf s l ≡ some b → Declared s b

@@ -1,18 +1,18 @@
 -- The user's three demands, of what the program answers. `check_text` promises Gives: of a text t and a lent buffer of
 -- m bytes, r is its answer, in the program's own type, and b is the buffer when it returns. It has no precondition:
 -- every text and every buffer gets an answer (`answer` in this crate's code has the promise in these words). `run` is
--- document 01 as a definition (crate rules): it keeps a state where no unit is refused.
+-- document 01 with No. 1 of document 02 as a definition (crate rules): it keeps a state where no unit is refused.
 use mathlib.Core.Path.{_≡_}
 use mathlib.Core.Logic.{_↔_}
 use mathlib.Core.Bool.{true, false}
-use mathlib.Core.Option.{some}
+use mathlib.Core.Option.{Option, some}
 use mathlib.Core.List.{List}
 use Prim.Native.Nat.{ℕ, _≤_, _<_}
 use lib.ListN.{length}
 use lib.IntN.{ℤ}
 use Rattle.rules.specs.Numbers.{Range}
 use Rattle.rules.specs.Units as U
-use Rattle.rules.specs.Types.{Ty, range, number, legal, reading}
+use Rattle.rules.specs.Types.{Measure, Ty, numeric, number, legal, reading}
 use Rattle.rules.specs.Declarations.{tyOf, Attribute, Def, State}
 use Rattle.rules.specs.Judge.{isDomain, judge, refused}
 use Rattle.rules.specs.Check.{lent, kept, run}
@@ -25,10 +25,10 @@ use Rattle.claims.specs.Promise.{Zeros, Booked}
 use Rattle.claims.specs.Ranking as R
 use Rattle.claims.specs.Ranking.{rank, UnitsRanked}
 use Rattle.claims.specs.Numbered.{Numbered}
-use Rattle.claims.specs.Readings.{Outside}
+use Rattle.claims.specs.Readings.{Outside, NumberOutside, UnitsDescend, UnitsKept}
 use Rattle.claims.specs.Steps.{Declared, baseOf, Nearest}
 use Rattle.claims.specs.Reached.{Judges}
-use Rattle.claims.specs.Demand3.{ModelReads, Extends, Misfit}
+use Rattle.claims.specs.Demand3.{ModelReads, Extends, Misnumbered, Mismeasured}
 use Rattle.claims.specs.Distinct.{AllDistinct}
 use Rattle.computed.specs.Shut.{Shut}
 use Rattle.numbers.specs.declared.Reading.{Reading}
@@ -62,14 +62,15 @@ pub record Demand2 (t : List ℕ) (m : ℕ) : Type 0 where
   pub first : (n p : ℕ) → ((b : List ℕ) × Gives t m (Refused n p) b) ↔ R.Refused t (lent m) n p
   pub book : (n k : ℕ) (b : List ℕ) → Gives t m (Accepted n k) b → Booked t (lent m) n k b
 
--- ---- numbers: of two ranges, `read_number`, which promises Promised, answers a legal number of x with its reading
--- at y, and never 20 or 21
+-- ---- numbers: of two ranges, `read_number`, which promises Promised, answers a legal number of x, in a unit or
+-- without one, with its reading at y, which has the same unit; and never 20 or 21
 abbrev pub ReadBy : Ty → Ty → Type 0
 ReadBy x y =
-    (r q : Range) → x ≡ range r → y ≡ range q → (v : ℤ) → legal x (number (r .decimals) v) ≡ true → (a : Reading)
-    → Promised v (r .decimals) (q .decimals) a
-    → (w : ℤ) × (a ≡ Value w) × (reading y (number (r .decimals) v) ≡ some (number (q .decimals) w))
-    × (legal y (number (q .decimals) w) ≡ true)
+    (r q : Range) (i j : Option Measure) → x ≡ numeric (some r) i → y ≡ numeric (some q) j
+    → (v : ℤ) (u : Option Measure) → legal x (number (r .decimals) v u) ≡ true
+    → (a : Reading) → Promised v (r .decimals) (q .decimals) a
+    → (w : ℤ) × (a ≡ Value w) × (reading y (number (r .decimals) v u) ≡ some (number (q .decimals) w u))
+    × (legal y (number (q .decimals) w u) ≡ true)
 
 -- the numbers of a state's domains, and of its attributes with a type in place, each read at its base
 pub record NumbersRead (s : State) : Type 0 where
@@ -77,19 +78,25 @@ pub record NumbersRead (s : State) : Type 0 where
   pub attributes : (a b : Attribute) → Nearest s a b → isDomain (a .use-of) ≡ false
       → ReadBy (tyOf (a .use-of)) (tyOf (b .use-of))
 
--- ---- 3: what is accepted reads legally at every base, step by step; 17 is answered only if a legal value has an
--- illegal reading, and where one has, the unit is refused, by 17 or by what comes before it
+-- ---- 3: what is accepted reads legally at every base, step by step, in number and unit; 17 is answered only if a
+-- legal value's number has an illegal reading, 22 only if a legal value's unit is illegal at the base; and where a
+-- legal value has an illegal reading, what puts it there is refused: by 17 or what comes before it where the value's
+-- number shows it, by 22 or what comes before it where only its unit does
 pub record Demand3 (t : List ℕ) (m : ℕ) : Type 0 where
   pub reads : (n k : ℕ) (b : List ℕ) → Gives t m (Accepted n k) b → ModelReads t (lent m)
   pub numbers : (s : State) → run t (lent m) ≡ kept s → NumbersRead s
-  pub witness : (p : ℕ) (b : List ℕ) → Gives t m (Refused 17 p) b → Misfit t (lent m) p
+  pub number-witness : (p : ℕ) (b : List ℕ) → Gives t m (Refused 17 p) b → Misnumbered t (lent m) p
+  pub unit-witness : (p : ℕ) (b : List ℕ) → Gives t m (Refused 22 p) b → Mismeasured t (lent m) p
   pub refuses : (s : State) (u : U.Unit) → Judges t (lent m) s u → (x y : Ty) → Extends s u x y → Outside x y →
       (r : Answer) (b : List ℕ) → Gives t m r b
+      → (n p : ℕ) × (r ≡ Refused n p) × (judge s u ≡ refused n p) × (rank n ≤ rank 22)
+  pub number-refuses : (s : State) (u : U.Unit) → Judges t (lent m) s u → (x y : Ty) → Extends s u x y
+      → NumberOutside x y → (r : Answer) (b : List ℕ) → Gives t m r b
       → (n p : ℕ) × (r ≡ Refused n p) × (judge s u ≡ refused n p) × (rank n ≤ rank 17)
 
 -- ---- all of it; and what the definitions are held to: every unit's rules stand in order, the marked examples,
--- elements stand once, and what is shut out; and the name that an export packs into one number can be taken out again,
--- whatever bytes the book has
+-- elements stand once, units of numbers descend as 22 asks and a reading keeps its own, and what is shut out; and the
+-- name that an export packs into one number can be taken out again, whatever bytes the book has
 pub record Demands : Type 0 where
   pub demand1 : (t : List ℕ) (m : ℕ) → Demand1 t m
   pub demand2 : (t : List ℕ) (m : ℕ) → Demand2 t m
@@ -97,6 +104,8 @@ pub record Demands : Type 0 where
   pub ranked : UnitsRanked
   pub marked-hold : All Holds marked
   pub distinct : AllDistinct
+  pub descend : UnitsDescend
+  pub unit-kept : UnitsKept
   pub shut : Shut
   pub parts : (t b : List ℕ) (k : ℕ) → All (λ (x : ℕ). x < 256) b
       → unpackedPart (packedPart (showName t b k)) ≡ showName t b k

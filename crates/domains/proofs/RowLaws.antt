@@ -39,16 +39,17 @@ use Rattle.state.proofs.KeepLaws as keep
 use Rattle.state.proofs.KeepLaws.{keeps-declared, plain-type, domain-defined}
 use Rattle.state.proofs.RowLaws.{Tells, def-row}
 use Rattle.state.proofs.JudgeLaws.{small, home-number, room-over, room-within}
-use Rattle.domains.specs.Stages.{Extending, domainDefinition}
+use Rattle.domains.specs.Stages.{Extending, domainDefinition, targetIn}
+use Rattle.domains.specs.declared.Reached.{Reached}
 use Rattle.domains.proofs.StageLaws.{domainOf, unit-inside, is-unit, a-base, no-class}
 use Rattle.book.specs.Places.{Stands}
 use Rattle.book.proofs.StandLaws.{stands-new}
 use Rattle.book.specs.Sizes.{headSize}
 
 -- ---- the new definition
-module _ (s : State) (n : Name) (p : List (List ℕ)) (w : Written) (o : Option Def) where
+module _ (s : State) (n : Name) (p : List (List ℕ)) (w : Written) (o target : Option Def) where
   abbrev new : Def
-  new = newDomain s n p w o
+  new = newDomain s n p w o target
 
   new-sort : new .sort ≡ domain
   unfolding newDomain
@@ -60,7 +61,7 @@ module _ (s : State) (n : Name) (p : List (List ℕ)) (w : Written) (o : Option 
 
   -- its records
   abbrev type : Ty
-  type = domainType (w .type) (orNoDef o .type)
+  type = domainType (w .type) target (orNoDef o .type)
 
   head : List ℕ
   head = headForm 7 (n .offset) (length (n .bytes))
@@ -97,7 +98,7 @@ module _ (s : State) (n : Name) (p : List (List ℕ)) (w : Written) (o : Option 
 
   stands-next : (u : ℕ) → u ≡ length (book s) → s .open-class ≡ none
       → Stands (book (declare s (def new))) u (heading (new .sort) new)
-  stands-next u e c = rw (e, new-book c) (stands-new (book s) (heading (new .sort) new) [])
+  stands-next u e c = rw (e, new-book c) (stands-new (book s) (heading (new .sort) new) [] refl)
 
 -- ---- what is small enough
 pub record Numbers (t : List ℕ) (st : code.State) (d : DomainUnit) (size : Size) : Type 0 where
@@ -114,18 +115,20 @@ pub record Numbers (t : List ℕ) (st : code.State) (d : DomainUnit) (size : Siz
   pub defined : st .extent .definitions + 1 ≤ 65535
 
 module _ {t : List ℕ} {s : State} {st : code.State} {n : Name} {p : List (List ℕ)} {b : Option Reference} {w :
-    Written} {o x z y hs rs : List ℕ} {d : DomainUnit} {base : ℕ} (h : Extending t s st n p b w o x z y hs rs d base)
+    Written} {o x z y hs rs : List ℕ} {d : DomainUnit} {e : Reached} (h : Extending t s st n p b w o x z y hs rs d e)
     (o₁ : List ℕ) (len : length o ≡ length o₁) (short : length o₁ ≤ 65535)
-    (size : Size) (counted : size ≡ sizeOf (typeRecords (domainType (w .type) (orNoDef (resolved s b) .type)))) where
+    (size : Size)
+    (counted : size ≡ sizeOf (typeRecords (domainType (w .type) (targetIn s w) (orNoDef (resolved s b) .type)))) where
   abbrev l : List ℕ
-  l = bytes (typeRecords (domainType (w .type) (orNoDef (resolved s b) .type)))
+  l = bytes (typeRecords (domainType (w .type) (targetIn s w) (orNoDef (resolved s b) .type)))
 
   size-bytes : size .bytes ≡ length l
   size-bytes = ap (λ (i : Size). i .bytes) counted
 
-  long : length (book (declare s (def (newDomain s n p w (resolved s b))))) ≡ st .extent .used + headSize + size .bytes
+  long : length (book (declare s (def (newDomain s n p w (resolved s b) (targetIn s w)))))
+      ≡ st .extent .used + headSize + size .bytes
   long =
-      let e = length-book s n p w (resolved s b) (no-class h) in
+      let e = length-book s n p w (resolved s b) (targetIn s w) (no-class h) in
       let u = h .keeps .used in
       let v = size-bytes in omega arith
 
@@ -136,7 +139,7 @@ module _ {t : List ℕ} {s : State} {st : code.State} {n : Name} {p : List (List
       let g0 = g .fewer in let g1 = g .defined in let g2 = g .home in let g3 = g .rows in
       let v = size-bytes in
       let r = ap (λ (i : Size). i .records) counted in
-      let k = plain-type (domainType (w .type) (orNoDef (resolved s b) .type)) .solid in
+      let k = plain-type (domainType (w .type) (targetIn s w) (orNoDef (resolved s b) .type)) .solid in
       record {
         inside = unit-inside (h .comes);
         home = omega arith;
@@ -154,28 +157,28 @@ module _ {t : List ℕ} {s : State} {st : code.State} {n : Name} {p : List (List
   pub refused-room : leb (st .extent .used + headSize + size .bytes) (length o₁) ≡ false → (r : code-judged.Judged)
       → r ≡ Refused 19 (d .name .offset) → (o₂ x₂ z₂ : List ℕ)
       → JudgedAs t (Check.room (Check.lent (length o)) (n .offset)
-      (ok (declare s (def (newDomain s n p w (resolved s b)))))) st r o₂ x₂ z₂ y hs
+      (ok (declare s (def (newDomain s n p w (resolved s b) (targetIn s w)))))) st r o₂ x₂ z₂ y hs
   refused-room e r g o₂ x₂ z₂ =
       let f = leb-false (st .extent .used + headSize + size .bytes) (length o₁) e in
       let v = long in
       rw (room-over (length o) (n .offset)
-      (declare s (def (newDomain s n p w (resolved s b)))) (omega arith) (omega arith))
+      (declare s (def (newDomain s n p w (resolved s b) (targetIn s w)))) (omega arith) (omega arith))
       (g ∙ ap (λ (i : ℕ). Refused 19 i) (ap (λ (u : DomainUnit). u .name .offset) (is-unit h)))
 
   -- the head is written behind the book, the row behind the last
   module _ (room : leb (st .extent .used + headSize + size .bytes) (length o₁) ≡ true)
       (there : st .extent .used + headSize + length l ≤ length o → o₁ ≡ splice o (st .extent .used + headSize) l)
       (mandatory : Bool)
-      (em : mandatory ≡ (d .written .mandatory || orNoDef (entry (known (s .decls)) base) .mandatory))
+      (em : mandatory ≡ (d .written .mandatory || orNoDef (entry (known (s .decls)) (e .base)) .mandatory))
       (f : ℕ) (ef : f ≡ flags (d .properties .«is_abstract») (d .properties .«is_final») false mandatory)
-      (c : ℕ) (ec : c ≡ baseNumber (basesOf (entry (known (s .decls)) base)))
+      (c : ℕ) (ec : c ≡ baseNumber (basesOf (entry (known (s .decls)) (e .base))))
       (hd o₂ x₂ z₂ : List ℕ) (eh : hd ≡ headForm 7 (d .name .offset) (d .name .len) f c)
       (eo : o₂ ≡ splice o₁ (st .extent .used) hd) (len₂ : length o₂ ≡ length o₁)
       (ex : x₂ ≡ splice x ((st .listing .count + 1) * definitionWidth)
-      (definitionRow (domainDefinition st (d .name) f base)))
+      (definitionRow (domainDefinition st (d .name) f (e .base))))
       (ez : (ks : List Def) (e : Def) → Chains ks z → st .listing .count ≡ length ks
       → bytesOf t (d .name) ≡ e .name .bytes → Chains (ks ++ (e ∷ [])) z₂)
-      (wide : Rows x (st .listing .count + 2)) (low : base ≤ st .listing .count) where
+      (wide : Rows x (st .listing .count + 2)) (low : e .base ≤ st .listing .count) where
     abbrev unit : d ≡ domainOf n p b w
     unit = is-unit h
 
@@ -183,17 +186,17 @@ module _ {t : List ℕ} {s : State} {st : code.State} {n : Name} {p : List (List
     none-open = no-class h
 
     abbrev entered : NewDefinition
-    entered = domainDefinition st (d .name) f base
+    entered = domainDefinition st (d .name) f (e .base)
 
     abbrev new· : Def
-    new· = newDomain s n p w (resolved s b)
+    new· = newDomain s n p w (resolved s b) (targetIn s w)
 
     flags-are : f ≡ flags (isAbstract p) (isFinal p) false (w .mandatory || orNoDef (resolved s b) .mandatory)
-    flags-are = ef ∙ rw (em, h .names, unit)
+    flags-are = ef ∙ rw (em, h .leads .base, unit)
 
-    head-is : hd ≡ head s n p w (resolved s b)
+    head-is : hd ≡ head s n p w (resolved s b) (targetIn s w)
     unfolding head
-    head-is = eh ∙ rw (flags-are, ec, h .names, unit)
+    head-is = eh ∙ rw (flags-are, ec, h .leads .base, unit)
 
     book-is : keep.Written (book s) (bytes (declRecords (def new·))) o₂
     book-is =
@@ -201,11 +204,13 @@ module _ {t : List ℕ} {s : State} {st : code.State} {n : Name} {p : List (List
         let v = size-bytes in
         let u = h .keeps .used in
         let g : st .extent .used + headSize + length l ≤ length o = omega arith in
-        let k = laid-book o o₁ o₂ (book s) (head s n p w (resolved s b)) l (st .extent .used) (h .keeps .written) u g
-        (head-length s n p w (resolved s b)) (there g) (rw head-is at eo) in
+        let k = laid-book o o₁ o₂ (book s) (head s n p w (resolved s b) (targetIn s w)) l
+        (st .extent .used) (h .keeps .written) u g
+        (head-length s n p w (resolved s b) (targetIn s w)) (there g) (rw head-is at eo) in
         let r : bytes (declRecords (def new·))
-        ≡ head s n p w (resolved s b) ++ l = ap bytes (new-records s n p w (resolved s b)) in
-        let i = new-length s n p w (resolved s b) in
+        ≡ head s n p w (resolved s b) (targetIn s w) ++ l =
+        ap bytes (new-records s n p w (resolved s b) (targetIn s w)) in
+        let i = new-length s n p w (resolved s b) (targetIn s w) in
         let j : length (book s) + length (bytes (declRecords (def new·)))
         ≡ st .extent .used + headSize + length l = omega arith in
         record { within = omega arith; whole = rw (j, r) k }
@@ -220,8 +225,8 @@ module _ {t : List ℕ} {s : State} {st : code.State} {n : Name} {p : List (List
       sort = refl;
       flagged = flags-are;
       before = omega arith;
-      bases = ap basesOf (h .names);
-      inherits = ap (λ (c : Option Def). attributesOf (orNoDef c)) (h .names) ∙ a-base h .bare;
+      bases = ap basesOf (h .leads .base);
+      inherits = ap (λ (c : Option Def). attributesOf (orNoDef c)) (h .leads .base) ∙ a-base h .bare;
       first = h .keeps .held .all-attributes;
       own = refl;
       few = omega arith;
@@ -234,7 +239,7 @@ module _ {t : List ℕ} {s : State} {st : code.State} {n : Name} {p : List (List
         ≡ definitionRow entered = ap (λ (i : List ℕ). row definitionWidth i (st .listing .count + 1)) ex
         ∙ row-written definitionWidth x (definitionRow entered) (st .listing .count + 1) refl (omega arith) in
         rw e (def-row t (book (declare s (def new·))) (known (s .decls)) (attributesIn s) (st .listing .count + 1) new·
-        entered tells (stands-next s n p w (resolved s b) (st .extent .used) (h .keeps .used) none-open))
+        entered tells (stands-next s n p w (resolved s b) (targetIn s w) (st .extent .used) (h .keeps .used) none-open))
 
     chains-are : Chains (known (s .decls) ++ (new· ∷ [])) z₂
     unfolding newDomain
@@ -250,11 +255,11 @@ module _ {t : List ℕ} {s : State} {st : code.State} {n : Name} {p : List (List
         let v = size-bytes in
         let q = ap (λ (i : Size). i .records) counted in
         let g = long in
-        let i = new-length s n p w (resolved s b) in
-        let j = ap length (new-records s n p w (resolved s b)) in
+        let i = new-length s n p w (resolved s b) (targetIn s w) in
+        let j = ap length (new-records s n p w (resolved s b) (targetIn s w)) in
         let k = keeps-declared t s st o x z y hs (h .keeps) new· o₂ x₂ z₂ (headSize + size .bytes)
-        (1 + size .records) 1 none-open (new-own s n p w (resolved s b)) (omega arith) (omega arith)
-        (sym (domain-defined new· (new-sort s n p w (resolved s b)))) book-is
+        (1 + size .records) 1 none-open (new-own s n p w (resolved s b) (targetIn s w)) (omega arith) (omega arith)
+        (sym (domain-defined new· (new-sort s n p w (resolved s b) (targetIn s w)))) book-is
         (rw ex (agree-def x _ (st .listing .count) (omega arith))) row-is chains-are fair in
         subst (λ (i : List ℕ). JudgedAs t
         (Check.room (Check.lent (length o)) (n .offset) (ok (declare s (def new·)))) st r o₂ x₂ z₂ i hs) (sym ey)

@@ -2,7 +2,7 @@
 use mathlib.Core.Path.{_≡_, refl, sym, ap, _∙_}
 use mathlib.Core.Bool.{Bool, true, false, cond}
 use mathlib.Core.Option.{Option, none, some}
-use mathlib.Core.List.{List, [], _∷_, _++_}
+use mathlib.Core.List.{List, [], _∷_, _++_, append-assoc}
 use Prim.Native.Nat.{ℕ, zero, suc, _+_, _-_, _*_, _/_, _%_, _≤_, _<_, _^_}
 use native.Mathlib.Nat.{add-assoc, div-add-mod', mod-lt}
 use native.Mathlib.Omega.{arith}
@@ -12,18 +12,21 @@ use lib.IntN.{ℤ, pos, negsuc, negℤ, predℤ, natAbs, _-ℤ_, +ℤ-idl, -ℤ-
 use mir.Syntax.{w64}
 use mir.Val.{SFits, toZ}
 use mir.Facts.{toZ-pos}
-use lib.Dec.{lit<}
+use lib.Dec.{lit<, eqb, leb}
 use borrow.Author.Tests.{lt-ltb, le-ltb, le-leb}
+use Rattle.rules.specs.Numbers.{Range}
 use Rattle.rules.specs.Enumerations.{final}
-use Rattle.rules.specs.Types.{Ty, text, range, numeric, structure, enum}
-use Rattle.rules.specs.Book.{bit, lowFirst, twos, lengthOr, bytes, typeRecords, openRecord, elementRecords}
+use Rattle.rules.specs.Types.{Measure, Ty, text, numeric, structure, enum}
+use Rattle.rules.specs.Book.{bit, lowFirst, twos, lengthOr, bytes, numberRecord, unitRecords, typeRecords, openRecord}
+use Rattle.rules.specs.Book.{elementRecords}
 use Rattle.rules.specs.Show.{read4}
 use Rattle.numbers.proofs.SignedLaws.{held, Holds, holds}
 use Rattle.book.specs.Places.{Stands}
+use Rattle.book.proofs.StandLaws.{stands-behind}
 use Rattle.rules.specs.All.{AnyIs}
 use Rattle.wellformed.specs.Fairness.{FairLimit, Fair}
-use Rattle.fitting.specs.Values.{Typed}
-use Rattle.fitting.specs.Places.{signedOf, signedAt, textAt, rangeAt, typingAt}
+use Rattle.fitting.specs.Values.{unitNumber, Typed, Numbered}
+use Rattle.fitting.specs.Places.{signedOf, signedAt, textAt, unitAt, rangeAt, typingAt}
 use Rattle.fitting.specs.declared.Typing.{Typing}
 use Rattle.fitting.specs.declared.Typing.the-variants as typing
 
@@ -138,7 +141,8 @@ module _ (b : List ℕ) (i : ℕ) (h : i ≤ length b) where
       rw (le-leb (i + 5) (length b) l, r)
 
   range-there : (d : ℕ) (v w : ℤ) (more : List ℕ) → natAbs v < 10 ^ 18 → natAbs w < 10 ^ 18 →
-      drop i b ≡ (10 ∷ d ∷ (lowFirst 8 (twos v) ++ lowFirst 8 (twos w))) ++ more → rangeAt b i ≡ typing.Range d v w
+      drop i b ≡ (10 ∷ d ∷ (lowFirst 8 (twos v) ++ lowFirst 8 (twos w))) ++ more
+      → rangeAt b i ≡ typing.Range d v w (unitAt b (i + 18))
   unfolding rangeAt
   range-there d v w more s t e =
       let l = long-enough b (10 ∷ d ∷ (lowFirst 8 (twos v) ++ lowFirst 8 (twos w))) more i e h in
@@ -146,6 +150,26 @@ module _ (b : List ℕ) (i : ℕ) (h : i ≤ length b) where
       let y : signedAt b (i + 2) ≡ v = signed-at b _ i 2 e ∙ signed-back v s in
       let z : signedAt b (i + 10) ≡ w = signed-at b _ i 10 e ∙ signed-back w t in
       rw (le-leb (i + 18) (length b) l, x, y, z)
+
+  -- what stands behind a number: its unit, or no record of one
+  unit-there : (u : Option Measure) → AnyIs (λ (x : Measure). x .number < 4294967296) u → Stands b i (unitRecords u)
+      → unitAt b i ≡ unitNumber u
+  unfolding unitAt
+  unit-there none f s =
+      let z : i ≡ i + 0 = omega arith in
+      let k : eqb (getD b i 0) 19 ≡ false =
+      ap (λ (n : ℕ). eqb n 19) (ap (λ (j : ℕ). getD b j 0) z ∙ getD-at b _ i 0 (s .bytes-are)) ∙ s .no-unit in
+      rw k (either (leb (i + 5) (length b)))
+    where
+      either : (x : Bool) → _≡_ {A = ℕ} (cond x 0 0) 0
+      either true = refl
+      either false = refl
+  unit-there (some u) f s =
+      let e : drop i b ≡ (19 ∷ lowFirst 4 (u .number)) ++ s .behind = s .bytes-are in
+      let p = first-byte 19 (lowFirst 4 (u .number)) _ e in
+      let l = long-enough b (19 ∷ lowFirst 4 (u .number)) (s .behind) i e h in
+      let r : read4 b (i + 1) ≡ u .number = read4-at b _ i 1 e ∙ low-four (u .number) f in
+      rw (le-leb (i + 5) (length b) l, p .1, r)
 
 -- ---- types
 limit-low : (n : Option ℕ) → AnyIs FairLimit n → lengthOr n < 4294967296
@@ -165,22 +189,34 @@ module _ (t b : List ℕ) (i : ℕ) where
       let p = first-byte b i (s .within) 8 (lowFirst 4 (lengthOr n)) _ u in
       rw (lt-ltb i (length b) (p .0), p .1) (text-there b i (s .within) 8 (lengthOr n) _ (limit-low n f) u)
 
-  pub typed-here : (x : Ty) (c : Typing) → c ≡ typingAt b i → Fair t x → Stands b i (typeRecords x) → Typed t b x c
+  -- the unit's record behind the number's
+  unit-behind : (r : Option Range) (u : Option Measure) → Numbered (numeric r u)
+      → Stands b i (typeRecords (numeric r u)) → unitAt b (i + length (numberRecord r)) ≡ unitNumber u
+  unit-behind r u g s =
+      let k = stands-behind b i (numberRecord r) (unitRecords u) s in
+      unit-there b (i + length (numberRecord r)) (k .within) u g k
+
+  pub typed-here : (x : Ty) (c : Typing) → c ≡ typingAt b i → Fair t x → Numbered x → Stands b i (typeRecords x)
+      → Typed t b x c
   unfolding typingAt
-  typed-here (text m n) c e f s = e ∙ typed-text m n f s
-  typed-here (range r) c e f s =
+  typed-here (text m n) c e f g s = e ∙ typed-text m n f s
+  typed-here (numeric (some r) u) c e f g s =
+      let d : drop i b ≡ numberRecord (some r) ++ (bytes (unitRecords u) ++ s .behind) =
+      s .bytes-are ∙ append-assoc (numberRecord (some r)) (bytes (unitRecords u)) (s .behind) in
       let p = first-byte b i (s .within) 10
-      (r .decimals ∷ (lowFirst 8 (twos (r .low)) ++ lowFirst 8 (twos (r .high)))) _ (s .bytes-are) in
+      (r .decimals ∷ (lowFirst 8 (twos (r .low)) ++ lowFirst 8 (twos (r .high)))) _ d in
       e ∙ rw (lt-ltb i (length b) (p .0), p .1)
-      (range-there b i (s .within) (r .decimals) (r .low) (r .high) _ (f .1) (f .2) (s .bytes-are))
-  typed-here numeric c e f s =
-      let p = first-byte b i (s .within) 11 [] _ (s .bytes-are) in
-      e ∙ rw (lt-ltb i (length b) (p .0), p .1)
-  typed-here (enum x) c e f s =
+      (range-there b i (s .within) (r .decimals) (r .low) (r .high) _ (f .1) (f .2) d
+      ∙ rw (unit-behind (some r) u g s))
+  typed-here (numeric none u) c e f g s =
+      let p = first-byte b i (s .within) 11 [] _
+      (s .bytes-are ∙ append-assoc (numberRecord none) (bytes (unitRecords u)) (s .behind)) in
+      e ∙ rw (lt-ltb i (length b) (p .0), p .1, unit-behind none u g s)
+  typed-here (enum x) c e f g s =
       let u : drop i b ≡ bytes (openRecord x ∷ elementRecords x) ++ s .behind = s .bytes-are in
       let p = first-byte b i (s .within) 13 (bit (final x) 1 ∷ bytes (elementRecords x)) (s .behind) u in (
         i,
         e ∙ rw (lt-ltb i (length b) (p .0), p .1),
         record { more = s .behind; here = u; named = f .named; deep = f .deep },
       )
-  typed-here structure c e f s = absurd f
+  typed-here structure c e f g s = absurd f

@@ -3,14 +3,16 @@ use mathlib.Core.Path.{_≡_, refl, sym, _∙_}
 use mathlib.Core.Bool.{Bool, true, false, cond, not}
 use mathlib.Core.Option.{Option, none, some}
 use mathlib.Core.List.{List}
-use Prim.Native.Nat.{ℕ, _≤_, _<_, _^_}
+use Prim.Native.Nat.{ℕ, _+_, _≤_, _<_, _^_}
 use native.Mathlib.Omega.{arith}
 use lib.IntN.{ℤ, pos, negsuc, natAbs}
 use lib.Signed.{leZ}
 use lib.Dec.{eqb}
 use borrow.Author.Tests.{ne-eqb}
 use Rattle.rules.specs.Texts.{lengthFits}
-use Rattle.rules.specs.Types.{Ty, text, range, numeric, structure, enum, kindOf, fits}
+use Rattle.rules.specs.Numbers.{Range}
+use Rattle.rules.specs.Types.{Ty, text, numeric, structure, enum, kindOf, unitOf, boundsFit, fits}
+use Rattle.rules.specs.Declarations.{Def, measureIn}
 use Rattle.rules.specs.Book.{lengthOr}
 use Rattle.rules.specs.Judge.{isNumeric}
 use Rattle.rules.proofs.Tests.{never}
@@ -18,31 +20,31 @@ use Rattle.numbers.specs.Bounds.{lowFits, highFits}
 use Rattle.numbers.proofs.SignedLaws.{held, kept}
 use Rattle.numbers.proofs.BoundLaws.{range-is}
 use Rattle.rules.specs.All.{AnyIs}
+use Rattle.names.specs.Index.{entry, row, Says, Known, definitionWidth}
+use Rattle.names.proofs.BaseLaws.{entry-there}
 use Rattle.wellformed.specs.Fairness.{FairLimit, Fair}
-use Rattle.fitting.specs.Values.{Valued, Typed, Sized, FairOrNone}
-use Rattle.fitting.specs.Fitting.{isEnumeration, sortOf, limitFits, rangeFitsBy, isNumericBy, fitsBy}
+use Rattle.fitting.specs.Values.{unitNumber, numberBy, Valued, Typed, Sized, FairOrNone}
+use Rattle.fitting.specs.Fitting.{isEnumeration, unitBy, sortOf, limitFits, rangeFitsBy, isNumericBy, fitsBy}
 use Rattle.fitting.specs.declared.Typing.{Typing}
 use Rattle.fitting.specs.declared.Typing.the-variants as typing
 
 -- ---- values
 pub typed-valued : (t b : List ℕ) (x : Ty) (c : Typing) → Typed t b x c → Valued x c
 typed-valued t b (text m n) c h = h
-typed-valued t b (range r) c h = h
-typed-valued t b numeric c h = h
+typed-valued t b (numeric r u) c h = h
 typed-valued t b (enum e) c h = (h .0, h .1)
 typed-valued t b structure c h = h
 
 pub sized-base : (t : List ℕ) (x : Ty) (c : Typing) → FairOrNone t x → Valued x c → Sized c
 sized-base t (text m n) c f h = rw h tt
-sized-base t (range r) c f h = rw h (f .0, f .1, f .2)
-sized-base t numeric c f h = rw h tt
+sized-base t (numeric none u) c f h = rw h tt
+sized-base t (numeric (some r) u) c f h = rw h (f .0, f .1, f .2)
 sized-base t (enum e) c f h = rw (h .1) tt
 sized-base t structure c f h = rw h tt
 
 pub fair-or-none : (t : List ℕ) (x : Ty) → Fair t x → FairOrNone t x
 fair-or-none t (text m n) h = h
-fair-or-none t (range r) h = h
-fair-or-none t numeric h = h
+fair-or-none t (numeric r u) h = h
 fair-or-none t (enum e) h = h
 fair-or-none t structure h = absurd h
 
@@ -52,11 +54,11 @@ pub held-small : (z : ℤ) → natAbs z < 10 ^ 18 → held z ≡ z
 held-small (pos n) h = kept (pos n) (omega arith)
 held-small (negsuc n) h = kept (negsuc n) (omega arith)
 
-pub sized-range : {c : Typing} (d : ℕ) (l h : ℤ) → Sized c → c ≡ typing.Range d l h
+pub sized-range : {c : Typing} (d : ℕ) (l h : ℤ) (u : ℕ) → Sized c → c ≡ typing.Range d l h u
     → (d ≤ 17) × (natAbs l < 10 ^ 18) × (natAbs h < 10 ^ 18)
-sized-range d l h s e = rw e at s
+sized-range d l h u s e = rw e at s
 
-module _ (d e : ℕ) (l b h c : ℤ) (base : Typing) (k : base ≡ typing.Range e b c) where
+module _ (d e : ℕ) (l b h c : ℤ) (u : ℕ) (base : Typing) (k : base ≡ typing.Range e b c u) where
   pub range-low : {x : Bool} → x ≡ lowFits d e l b → x ≡ false → false ≡ rangeFitsBy d l h base
   range-low p q = rw (k, sym p ∙ q)
 
@@ -66,10 +68,17 @@ module _ (d e : ℕ) (l b h c : ℤ) (base : Typing) (k : base ≡ typing.Range 
 -- ---- kinds
 pub numeric-valued : (y : Ty) (c : Typing) → Valued y c → isNumericBy c ≡ isNumeric y
 numeric-valued (text m n) c v = rw v
-numeric-valued (range r) c v = rw v
-numeric-valued numeric c v = rw v
+numeric-valued (numeric none u) c v = rw v
+numeric-valued (numeric (some r) u) c v = rw v
 numeric-valued (enum e) c v = rw (v .1)
 numeric-valued structure c v = rw v
+
+pub unit-valued : (y : Ty) (c : Typing) → Valued y c → unitBy c ≡ unitNumber (unitOf y)
+unit-valued (text m n) c v = rw v
+unit-valued (numeric none u) c v = rw v
+unit-valued (numeric (some r) u) c v = rw v
+unit-valued (enum e) c v = rw (v .1)
+unit-valued structure c v = rw v
 
 sort-text : (m : Bool) → _≡_ {A = ℕ} (cond (eqb (cond m 9 8) 9) 2 1) (cond m 2 1)
 sort-text true = refl
@@ -77,8 +86,8 @@ sort-text false = refl
 
 pub sort-valued : (y : Ty) (c : Typing) → Valued y c → sortOf c ≡ kindOf y
 sort-valued (text m n) c v = rw v (sort-text m)
-sort-valued (range r) c v = rw v
-sort-valued numeric c v = rw v
+sort-valued (numeric none u) c v = rw v
+sort-valued (numeric (some r) u) c v = rw v
 sort-valued (enum e) c v = rw (v .1)
 sort-valued structure c v = rw v
 
@@ -86,8 +95,7 @@ sort-valued structure c v = rw v
 -- no text of length 0, which would have the value of one without, and no range whose first bound is the greater
 abbrev pub Told : Ty → Type 0
 Told (text m n) = AnyIs (λ (k : ℕ). 0 < k) n
-Told (range r) = leZ (r .low) (r .high) ≡ true
-Told numeric = Unit {0}
+Told (numeric r u) = AnyIs (λ (q : Range). leZ (q .low) (q .high) ≡ true) r
 Told (enum e) = Unit {0}
 Told structure = Unit {0}
 
@@ -97,8 +105,8 @@ limit-told (some n) f = f .0
 
 pub fair-told : (t : List ℕ) (x : Ty) → FairOrNone t x → Told x
 fair-told t (text m n) f = limit-told n f
-fair-told t (range r) f = f .3
-fair-told t numeric f = tt
+fair-told t (numeric none u) f = tt
+fair-told t (numeric (some r) u) f = f .3
 fair-told t (enum e) f = tt
 fair-told t structure f = tt
 
@@ -123,23 +131,35 @@ pub text-fits : (m : Bool) (n : Option ℕ) (b : Ty) (d : Typing) → AnyIs (λ 
     → kindOf (text m n) ≡ kindOf b
     → fitsBy (typing.Text (cond m 9 8) (lengthOr n)) d ≡ fits (text m n) b
 text-fits m n (text k l) d f g u e = rw (u, same-kind m k e) (limits n l f g)
-text-fits m n (range r) d f g u e = no-text m 3 (omega arith) e
-text-fits m n numeric d f g u e = no-text m 3 (omega arith) e
+text-fits m n (numeric r w) d f g u e = no-text m 3 (omega arith) e
 text-fits m n (enum b) d f g u e = no-text m 4 (omega arith) e
 text-fits m n structure d f g u e = no-text m 5 (omega arith) e
 
 pub fits-valued : (x b : Ty) (c d : Typing) → Told x → Told b → isEnumeration c ≡ false → Valued x c → Valued b d
     → kindOf x ≡ kindOf b → fitsBy c d ≡ fits x b
 fits-valued (text m n) b c d f g h v u e = rw v (text-fits m n b d f g u e)
-fits-valued (range r) (text k l) c d f g h v u e = no-text k 3 (omega arith) (sym e)
-fits-valued (range r) (range q) c d f g h v u e = rw (v, u) (sym (range-is r q f))
-fits-valued (range r) numeric c d f g h v u e = rw (v, u)
-fits-valued (range r) (enum b) c d f g h v u e = absurd (omega arith)
-fits-valued (range r) structure c d f g h v u e = absurd (omega arith)
-fits-valued numeric (text k l) c d f g h v u e = no-text k 3 (omega arith) (sym e)
-fits-valued numeric (range q) c d f g h v u e = rw (v, u)
-fits-valued numeric numeric c d f g h v u e = rw (v, u)
-fits-valued numeric (enum b) c d f g h v u e = absurd (omega arith)
-fits-valued numeric structure c d f g h v u e = absurd (omega arith)
+fits-valued (numeric r w) (text k l) c d f g h v u e = no-text k 3 (omega arith) (sym e)
+fits-valued (numeric r w) (numeric q x) c d f g h v u e = rw (v, u) (bounds-fit r q f)
+  where
+    bounds-fit : (r q : Option Range) → AnyIs (λ (k : Range). leZ (k .low) (k .high) ≡ true) r
+        → fitsBy (numberBy r w) (numberBy q x) ≡ boundsFit r q
+    bounds-fit none none f = refl
+    bounds-fit none (some q) f = refl
+    bounds-fit (some r) none f = refl
+    bounds-fit (some r) (some q) f = sym (range-is r q f)
+fits-valued (numeric r w) (enum b) c d f g h v u e = absurd (omega arith)
+fits-valued (numeric r w) structure c d f g h v u e = absurd (omega arith)
 fits-valued (enum x) b c d f g h v u e = never (sym (rw (v .1) at h))
 fits-valued structure b c d f g h v u e = rw v
+
+-- ---- the unit at a position
+pub no-unit : (ks : List Def) (p : ℕ) → p ≡ 0 → 0 ≡ unitNumber (measureIn (entry ks p))
+no-unit ks p e = rw e
+
+pub unit-there : (t : List ℕ) (ks : List Def) (x : List ℕ) (count p : ℕ) → p ≤ count → Known t ks x count
+    → ¬ (p ≡ 0) → (m : ℕ) → ((u : List ℕ) (d : Def) → Says u d (row definitionWidth x p) → m ≡ d .number)
+    → m + 1 ≡ unitNumber (measureIn (entry ks p))
+unit-there t ks x count p l k z m e =
+    let n = k .all in
+    let (d, q) = entry-there ks p (omega arith) (omega arith) in
+    rw (q, e t d (k .says p d q))

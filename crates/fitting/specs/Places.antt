@@ -20,15 +20,21 @@ signedAt b i = signedOf (read4 b i) (read4 b (i + 4))
 unfoldable pub textAt : ℕ → List ℕ → ℕ → Typing
 textAt k b i = cond (leb (i + 5) (length b)) (Text k (read4 b (i + 1))) Structure
 
+-- the unit of a number whose record ends at the place i: 0 for none, else one more than its record number
+unfoldable pub unitAt : List ℕ → ℕ → ℕ
+unitAt b i = cond (leb (i + 5) (length b)) (cond (eqb (getD b i 0) 19) (read4 b (i + 1) + 1) 0) 0
+
 unfoldable pub rangeAt : List ℕ → ℕ → Typing
 rangeAt b i =
-    cond (leb (i + 18) (length b)) (Range (getD b (i + 1) 0) (signedAt b (i + 2)) (signedAt b (i + 10))) Structure
+    cond (leb (i + 18) (length b))
+    (Range (getD b (i + 1) 0) (signedAt b (i + 2)) (signedAt b (i + 10)) (unitAt b (i + 18))) Structure
 
 abbrev pub typingBy : ℕ → List ℕ → ℕ → Typing
 typingBy k b i =
     cond (eqb k 8) (textAt 8 b i)
     (cond (eqb k 9) (textAt 9 b i)
-    (cond (eqb k 10) (rangeAt b i) (cond (eqb k 11) Numeric (cond (eqb k 13) (Enumeration i) Structure))))
+    (cond (eqb k 10) (rangeAt b i)
+    (cond (eqb k 11) (Numeric (unitAt b (i + 1))) (cond (eqb k 13) (Enumeration i) Structure))))
 
 unfoldable pub typingAt : List ℕ → ℕ → Typing
 typingAt b i = cond (ltb i (length b)) (typingBy (getD b i 0) b i) Structure

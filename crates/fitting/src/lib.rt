@@ -1,4 +1,4 @@
-// Types by value: read from the book, and held against each other.
+// Types by value, a number with its unit: read from the book, and held against each other.
 pub mod reading;
 
 use crate::reading::typing_at;
@@ -11,27 +11,41 @@ ghost use lib.IntN.{natAbs};
 ghost use lib.Dec.{eqb};
 ghost use Rattle.rules.specs.Types.{Ty, kindOf};
 ghost use Rattle.rules.specs.Book.{Record, typeRecords};
-ghost use Rattle.rules.specs.Judge.{isNumeric};
+ghost use Rattle.rules.specs.Declarations.{Def, measureIn};
+ghost use Rattle.names.specs.Index.{entry, Rows, Known};
 ghost use Rattle.book.specs.Places.{Stands};
 ghost use Rattle.book.specs.Sizes.{headSize};
 ghost use Rattle.wellformed.specs.Fairness.{Fair};
-ghost use Rattle.fitting.specs.Values.{Valued, Typed, Sized};
+ghost use Rattle.fitting.specs.Values.{unitNumber, Valued, Typed, Sized, Numbered};
 ghost use Rattle.fitting.specs.Fitting.{isEnumeration, placeIn, sortOf, limitFits, textFitsBy, rangeFitsBy};
-ghost use Rattle.fitting.specs.Fitting.{isNumericBy, fitsBy};
+ghost use Rattle.fitting.specs.Fitting.{isNumericBy, unitBy, fitsBy};
 
-// A text type by the kind of its record, 0 for no length; an enumeration by the place of its records in the book.
+// A text type by the kind of its record, 0 for no length; an enumeration by the place of its records in the book; a
+// number's unit is 0 for none, else one more than its record number.
 pub enum Typing {
-    Text { kind: u8, length: u64 },
-    Range { decimals: u64, low: i64, high: i64 },
-    Numeric,
-    Enumeration { place: usize },
+    Text {
+        kind: u8,
+        length: u64,
+    },
+    Range {
+        decimals: u64,
+        low: i64,
+        high: i64,
+        unit: usize,
+    },
+    Numeric {
+        unit: usize,
+    },
+    Enumeration {
+        place: usize,
+    },
     Structure,
 }
 
 // The type whose records stand behind the head at a place.
 pub fn type_behind(book: &[u8], head: usize) -> Typing
     requires { ⌜ head < 65536 ⌝ }
-    ensures { λ r. ⌜ ((t : List ℕ) (h : Record) (x : Ty) → length h ≡ headSize → Fair t x
+    ensures { λ r. ⌜ ((t : List ℕ) (h : Record) (x : Ty) → length h ≡ headSize → Fair t x → Numbered x
         → Stands (now (book .entry)) head (h ∷ typeRecords x)
         → Typed t (now (book .entry)) x r) ⌝ }
 {
@@ -44,7 +58,7 @@ pub fn is_enumeration(x: Typing) -> bool
     match x {
         Typing::Text { .. } => false,
         Typing::Range { .. } => false,
-        Typing::Numeric => false,
+        Typing::Numeric { .. } => false,
         Typing::Enumeration { .. } => true,
         Typing::Structure => false,
     }
@@ -57,29 +71,48 @@ pub fn place_of(x: Typing) -> usize
     match x {
         Typing::Text { .. } => 0,
         Typing::Range { .. } => 0,
-        Typing::Numeric => 0,
+        Typing::Numeric { .. } => 0,
         Typing::Enumeration { place } => place,
         Typing::Structure => 0,
     }
 }
 
-fn numeric(x: Typing) -> bool
+// NUMERIC; a range is no such type.
+pub fn is_numeric(x: Typing) -> bool
     ensures { λ r. ⌜ r ≡ isNumericBy x ⌝ }
 {
     match x {
         Typing::Text { .. } => false,
         Typing::Range { .. } => false,
-        Typing::Numeric => true,
+        Typing::Numeric { .. } => true,
         Typing::Enumeration { .. } => false,
         Typing::Structure => false,
     }
 }
 
-// NUMERIC; a range is no such type.
-pub fn is_numeric(x: Typing) -> bool
-    ensures { λ r. ⌜ ((y : Ty) → Valued y x → r ≡ isNumeric y) ⌝ }
+// The unit of a number: 0 for none, else one more than its record number.
+pub fn unit_of(x: Typing) -> usize
+    ensures { λ r. ⌜ r ≡ unitBy x ⌝ }
 {
-    numeric(x)
+    match x {
+        Typing::Text { .. } => 0,
+        Typing::Range { unit, .. } => unit,
+        Typing::Numeric { unit } => unit,
+        Typing::Enumeration { .. } => 0,
+        Typing::Structure => 0,
+    }
+}
+
+// The unit at a position of the index, as a type by value has it: 0 for none.
+pub fn unit_number(index: &[u16], unit: usize) -> usize
+    requires { ⌜ Rows (now index) unit ⌝ }
+    ensures { λ r. ⌜ ((t : List ℕ) (ks : List Def) (count : ℕ) → unit ≤ count → Known t ks (now (index .entry)) count
+        → r ≡ unitNumber (measureIn (entry ks unit))) ⌝ }
+{
+    if unit == 0 {
+        return 0;
+    }
+    names::number_of(index, unit) + 1
 }
 
 // TEXT, MTEXT, number, enumeration, structure.
@@ -94,7 +127,7 @@ fn sort_of(x: Typing) -> u8
             1
         }
         Typing::Range { .. } => 3,
-        Typing::Numeric => 3,
+        Typing::Numeric { .. } => 3,
         Typing::Enumeration { .. } => 4,
         Typing::Structure => 5,
     }
@@ -126,7 +159,7 @@ fn text_fits(own: u64, base: Typing) -> bool
     match base {
         Typing::Text { length, .. } => limit_fits(own, length),
         Typing::Range { .. } => true,
-        Typing::Numeric => true,
+        Typing::Numeric { .. } => true,
         Typing::Enumeration { .. } => true,
         Typing::Structure => true,
     }
@@ -143,13 +176,14 @@ fn range_fits(own_decimals: u64, own_low: i64, own_high: i64, base: Typing) -> b
             decimals,
             low,
             high,
+            ..
         } => {
             if numbers::low_fits(own_decimals, decimals, own_low, low) {
                 return numbers::high_fits(own_decimals, decimals, own_high, high);
             }
             false
         }
-        Typing::Numeric => true,
+        Typing::Numeric { .. } => true,
         Typing::Enumeration { .. } => true,
         Typing::Structure => true,
     }
@@ -166,8 +200,9 @@ pub fn fits(own: Typing, base: Typing) -> bool
             decimals,
             low,
             high,
+            ..
         } => range_fits(decimals, low, high, base),
-        Typing::Numeric => numeric(base),
+        Typing::Numeric { .. } => is_numeric(base),
         Typing::Enumeration { .. } => true,
         Typing::Structure => true,
     }

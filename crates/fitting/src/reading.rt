@@ -2,9 +2,10 @@
 ghost use mathlib.Core.Path.{_≡_};
 ghost use Prim.Native.Nat.{_+_, _≤_};
 ghost use lib.ListN.{length};
-ghost use Rattle.fitting.specs.Places.{signedOf, signedAt, textAt, rangeAt, typingAt};
+ghost use Rattle.fitting.specs.Places.{signedOf, signedAt, textAt, unitAt, rangeAt, typingAt};
 use crate::Typing;
 use book::LENGTH_SIZE;
+use book::NUMERIC_SIZE;
 use book::RANGE_SIZE;
 use ground::get4;
 use ground::wide;
@@ -43,6 +44,19 @@ fn text_at(kind: u8, book: &[u8], at: usize) -> Typing
     Typing::Structure
 }
 
+// The unit of a number whose record ends at a place: 0 for none, else one more than its record number.
+fn unit_at(book: &[u8], at: usize) -> usize
+    requires { ⌜ at ≤ length (now book) ⌝ }
+    ensures { λ r. ⌜ r ≡ unitAt (now (book .entry)) at ⌝ }
+{
+    if at + LENGTH_SIZE <= book.len() {
+        if book[at] == 19 {
+            return wide4(get4(book, at + 1)) + 1;
+        }
+    }
+    0
+}
+
 fn range_at(book: &[u8], at: usize) -> Typing
     requires { ⌜ at ≤ length (now book) ⌝ }
     ensures { λ r. ⌜ r ≡ rangeAt (now (book .entry)) at ⌝ }
@@ -52,6 +66,7 @@ fn range_at(book: &[u8], at: usize) -> Typing
             decimals: wide(book[at + 1]) as u64,
             low: signed_at(book, at + 2),
             high: signed_at(book, at + 10),
+            unit: unit_at(book, at + RANGE_SIZE),
         };
     }
     Typing::Structure
@@ -75,7 +90,9 @@ pub fn typing_at(book: &[u8], at: usize) -> Typing
         return range_at(book, at);
     }
     if k == 11 {
-        return Typing::Numeric;
+        return Typing::Numeric {
+            unit: unit_at(book, at + NUMERIC_SIZE),
+        };
     }
     if k == 13 {
         return Typing::Enumeration { place: at };

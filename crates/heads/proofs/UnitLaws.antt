@@ -219,7 +219,7 @@ topic-declared t s st o x z y hs k n m em h c v o' ev eo w x' ex wx y' ey z' ch 
     let dr : DefRow t (book s') (known (s .decls)) (attributesIn s) (st .listing .count + 1) d
     (definitionRow (topicDefinition st m)) =
     def-row t (book s') (known (s .decls)) (attributesIn s) (st .listing .count + 1) d (topicDefinition st m) tl
-    (rw (bk, k .used) (stands-new (book s) (nameRecord 2 n ∷ []) [])) in
+    (rw (bk, k .used) (stands-new (book s) (nameRecord 2 n ∷ []) [] refl)) in
     let rw' : row definitionWidth x' (st .listing .count + 1)
     ≡ definitionRow (topicDefinition st m) = rw ex (row-written definitionWidth x (definitionRow (topicDefinition st m))
     (st .listing .count + 1) refl (omega arith)) in
@@ -232,6 +232,8 @@ topic-declared t s st o x z y hs k n m em h c v o' ev eo w x' ex wx y' ey z' ch 
       open-names = tt;
       decls = f .decls;
       topic = k .fair .topic;
+      rising = f .rising;
+      open-behind = tt;
     }) in
     let nu = k .numbered in
     let i = keeps-in t s' (declaredBy st topicSize 1 0) o' x' z' y hs g (some d) m (st .extent .records + 1) refl

@@ -13,11 +13,12 @@ use Rattle.rules.specs.Units.{classSort}
 use Rattle.rules.specs.Declarations.{State}
 use Rattle.ground.specs.declared.Name.{Name}
 use Rattle.units.specs.declared.ModelHead.{ModelHead}
-use Rattle.units.specs.declared.ClassHead.{ClassHead}
+use Rattle.units.specs.declared.Head.{Head}
 use Rattle.units.specs.declared.DomainUnit.{DomainUnit}
 use Rattle.units.specs.declared.AttributeUnit.{AttributeUnit}
 use Rattle.units.specs.declared.Unit as code
-use Rattle.units.specs.declared.Unit.the-variants.{Header, Model, Topic, Class, Domain, Attribute, Close, Mark}
+use Rattle.units.specs.declared.Unit.the-variants.{Header, Model, Topic, Class, Domain, Attribute, Measure}
+use Rattle.units.specs.declared.Unit.the-variants.{Close, Mark}
 use Rattle.state.specs.Keeping.{Comes}
 use Rattle.judge.specs.Judging.{ComesAny}
 
@@ -27,12 +28,15 @@ data Case (t : List ℕ) (s : State) (rs : List ℕ) : Option U.Unit → code.Un
   model : {n : R.Name} {q : U.Strings} {h : ModelHead} → Comes t s (U.model n q) (Model h) rs
       → Case t s rs (some (U.model n q)) (Model h)
   topic : {n : R.Name} {m : Name} → Comes t s (U.topic n) (Topic m) rs → Case t s rs (some (U.topic n)) (Topic m)
-  class : (k : Bool) {n : R.Name} {p : List (List ℕ)} {b : Option G.Reference} {h : ClassHead} → Comes t s
+  class : (k : Bool) {n : R.Name} {p : List (List ℕ)} {b : Option G.Reference} {h : Head} → Comes t s
       (U.class (classSort k) n p b) (Class h) rs → Case t s rs (some (U.class (classSort k) n p b)) (Class h)
   domain : {n : R.Name} {p : List (List ℕ)} {b : Option G.Reference} {w : G.Written} {d : DomainUnit}
       → Comes t s (U.domain n p b w) (Domain d) rs → Case t s rs (some (U.domain n p b w)) (Domain d)
   attribute : {n : R.Name} {p : List (List ℕ)} {w : G.Written} {a : AttributeUnit}
       → Comes t s (U.attribute n p w) (Attribute a) rs → Case t s rs (some (U.attribute n p w)) (Attribute a)
+  measure : {n : R.Name} {p : List (List ℕ)} {b : Option G.Reference} {h : Head}
+      → Comes t s (U.unit n p b) (Measure h) rs
+      → Case t s rs (some (U.unit n p b)) (Measure h)
   close : {n : R.Name} {m : Name} → Comes t s (U.close n) (Close m) rs → Case t s rs (some (U.close n)) (Close m)
   mark : Case t s rs none Mark
 
@@ -52,12 +56,13 @@ module _ {t : List ℕ} {s : State} {rs : List ℕ} where
       let (k, e, f) = c .is in
       of-sort k e f (subst (λ (x : Sort). Comes t s (U.class x n p b) u rs) e c)
     where
-      of-sort : (k : Bool) → d ≡ classSort k → {h : ClassHead} → u ≡ Class h
+      of-sort : (k : Bool) → d ≡ classSort k → {h : Head} → u ≡ Class h
           → Comes t s (U.class (classSort k) n p b) u rs → Case t s rs (some (U.class d n p b)) u
       of-sort k e f x = subst (λ (y : Sort). Case t s rs (some (U.class y n p b)) u) (sym e)
           (is-case _ _ f (class k (comes-as _ f x)))
   cases (some (U.domain n p b w)) u c = is-case _ _ (c .is .0) (domain (comes-as _ (c .is .0) c))
   cases (some (U.attribute n p w)) u c = is-case _ _ (c .is .0) (attribute (comes-as _ (c .is .0) c))
+  cases (some (U.unit n p b)) u c = is-case _ _ (c .is) (measure (comes-as _ (c .is) c))
   cases (some (U.close n)) u c = is-case _ _ (c .is) (close (comes-as _ (c .is) c))
 
   -- ---- what holds of each unit that the code may have read holds of the unit
@@ -86,7 +91,7 @@ module _ {t : List ℕ} {s : State} {rs : List ℕ} where
         go : (v : Option U.Unit) → Case t s rs v (Topic m) → P v
         go v (topic {n} h) = f n h
 
-    pub by-class : {d : ClassHead} → u ≡ Class d →
+    pub by-class : {d : Head} → u ≡ Class d →
         ((k : Bool) (n : R.Name) (p : List (List ℕ)) (b : Option G.Reference)
         → Comes t s (U.class (classSort k) n p b) (Class d) rs → P (some (U.class (classSort k) n p b))) → P v
     by-class {d} e f = go v (at (Class d) e)
@@ -110,6 +115,14 @@ module _ {t : List ℕ} {s : State} {rs : List ℕ} where
         go : (v : Option U.Unit) → Case t s rs v (Attribute a) → P v
         go v (attribute {n} {p} {w} h) = f n p w h
 
+    pub by-measure : {d : Head} → u ≡ Measure d →
+        ((n : R.Name) (p : List (List ℕ)) (b : Option G.Reference) → Comes t s (U.unit n p b) (Measure d) rs
+        → P (some (U.unit n p b))) → P v
+    by-measure {d} e f = go v (at (Measure d) e)
+      where
+        go : (v : Option U.Unit) → Case t s rs v (Measure d) → P v
+        go v (measure {n} {p} {b} h) = f n p b h
+
     pub by-close : {m : Name} → u ≡ Close m
         → ((n : R.Name) → Comes t s (U.close n) (Close m) rs → P (some (U.close n))) → P v
     by-close {m} e f = go v (at (Close m) e)
@@ -129,7 +142,7 @@ module _ {t : List ℕ} {s : State} {rs : List ℕ} where
     pub a-topic : {m : Name} → u ≡ Topic m → (n : R.Name) × Comes t s (U.topic n) (Topic m) rs
     a-topic {m} e = by-topic (λ _. (n : R.Name) × Comes t s (U.topic n) (Topic m) rs) v c e (λ n h. (n, h))
 
-    pub a-class : {d : ClassHead} → u ≡ Class d → (k : Bool) × (n : R.Name) × (p : List (List ℕ))
+    pub a-class : {d : Head} → u ≡ Class d → (k : Bool) × (n : R.Name) × (p : List (List ℕ))
         × (b : Option G.Reference) × Comes t s (U.class (classSort k) n p b) (Class d) rs
     a-class {d} e =
         by-class (λ _. (k : Bool) × (n : R.Name) × (p : List (List ℕ)) × (b : Option G.Reference)
@@ -146,6 +159,12 @@ module _ {t : List ℕ} {s : State} {rs : List ℕ} where
     an-attribute {a} e = by-attribute
         (λ _. (n : R.Name) × (p : List (List ℕ)) × (w : G.Written) × Comes t s (U.attribute n p w) (Attribute a) rs)
         v c e (λ n p w h. (n, p, w, h))
+
+    pub a-measure : {d : Head} → u ≡ Measure d
+        → (n : R.Name) × (p : List (List ℕ)) × (b : Option G.Reference) × Comes t s (U.unit n p b) (Measure d) rs
+    a-measure {d} e = by-measure
+        (λ _. (n : R.Name) × (p : List (List ℕ)) × (b : Option G.Reference) × Comes t s (U.unit n p b) (Measure d) rs)
+        v c e (λ n p b h. (n, p, b, h))
 
     pub a-close : {m : Name} → u ≡ Close m → (n : R.Name) × Comes t s (U.close n) (Close m) rs
     a-close {m} e = by-close (λ _. (n : R.Name) × Comes t s (U.close n) (Close m) rs) v c e (λ n h. (n, h))

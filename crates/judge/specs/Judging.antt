@@ -12,7 +12,7 @@ use Rattle.state.specs.declared.State as code
 use Rattle.state.specs.declared.Judged.{Judged}
 use Rattle.state.specs.Keeping.{Answered, Comes}
 
--- DOMAIN, ATTRIBUTE and the end of the text are marks
+-- DOMAIN, UNIT, ATTRIBUTE and the end of the text are marks
 abbrev pub ComesAny : List ℕ → State → Option U.Unit → Unit → List ℕ → Type 0
 ComesAny t s none u rs = u ≡ Mark
 ComesAny t s (some v) u rs = Comes t s v u rs

@@ -1,4 +1,4 @@
-// Judging a unit: 4 by count and 7 to 19, and its records.
+// Judging a unit: 4 by count, 7 to 19 and 22, and its records.
 use state::Judged;
 use state::State;
 use units::Unit;
@@ -43,6 +43,7 @@ pub fn judge(
         Unit::Attribute(a) => {
             attributes::judge_attribute(text, book, work, hand, scratch, tables, st, a)
         }
+        Unit::Measure(head) => classes::judge_unit(text, book, work, st, head),
         Unit::Close(name) => heads::judge_close(text, book, work, st, name),
         Unit::Mark => Judged::Fine(st),
     }

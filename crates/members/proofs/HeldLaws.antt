@@ -18,6 +18,7 @@ use Rattle.members.specs.Members.{Owns, Indexed, attributeWidth}
 use Rattle.members.specs.Held.{useFor, DefRow, AttributeRow, Held}
 use Rattle.names.proofs.IndexLaws.{nth-within, nth-last, entry-keep, entry-within}
 use Rattle.names.proofs.BaseLaws.{entry-there}
+use Rattle.book.specs.Places.{NoUnit}
 use Rattle.book.proofs.StandLaws.{stands-more}
 
 -- ---- what lookups and filling need
@@ -53,20 +54,20 @@ module _ (ks es : List Def) (ms ns : List Attribute) where
         few = h .few;
       }
 
-  pub def-row-more : (t b v : List ℕ) (p : ℕ) (d : Def) (r : List ℕ) → p ≤ length ks + 1 → DefRow t b ks ms p d r
-      → DefRow t (b ++ v) (ks ++ es) (ms ++ ns) p d r
-  def-row-more t b v p d r w h = record {
+  pub def-row-more : (t b v : List ℕ) (p : ℕ) (d : Def) (r : List ℕ) → NoUnit v → p ≤ length ks + 1
+      → DefRow t b ks ms p d r → DefRow t (b ++ v) (ks ++ es) (ms ++ ns) p d r
+  def-row-more t b v p d r nu w h = record {
     says = h .says;
     based = based-more p d r w (h .based);
     owns = owns-more d r (h .owns);
-    stands = stands-more b v _ _ (h .stands);
+    stands = stands-more b v _ _ nu (h .stands);
   }
 
-  pub attribute-row-more : (t b v : List ℕ) (a : Attribute) (r : List ℕ) → AttributeRow t b ks a r
+  pub attribute-row-more : (t b v : List ℕ) (a : Attribute) (r : List ℕ) → NoUnit v → AttributeRow t b ks a r
       → AttributeRow t (b ++ v) (ks ++ es) a r
-  attribute-row-more t b v a r h = record {
+  attribute-row-more t b v a r nu h = record {
     tells = h .tells;
-    stands = stands-more b v _ _ (h .stands);
+    stands = stands-more b v _ _ nu (h .stands);
     use-known = let l = length-append ks es in let k = h .use-known in omega arith;
     uses = rw (entry-keep ks es (getD r 5 0) (h .use-known)) (h .uses);
   }
@@ -123,7 +124,7 @@ row-last x p v =
 
 -- the master law: es, ns and v are what is new
 pub grow : (t b v : List ℕ) (ks es : List Def) (ms ns : List Attribute) (x x' : List ℕ) (count count' : ℕ)
-    (y y' : List ℕ) (total total' : ℕ)
+    (y y' : List ℕ) (total total' : ℕ) → NoUnit v
     → Held t b ks ms x count y total → Agree definitionWidth x x' count → Agree attributeWidth y y' total
     → count' ≡ length (ks ++ es) → total' ≡ length (ms ++ ns)
     → ((p : ℕ) (d : Def) → count < p → entry (ks ++ es) p ≡ some d
@@ -131,7 +132,7 @@ pub grow : (t b v : List ℕ) (ks es : List Def) (ms ns : List Attribute) (x x' 
     → ((q : ℕ) (a : Attribute) → total < q → entry (ms ++ ns) q ≡ some a
     → AttributeRow t (b ++ v) (ks ++ es) a (row attributeWidth y' q))
     → Held t (b ++ v) (ks ++ es) (ms ++ ns) x' count' y' total'
-grow t b v ks es ms ns x x' count count' y y' total total' h ax ay ec et nd na = record {
+grow t b v ks es ms ns x x' count count' y y' total total' nu h ax ay ec et nd na = record {
   all-defs = ec;
   all-attributes = et;
   def-rows = λ p d e. def p d e (side p count);
@@ -150,7 +151,7 @@ grow t b v ks es ms ns x x' count count' y y' total total' h ax ay ec et nd na =
     def p d e (inl w) =
         let c = h .all-defs in
         let o : entry ks p ≡ some d = sym (entry-keep ks es p (omega arith)) ∙ e in
-        rw (ax p w) (def-row-more ks es ms ns t b v p d (row definitionWidth x p) (omega arith) (h .def-rows p d o))
+        rw (ax p w) (def-row-more ks es ms ns t b v p d (row definitionWidth x p) nu (omega arith) (h .def-rows p d o))
     def p d e (inr w) = nd p d w e
 
     att : (q : ℕ) (a : Attribute) → entry (ms ++ ns) q ≡ some a → (q ≤ total) ⊎ (total < q)
@@ -158,7 +159,7 @@ grow t b v ks es ms ns x x' count count' y y' total total' h ax ay ec et nd na =
     att q a e (inl w) =
         let c = h .all-attributes in
         let o : entry ms q ≡ some a = sym (entry-keep ms ns q (omega arith)) ∙ e in
-        rw (ay q w) (attribute-row-more ks es ms ns t b v a (row attributeWidth y q) (h .attribute-rows q a o))
+        rw (ay q w) (attribute-row-more ks es ms ns t b v a (row attributeWidth y q) nu (h .attribute-rows q a o))
     att q a e (inr w) = na q a w e
 
 -- ---- one more definition, whose row r stands behind the last
@@ -173,14 +174,15 @@ none-behind l p b w e =
     let q : entry l p ≡ some b = rw (append-nil l) at e in
     let v = entry-within l p b q in omega arith
 
-module _ (t b v : List ℕ) (ks : List Def) (ms : List Attribute) (x : List ℕ) (count : ℕ) (y : List ℕ) (total : ℕ)
-    (h : Held t b ks ms x count y total) (x' : List ℕ) (ax : Agree definitionWidth x x' count) where
+module _ (t b v : List ℕ) (nu : NoUnit v) (ks : List Def) (ms : List Attribute) (x : List ℕ) (count : ℕ)
+    (y : List ℕ) (total : ℕ) (h : Held t b ks ms x count y total) (x' : List ℕ)
+    (ax : Agree definitionWidth x x' count) where
   -- the book is longer, or rows are written behind the last
   pub held-on : Held t (b ++ v) ks ms x' count y total
   held-on =
       let a = h .all-defs in
       let c = h .all-attributes in
-      let g = grow t b v ks [] ms [] x x' count count y y total total h ax (agree-all 6 y total)
+      let g = grow t b v ks [] ms [] x x' count count y y total total nu h ax (agree-all 6 y total)
       (rw (append-nil ks) a) (rw (append-nil ms) c)
       (λ p d w e. absurd (none-behind ks p d (omega arith) e))
       (λ q z w e. absurd (none-behind ms q z (omega arith) e)) in
@@ -192,26 +194,28 @@ module _ (t b v : List ℕ) (ks : List Def) (ms : List Attribute) (x : List ℕ)
       let a = h .all-defs in
       let c = h .all-attributes in
       let l = length-append ks (d ∷ []) in
-      let g = grow t b v ks (d ∷ []) ms [] x x' count (count + 1) y y total total h ax (agree-all 6 y total)
+      let g = grow t b v ks (d ∷ []) ms [] x x' count (count + 1) y y total total nu h ax (agree-all 6 y total)
       (omega arith) (rw (append-nil ms) c)
       (λ p e w u.
       let (i, j) = only-last ks d p e (omega arith) u in
       let i' : p ≡ count + 1 = omega arith in
       rw (i', ← j, ← append-nil (b ++ v))
-      (def-row-more ks (d ∷ []) ms [] t (b ++ v) [] (count + 1) d (row definitionWidth x' (count + 1)) (omega arith) r))
+      (def-row-more ks (d ∷ []) ms [] t (b ++ v) [] (count + 1) d
+      (row definitionWidth x' (count + 1)) refl (omega arith) r))
       (λ q z w e. absurd (none-behind ms q z (omega arith) e)) in
       rw (append-nil ms) at g
 
 -- ---- one more attribute
-pub held-attribute : (t b v : List ℕ) (ks : List Def) (ms : List Attribute) (x : List ℕ) (count : ℕ) (y : List ℕ)
+pub held-attribute : (t b v : List ℕ) → NoUnit v
+    → (ks : List Def) (ms : List Attribute) (x : List ℕ) (count : ℕ) (y : List ℕ)
     (total : ℕ) → Held t b ks ms x count y total → (y' : List ℕ) → Agree attributeWidth y y' total
     → (a : Attribute) → AttributeRow t (b ++ v) ks a (row attributeWidth y' (total + 1))
     → Held t (b ++ v) ks (ms ++ (a ∷ [])) x count y' (total + 1)
-held-attribute t b v ks ms x count y total h y' ay a r =
+held-attribute t b v nu ks ms x count y total h y' ay a r =
     let c = h .all-defs in
     let d = h .all-attributes in
     let l = length-append ms (a ∷ []) in
-    let g = grow t b v ks [] ms (a ∷ []) x x count count y y' total (total + 1) h (agree-all 10 x count) ay
+    let g = grow t b v ks [] ms (a ∷ []) x x count count y y' total (total + 1) nu h (agree-all 10 x count) ay
     (rw (append-nil ks) c) (omega arith)
     (λ p e w u. absurd (none-behind ks p e (omega arith) u))
     (λ q z w u.

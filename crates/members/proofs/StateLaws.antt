@@ -14,7 +14,8 @@ use Rattle.rules.specs.Bytes.{same}
 use Rattle.rules.specs.Names.{Name}
 use Rattle.rules.specs.Units.{classSort}
 use Rattle.rules.specs.Declarations as D
-use Rattle.rules.specs.Declarations.{Attribute, Sort, Def, attributeAt, isFound, Decl, def, endTopic, State, known}
+use Rattle.rules.specs.Declarations.{Attribute, Sort, Def, attributeAt, isFound, Decl, model, def, endTopic, State}
+use Rattle.rules.specs.Declarations.{known}
 use Rattle.rules.specs.Declarations.{attributesOf, nameCount}
 use Rattle.rules.specs.Book.{Record, bytes, defRecord, headRecords, endRecords, declRecords, declsRecords}
 use Rattle.rules.specs.Book.{attributeRecords, book}
@@ -27,6 +28,7 @@ use Rattle.members.specs.Members.{Unlike, attributeWidth}
 use Rattle.members.specs.Held.{heading, DefRow, AttributeRow, OpenRow, ownsOf, attributesIn, HeldIn}
 use Rattle.members.proofs.NearLaws.{passed, count-more}
 use Rattle.members.proofs.HeldLaws.{Agree, agree-last, agree-all, row-last, held-on, held-def, held-attribute}
+use Rattle.book.specs.Places.{NoUnit}
 use Rattle.book.proofs.StandLaws.{stands-more}
 
 -- ---- lists of declarations that grow
@@ -36,6 +38,29 @@ owns-append (k ∷ ks) d =
     ap (λ (x : List Attribute). k .own ++ x) (owns-append ks d) ∙ sym (append-assoc (k .own) (ownsOf ks) (d .own))
 
 -- ---- the book that grows
+-- what a book grows by begins with no record 19: the records of a declaration, of an attribute, of the head of a class
+pub decl-no-unit : (e : Decl) → NoUnit (bytes (declRecords e))
+decl-no-unit (model n) = refl
+decl-no-unit (def d) = sorted (d .sort)
+  where
+    sorted : (x : Sort) → NoUnit (bytes (headRecords x d ++ endRecords x))
+    sorted D.topic = refl
+    sorted D.class = refl
+    sorted D.struct = refl
+    sorted D.domain = refl
+    sorted D.unit = refl
+decl-no-unit (endTopic n) = refl
+
+pub attribute-no-unit : (a : Attribute) → NoUnit (bytes (attributeRecords a))
+attribute-no-unit a = refl
+
+pub head-no-unit : (x : Sort) (d : Def) → NoUnit (bytes (headRecords x d))
+head-no-unit D.topic d = refl
+head-no-unit D.class d = refl
+head-no-unit D.struct d = refl
+head-no-unit D.domain d = refl
+head-no-unit D.unit d = refl
+
 pub book-declared : (s s' : State) (e : Decl) → s .open-class ≡ none → s' .open-class ≡ none
     → s' .decls ≡ s .decls ++ (e ∷ []) → book s' ≡ book s ++ bytes (declRecords e)
 book-declared s s' e o o' q =
@@ -89,7 +114,7 @@ pub nowhere : {A : Type 0} {a : A} (p : ℕ) → ¬ (entry [] p ≡ some a)
 nowhere zero e = let z : _≡_ {A = ℕ} 0 1 = cc in omega arith
 nowhere (suc i) e = let z : _≡_ {A = ℕ} 0 1 = cc in omega arith
 
--- a topic or a domain, whose row is the one behind the last
+-- a topic, a domain or a unit, whose row is the one behind the last
 pub held-declared : (t : List ℕ) (s s' : State) (d : Def) (x : List ℕ) (count : ℕ) (y : List ℕ) (total : ℕ)
     → HeldIn t s x count y total
     → s .open-class ≡ none → s' .open-class ≡ none → s' .decls ≡ s .decls ++ (def d ∷ []) → d .own ≡ []
@@ -107,7 +132,7 @@ held-declared t s s' d x count y total h o o' q w x' ax r =
       append-nil (ownsOf (known (s .decls))),
       append-nil (ownsOf (known (s .decls))),
     ) in
-    let g = held-def t (book s) (bytes (declRecords (def d))) (known (s .decls))
+    let g = held-def t (book s) (bytes (declRecords (def d))) (decl-no-unit (def d)) (known (s .decls))
     (attributesIn s) x count y total h x' ax d (rw b at r) in
     rw (b, m, k) g
 
@@ -120,7 +145,8 @@ held-opened t s c x count y total h o w x' ax =
     let b = book-opened s c o in
     let m : attributesIn (opened s c) ≡ attributesIn s = rw (o, w) in
     rw (b, m)
-    (held-on t (book s) (bytes (headRecords (c .sort) c)) (known (s .decls)) (attributesIn s) x count y total h x' ax)
+    (held-on t (book s) (bytes (headRecords (c .sort) c)) (head-no-unit (c .sort) c) (known (s .decls))
+    (attributesIn s) x count y total h x' ax)
 
 -- an attribute of the open class
 pub held-member : (t : List ℕ) (s : State) (c : Def) (st : Bool) (a : Attribute) (x : List ℕ) (count : ℕ) (y : List ℕ)
@@ -133,7 +159,7 @@ held-member t s c st a x count y total h o e y' ay r =
     let b = book-attribute s c st o e a in
     let m : attributesIn (opened s (withAttribute c a))
     ≡ attributesIn s ++ (a ∷ []) = rw o (sym (append-assoc (ownsOf (known (s .decls))) (c .own) (a ∷ []))) in
-    rw (b, m) (held-attribute t (book s) (bytes (attributeRecords a)) (known (s .decls))
+    rw (b, m) (held-attribute t (book s) (bytes (attributeRecords a)) (attribute-no-unit a) (known (s .decls))
     (attributesIn s) x count y total h y' ay a (rw b at r))
 
 -- the END of a topic
@@ -145,7 +171,7 @@ held-ended t s x count y total n h o =
     ≡ known (s .decls) = known-append (s .decls) (endTopic n) ∙ append-nil (known (s .decls)) in
     let m : attributesIn (inTopic (declare s (endTopic n)) none) ≡ attributesIn s = rw (k, o) in
     rw (b, m, k)
-    (held-on t (book s) (3 ∷ []) (known (s .decls)) (attributesIn s) x count y total h x (agree-all 10 x count))
+    (held-on t (book s) (3 ∷ []) refl (known (s .decls)) (attributesIn s) x count y total h x (agree-all 10 x count))
 
 -- ---- the END of a class: its row tells where its own attributes end
 unlike-more : (l : List Attribute) (a : Attribute) → Unlike l
@@ -181,13 +207,14 @@ heading-same D.topic c a = refl
 heading-same D.class c a = refl
 heading-same D.struct c a = refl
 heading-same D.domain c a = refl
+heading-same D.unit c a = refl
 
 pub open-row-more : (t b v : List ℕ) (ks : List Def) (ms : List Attribute) (p : ℕ) (c : Def) (r : List ℕ)
-    (a : Attribute) → OpenRow t b ks ms p c r → isFound (attributeAt (a .name .bytes) (c .own)) ≡ false
+    (a : Attribute) → NoUnit v → OpenRow t b ks ms p c r → isFound (attributeAt (a .name .bytes) (c .own)) ≡ false
     → (not (isFound (attributeAt (a .name .bytes) (attributesOf c))) && leb 256 (nameCount (attributesOf c))) ≡ false
     → OpenRow t (b ++ v) ks (ms ++ (a ∷ [])) p (withAttribute c a) r
 unfolding withAttribute
-open-row-more t b v ks ms p c r a h u f = record {
+open-row-more t b v ks ms p c r a nu h u f = record {
   says = record {
     named = h .says .named;
     offset = h .says .offset;
@@ -202,7 +229,7 @@ open-row-more t b v ks ms p c r a h u f = record {
   own = drop-append-le (getD r 8 0) ms (a ∷ []) (h .within) ∙ ap (λ (l : List Attribute). l ++ (a ∷ [])) (h .own);
   unlike = unlike-more (c .own) a (h .unlike) u;
   few = few-more c a f (h .few);
-  stands = rw (heading-same (c .sort) c a) (stands-more b v _ _ (h .stands));
+  stands = rw (heading-same (c .sort) c a) (stands-more b v _ _ nu (h .stands));
 }
 
 module _ (r : List ℕ) (v : ℕ) where
@@ -210,8 +237,8 @@ module _ (r : List ℕ) (v : ℕ) where
   kept f h = getD-set-other r 9 f v 0 (λ e. absurd (omega arith))
 
   pub closed-row : (t b w : List ℕ) (ks : List Def) (ms : List Attribute) (p : ℕ) (c : Def) → length r ≡ 10
-      → v ≡ length ms → OpenRow t b ks ms p c r → DefRow t (b ++ w) ks ms p c (set r 9 v)
-  closed-row t b w ks ms p c l e h = record {
+      → v ≡ length ms → NoUnit w → OpenRow t b ks ms p c r → DefRow t (b ++ w) ks ms p c (set r 9 v)
+  closed-row t b w ks ms p c l e nu h = record {
     says = record {
       named = h .says .named;
       offset = kept 0 (omega arith) ∙ h .says .offset;
@@ -239,7 +266,7 @@ module _ (r : List ℕ) (v : ℕ) where
       unlike = h .unlike;
       few = h .few;
     };
-    stands = rw (kept 6 (omega arith)) (stands-more b w _ _ (h .stands));
+    stands = rw (kept 6 (omega arith)) (stands-more b w _ _ nu (h .stands));
   }
 
 pub held-closed : (t : List ℕ) (s : State) (c : Def) (st : Bool) (x : List ℕ) (count : ℕ) (y : List ℕ) (total : ℕ)
@@ -255,8 +282,8 @@ held-closed t s c st x count y total h o e w r =
     let l : length (row definitionWidth x (count + 1))
     ≡ 10 = length-part x ((count + 1) * definitionWidth) 10 (omega arith) in
     let d = closed-row (row definitionWidth x (count + 1)) total t (book s) (16 ∷ []) (known (s .decls))
-    (attributesIn s) (count + 1) c l (h .all-attributes) r in
+    (attributesIn s) (count + 1) c l (h .all-attributes) refl r in
     rw (b, m, k)
-    (held-def t (book s) (16 ∷ []) (known (s .decls)) (attributesIn s) x count y total h
+    (held-def t (book s) (16 ∷ []) refl (known (s .decls)) (attributesIn s) x count y total h
     (set x ((count + 1) * definitionWidth + 9) total) (agree-last x [] count total w) c
     (rw (row-last x (count + 1) total) d))

@@ -23,6 +23,7 @@ heading D.topic d = nameRecord 2 (d .name) ∷ []
 heading D.class d = defRecord 4 d ∷ []
 heading D.struct d = defRecord 5 d ∷ []
 heading D.domain d = defRecord 7 d ∷ typeRecords (d .type)
+heading D.unit d = defRecord 18 d ∷ []
 
 -- what a domain or structure gives as a type; else the type t in place
 abbrev pub useFor : Option Def → Ty → Use

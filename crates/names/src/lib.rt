@@ -72,7 +72,7 @@ pub fn number_of(index: &[u16], p: usize) -> usize
     field(index, p, NUMBER)
 }
 
-// 0 topic, 1 class, 2 structure, 3 domain.
+// 0 topic, 1 class, 2 structure, 3 domain, 4 unit.
 pub fn sort_of(index: &[u16], p: usize) -> usize
     requires { ⌜ Rows (now index) p ⌝ }
     ensures { λ r. ⌜ ((t : List ℕ) (d : Def) → Says t d (row definitionWidth (now (index .entry)) p)
@@ -312,7 +312,7 @@ pub fn make_known(chains: &mut [u16], p: usize, key: usize)
 }
 
 // ---- bases
-// The domain or structure p is the one with a record number, or descends from it.
+// The domain, structure or unit p is the one with a record number, or descends from it.
 pub fn descends(index: &[u16], count: usize, p: usize, number: usize) -> bool
     requires { ⌜ (p ≤ count) × Rows (now index) count ⌝ }
     ensures { λ r. ⌜ ((t : List ℕ) (ks : List Def) → Known t ks (now (index .entry)) count

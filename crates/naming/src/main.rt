@@ -45,7 +45,7 @@ fn ends() {
     show(text, b"\x02\xFF\xFF\xFF\xFF\xFF", 0);
 }
 
-// Each kind that has a name, the element last; what follows a record of no kind or of kind 0 is not shown.
+// Each kind that has a name, the element and the unit last; what follows a record of no kind or of kind 0 is not shown.
 fn kinds() {
     let text = b"abc";
     show(text, b"\x04\x00\x00\x00\x00\x01\x00\xFF\xFF\xFF\xFF", 0);
@@ -54,7 +54,15 @@ fn kinds() {
     show(text, b"\x0D\x00\x0E\x00\x00\x00\x00\x03\x0F", 1);
     show(text, b"\x0D\x00\x0E\x00\x00\x00\x00\x03\x0F", 2);
     show(text, b"\x03\x10\x0B\x01\x01\x00\x00\x00\x02", 3);
-    show(text, b"\x12\x01\x00\x00\x00\x00\x01", 1);
+    // a unit, the unit of a number, a topic
+    let measured = b"\
+        \x12\x01\x00\x00\x00\x02\x01\xFF\xFF\xFF\xFF\
+        \x13\x00\x00\x00\x00\
+        \x02\x02\x00\x00\x00\x01";
+    show(text, measured, 0);
+    show(text, measured, 1);
+    show(text, measured, 2);
+    show(text, b"\x15\x01\x00\x00\x00\x00\x01", 1);
     show(text, b"\x00\x01\x00\x00\x00\x00\x01", 1);
     show(text, b"\xFF\x00\x00\x00\x00\x01", 0);
 }

@@ -1,7 +1,7 @@
 -- Properties: the flags of a list of words, word by word.
 use mathlib.Core.Path.{_≡_, refl, sym, ap, _∙_}
 use mathlib.Core.Logic.{⊎-elim}
-use mathlib.Core.Bool.{Bool, true, false, cond, _||_}
+use mathlib.Core.Bool.{Bool, true, false, _||_}
 use mathlib.Core.List.{List, [], _∷_, _++_, append-assoc}
 use Prim.Native.Nat.{ℕ, suc, _+_, _-_, _<_}
 use native.Mathlib.Omega.{arith}
@@ -15,7 +15,7 @@ use Rattle.rules.specs.Symbols.{Fault, word, symbolAt, endOf, isKind, isMark, i
 use Rattle.rules.specs.Readers.{Reader, refused, andThen, ret, theMark, ifNext, _>>_, _>>=_, expect}
 use Rattle.rules.specs.Grammar.{enough, propertiesFrom, properties}
 use Rattle.rules.specs.Judge.{hasTwice}
-use Rattle.rules.proofs.Tests.{split, or-split}
+use Rattle.rules.proofs.Tests.{never, split, or-split}
 use Rattle.rules.proofs.ByteLaws.{same-eq, same-sym}
 use Rattle.rules.proofs.SymbolLaws.{Lies, next-lies}
 use Rattle.rules.proofs.ForwardLaws.{one-word}
@@ -24,12 +24,14 @@ use Rattle.symbols.specs.declared.Symbol.{Symbol}
 use Rattle.words.specs.Words.{position}
 use Rattle.symbols.specs.Cut.{made}
 use Rattle.readers.specs.Reads.{faultAt, Stands, Cuts, Held, passed, Gives, Reads}
-use Rattle.readers.proofs.CodeLaws.{Test, is-mark, is-word, is-one-word}
+use Rattle.readers.proofs.CodeLaws.{Test, is-mark, is-word, is-only-word, is-one-word}
 use Rattle.readers.proofs.StandLaws.{fault-stands, stands-lies}
 use Rattle.readers.proofs.ReadLaws.{gives-map, gives-weaker, bind, stay, held, if-true, if-false, expected, taken}
 use Rattle.readers.proofs.ReadLaws.{is-yes, is-no}
+use Rattle.parts.specs.declared.Owner.{Owner}
+use Rattle.parts.specs.declared.Owner.the-variants.{Attribute, Definition, Measure}
 use Rattle.parts.specs.declared.Properties.{Properties}
-use Rattle.parts.specs.Forms.{wordsOf, otherOf, flagsOf, withWord}
+use Rattle.parts.specs.Forms.{wordsOf, isProperty, flagsOf, withWord}
 
 -- ---- a list with one word more
 swap : (a b c : Bool) → (a || (b || c)) ≡ (b || (a || c))
@@ -66,10 +68,11 @@ module _ (p : List (List ℕ)) where
   with-final : withWord (flagsOf p) 72 ≡ flagsOf (p ++ (ascii "FINAL" ∷ []))
   with-final = sym (more (ascii "FINAL"))
 
-  with-other : (b : Bool) → withWord (flagsOf p) (otherOf b)
-      ≡ flagsOf (p ++ (cond b (ascii "EXTENDED") (ascii "ABSTRACT") ∷ []))
-  with-other true = sym (more (ascii "EXTENDED"))
-  with-other false = sym (more (ascii "ABSTRACT"))
+  with-extended : withWord (flagsOf p) 76 ≡ flagsOf (p ++ (ascii "EXTENDED" ∷ []))
+  with-extended = sym (more (ascii "EXTENDED"))
+
+  with-abstract : withWord (flagsOf p) 71 ≡ flagsOf (p ++ (ascii "ABSTRACT" ∷ []))
+  with-abstract = sym (more (ascii "ABSTRACT"))
 
 -- ---- a symbol that is a property
 pub word-bytes : {t : List ℕ} {y : Symbol} (w : List ℕ) (k : ℕ) → 64 + position w forms ≡ k → y .code ≡ k
@@ -78,41 +81,41 @@ word-bytes w k e f z c =
     let q : (isKind word z ≡ true) × (same (z .bytes) w ≡ true) = split (is-yes (is-word w k e) f z c) in
     same-eq (z .bytes) w (q .1)
 
-module _ {t : List ℕ} {y : Symbol} (b : Bool) where
-  property-test : (x : Bool) → x ≡ (eqb (y .code) (otherOf b) || eqb (y .code) 72) → (z : rules.Symbol)
+module _ {t : List ℕ} {y : Symbol} where
+  owned : (b : Owner) (z : rules.Symbol) → Cuts t z y → isOneWord (wordsOf b) z ≡ isProperty b (y .code)
+  owned Attribute z c =
+      is-one-word (ascii "EXTENDED") (ascii "FINAL") 76 72 refl refl z (c .stands .coded) ∙ rw (c .cuts)
+  owned Definition z c =
+      is-one-word (ascii "ABSTRACT") (ascii "FINAL") 71 72 refl refl z (c .stands .coded) ∙ rw (c .cuts)
+  owned Measure z c = is-only-word (ascii "ABSTRACT") 71 refl z (c .stands .coded) ∙ rw (c .cuts)
+
+  property-test : (b : Owner) (x : Bool) → x ≡ isProperty b (y .code) → (z : rules.Symbol)
       → Cuts t z y → isOneWord (wordsOf b) z ≡ x
-  property-test x e z c = go b e
-    where
-      go : (b : Bool) → x ≡ (eqb (y .code) (otherOf b) || eqb (y .code) 72) → isOneWord (wordsOf b) z ≡ x
-      go true f =
-          is-one-word (ascii "EXTENDED") (ascii "FINAL") 76 72 refl refl z (c .stands .coded) ∙ sym (f ∙ rw (c .cuts))
-      go false f =
-          is-one-word (ascii "ABSTRACT") (ascii "FINAL") 71 72 refl refl z (c .stands .coded) ∙ sym (f ∙ rw (c .cuts))
+  property-test b x e z c = owned b z c ∙ sym e
 
-  other-word : (z : rules.Symbol) → Cuts t z y → y .code ≡ otherOf b
-      → z .bytes ≡ cond b (ascii "EXTENDED") (ascii "ABSTRACT")
-  other-word z c e = go b e
-    where
-      go : (b : Bool) → y .code ≡ otherOf b → z .bytes ≡ cond b (ascii "EXTENDED") (ascii "ABSTRACT")
-      go true f = word-bytes (ascii "EXTENDED") 76 refl f z c
-      go false f = word-bytes (ascii "ABSTRACT") 71 refl f z c
+  -- by the code
+  module _ (p : List (List ℕ)) (z : rules.Symbol) (c : Cuts t z y) where
+    by-word : (w : List ℕ) (k : ℕ) → 64 + position w forms ≡ k → withWord (flagsOf p) k ≡ flagsOf (p ++ (w ∷ []))
+        → eqb (y .code) k ≡ true → withWord (flagsOf p) (y .code) ≡ flagsOf (p ++ (z .bytes ∷ []))
+    by-word w k e q h = let f = eqb-true (y .code) k h in rw (f, word-bytes w k e f z c) q
 
-  with-property : (p : List (List ℕ)) (z : rules.Symbol) → Cuts t z y
-      → (eqb (y .code) (otherOf b) || eqb (y .code) 72) ≡ true
-      → withWord (flagsOf p) (y .code) ≡ flagsOf (p ++ (z .bytes ∷ []))
-  with-property p z c e =
-      ⊎-elim (λ h. let f = eqb-true (y .code) (otherOf b) h in rw (f, other-word z c f) (with-other p b))
-      (λ h. let f = eqb-true (y .code) 72 h in rw (f, word-bytes (ascii "FINAL") 72 refl f z c) (with-final p))
-      (or-split e)
+    by-final : eqb (y .code) 72 ≡ true → withWord (flagsOf p) (y .code) ≡ flagsOf (p ++ (z .bytes ∷ []))
+    by-final h = by-word (ascii "FINAL") 72 refl (with-final p) h
 
-not-fault : (y : Symbol) (b : Bool) → (eqb (y .code) (otherOf b) || eqb (y .code) 72) ≡ true → y .code ≡ 5 → ⊥
-not-fault y b e f =
-    ⊎-elim (λ h. let g = eqb-true (y .code) (otherOf b) h in go b g)
-    (λ h. let g = eqb-true (y .code) 72 h in omega arith) (or-split e)
-  where
-    go : (b : Bool) → y .code ≡ otherOf b → ⊥
-    go true g = omega arith
-    go false g = omega arith
+    by-abstract : eqb (y .code) 71 ≡ true → withWord (flagsOf p) (y .code) ≡ flagsOf (p ++ (z .bytes ∷ []))
+    by-abstract h = by-word (ascii "ABSTRACT") 71 refl (with-abstract p) h
+
+    with-property : (b : Owner) → isProperty b (y .code) ≡ true
+        → withWord (flagsOf p) (y .code) ≡ flagsOf (p ++ (z .bytes ∷ []))
+    with-property Attribute e =
+        ⊎-elim (by-word (ascii "EXTENDED") 76 refl (with-extended p)) by-final (or-split {x = eqb (y .code) 76} e)
+    with-property Definition e = ⊎-elim by-abstract by-final (or-split {x = eqb (y .code) 71} e)
+    with-property Measure e = by-abstract e
+
+not-fault : (y : Symbol) (b : Owner) → isProperty b (y .code) ≡ true → y .code ≡ 5 → ⊥
+not-fault y Attribute e f = never (rw f at e)
+not-fault y Definition e f = never (rw f at e)
+not-fault y Measure e f = never (rw f at e)
 
 -- ---- word by word
 comma : Test (isMark ",") 44
@@ -134,7 +137,7 @@ module _ (t : List ℕ) (l : List (List ℕ)) where
   fault-list f p s = list-step (faultAt f p) s
 
 -- the list began with the symbol w₀; the words before z have the flags `have`
-pub record Seen (t : List ℕ) (b : Bool) (w₀ : rules.Symbol) (have : Properties) (z : Symbol) : Type 0 where
+pub record Seen (t : List ℕ) (b : Owner) (w₀ : rules.Symbol) (have : Properties) (z : Symbol) : Type 0 where
   pub symbol : rules.Symbol
   pub cut-from : Cuts t symbol z
   pub words : List (List ℕ)
@@ -143,16 +146,16 @@ pub record Seen (t : List ℕ) (b : Bool) (w₀ : rules.Symbol) (have : Properti
       → Gives t (propertiesFrom (enough t) (wordsOf b) t symbol) (λ p. v ≡ flagsOf (words ++ p)) n
       → Gives t (propertiesFrom (enough t) (wordsOf b) t w₀) (λ p. v ≡ flagsOf p) n
 
-module _ {t : List ℕ} {b : Bool} {w₀ : rules.Symbol} {have : Properties} {z : Symbol} (s : Seen t b w₀ have z) where
+module _ {t : List ℕ} {b : Owner} {w₀ : rules.Symbol} {have : Properties} {z : Symbol} (s : Seen t b w₀ have z) where
   w : rules.Symbol
   w = s .symbol
 
-  module _ {more : Properties} {m : Symbol} (h : (eqb (z .code) (otherOf b) || eqb (z .code) 72) ≡ true)
+  module _ {more : Properties} {m : Symbol} (h : isProperty b (z .code) ≡ true)
       (g : more ≡ withWord have (z .code)) (e : m ≡ passed t z (z .code)) where
     flags-more : more ≡ flagsOf (s .words ++ (w .bytes ∷ []))
     unfolding w
     flags-more =
-        g ∙ ap (λ (x : Properties). withWord x (z .code)) (s .flags) ∙ with-property b (s .words) w (s .cut-from) h
+        g ∙ ap (λ (x : Properties). withWord x (z .code)) (s .flags) ∙ with-property (s .words) w (s .cut-from) b h
 
     yes : isOneWord (wordsOf b) w ≡ true
     unfolding w
@@ -191,7 +194,7 @@ module _ {t : List ℕ} {b : Bool} {w₀ : rules.Symbol} {have : Properties} {z 
         (gives-map (andThen t (theMark ")" t v) (λ _. ret [])) (λ r. w .bytes ∷ r)
         (gives-map (theMark ")" t v) (λ _. []) (gives-weaker close (λ _ _. flags-more)))))
 
-  seen-fault : {n : Symbol} → (eqb (z .code) (otherOf b) || eqb (z .code) 72) ≡ false
+  seen-fault : {n : Symbol} → isProperty b (z .code) ≡ false
       → n ≡ made 5 (z .refusal) (z .place) 0
       → Gives t (propertiesFrom (enough t) (wordsOf b) t w₀) (λ p. have ≡ flagsOf p) n
   unfolding w after
@@ -208,13 +211,13 @@ module _ {t : List ℕ} {b : Bool} {w₀ : rules.Symbol} {have : Properties} {z 
 
 -- ---- as the loop meets them
 -- z₀ and have₀ are the first symbol and the flags before it
-abbrev pub Loop : List ℕ → Bool → Properties → Symbol → Properties → Symbol → Type 0
+abbrev pub Loop : List ℕ → Owner → Properties → Symbol → Properties → Symbol → Type 0
 Loop t b have₀ z₀ have z = Held t z × ((w : rules.Symbol) → Cuts t w z₀ → have₀ ≡ flagsOf [] → Seen t b w have z)
 
-pub loop-first : (t : List ℕ) (b : Bool) (have : Properties) (z : Symbol) → Held t z → Loop t b have z have z
+pub loop-first : (t : List ℕ) (b : Owner) (have : Properties) (z : Symbol) → Held t z → Loop t b have z have z
 loop-first t b have z h = (h, λ w c e. record { symbol = w; cut-from = c; words = []; flags = e; goes-on = λ v n g. g })
 
-module _ (t : List ℕ) (b : Bool) (have₀ : Properties) (z₀ : Symbol) where
+module _ (t : List ℕ) (b : Owner) (have₀ : Properties) (z₀ : Symbol) where
   reads-list : {more : Properties} {n : Symbol} → ((w : rules.Symbol) → Cuts t w z₀
       → Gives t (propertiesFrom (enough t) (wordsOf b) t w) (λ p. more ≡ flagsOf p) n)
       → Reads t (propertiesFrom (enough t) (wordsOf b)) (λ p. more ≡ flagsOf p) z₀ n
@@ -224,19 +227,19 @@ module _ (t : List ℕ) (b : Bool) (have₀ : Properties) (z₀ : Symbol) where
   }
 
   module _ (have : Properties) (z : Symbol) (v : Loop t b have₀ z₀ have z) (e₀ : have₀ ≡ flagsOf []) where
-    pub list-fault : {n : Symbol} → (eqb (z .code) (otherOf b) || eqb (z .code) 72) ≡ false
+    pub list-fault : {n : Symbol} → isProperty b (z .code) ≡ false
         → n ≡ made 5 (z .refusal) (z .place) 0
         → Reads t (propertiesFrom (enough t) (wordsOf b)) (λ p. have ≡ flagsOf p) z₀ n
     list-fault h e = reads-list (λ w c. seen-fault (v .1 w c e₀) h e)
 
-    pub list-end : {more : Properties} {m n : Symbol} → (eqb (z .code) (otherOf b) || eqb (z .code) 72) ≡ true
+    pub list-end : {more : Properties} {m n : Symbol} → isProperty b (z .code) ≡ true
         → more ≡ withWord have (z .code)
         → m ≡ passed t z (z .code) → (m .code ≡ 44 → ⊥) → n ≡ passed t m 41
         → Reads t (propertiesFrom (enough t) (wordsOf b)) (λ p. more ≡ flagsOf p) z₀ n
     list-end h g e k f = reads-list (λ w c. seen-end (v .1 w c e₀) h g e k f)
 
   module _ (have more : Properties) (z m z′ : Symbol) (v : Loop t b have₀ z₀ have z)
-      (h : (eqb (z .code) (otherOf b) || eqb (z .code) 72) ≡ true)
+      (h : isProperty b (z .code) ≡ true)
       (e : m ≡ passed t z (z .code)) (k : m .code ≡ 44) (f : z′ ≡ passed t m 44) where
     pub loop-on : more ≡ withWord have (z .code) → Loop t b have₀ z₀ more z′
     loop-on g = (
@@ -264,7 +267,7 @@ module _ (t : List ℕ) (b : Bool) (have₀ : Properties) (z₀ : Symbol) where
             omega arith
 
 -- ---- the whole list
-module _ {t : List ℕ} (b : Bool) {y : Symbol} where
+module _ {t : List ℕ} (b : Owner) {y : Symbol} where
   pub list-there : {z n : Symbol} {v : Properties} → y .code ≡ 40 → z ≡ passed t y 40 →
       Reads t (propertiesFrom (enough t) (wordsOf b)) (λ p. v ≡ flagsOf p) z n
       → Reads t (properties (wordsOf b)) (λ p. v ≡ flagsOf p) y n

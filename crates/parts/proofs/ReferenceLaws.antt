@@ -1,4 +1,4 @@
--- References, of one to three parts, and what EXTENDS names.
+-- References, of one to three parts, what EXTENDS names, and the unit of a number in brackets.
 use mathlib.Core.Path.{_≡_, refl, ap, _∙_}
 use mathlib.Core.List.{List}
 use mathlib.Core.Option.{none, some}
@@ -7,16 +7,16 @@ use native.Mathlib.Omega.{arith}
 use Rattle.rules.specs.Bytes.{ascii}
 use Rattle.rules.specs.Symbols.{isMark, isWord}
 use Rattle.rules.specs.Grammar as G
-use Rattle.rules.specs.Grammar.{bare, inModel, inTopic, reference, extends}
+use Rattle.rules.specs.Grammar.{bare, inModel, inTopic, reference, extends, unitReference, optionalUnit}
 use Rattle.symbols.specs.declared.Symbol.{Symbol}
 use Rattle.ground.specs.declared.Name.{Name}
 use Rattle.readers.specs.Reads.{passed, named, Reads}
-use Rattle.readers.proofs.CodeLaws.{Test, is-mark, is-word}
+use Rattle.readers.proofs.CodeLaws.{Test, is-mark, is-square, is-word}
 use Rattle.readers.proofs.ReadLaws.{onward, bind, stay, mapped, if-true, if-false, expected, is-yes, is-no, a-name}
 use Rattle.ground.specs.declared.Reference.{Reference}
 use Rattle.ground.specs.declared.Reference.the-variants.{Bare, InModel, InTopic}
-use Rattle.parts.specs.declared.Extends.the-variants.{Nothing, Base}
-use Rattle.parts.specs.Forms.{referenceOf, extendsOf}
+use Rattle.parts.specs.declared.Optional.the-variants.{Nothing, Given}
+use Rattle.parts.specs.Forms.{referenceOf, optionalOf}
 
 dot : Test (isMark ".") 46
 dot = is-mark "." (omega arith) (omega arith)
@@ -57,14 +57,29 @@ module _ {t : List ℕ} {y a : Symbol} {i : Name} (e : a ≡ passed t y 1) (f : 
 module _ {t : List ℕ} {y : Symbol} where
   pub extended : {z n : Symbol} {v : Reference} → y .code ≡ 73 → z ≡ passed t y 73
       → Reads t reference (λ r. v ≡ referenceOf r) z n
-      → Reads t extends (λ a. Base v ≡ extendsOf a) y n
+      → Reads t extends (λ a. Given v ≡ optionalOf a) y n
   unfolding extends
   extended k e r =
       let w = is-word (ascii "EXTENDS") 73 refl in
       if-true (isWord (ascii "EXTENDS")) _ _ (is-yes w k)
-      (mapped some (bind (expected w e) (λ _ _. r) (r .passes)) (λ a q. ap Base q))
+      (mapped some (bind (expected w e) (λ _ _. r) (r .passes)) (λ a q. ap Given q))
 
-  pub not-extended : (y .code ≡ 73 → ⊥) → Reads t extends (λ a. Nothing ≡ extendsOf a) y y
+  pub not-extended : (y .code ≡ 73 → ⊥) → Reads t extends (λ a. Nothing ≡ optionalOf a) y y
   unfolding extends
   not-extended k =
       if-false (isWord (ascii "EXTENDS")) _ _ (is-no (is-word (ascii "EXTENDS") 73 refl) k) (stay none refl)
+
+  pub unit-there : {z m n : Symbol} {v : Reference} → y .code ≡ 91 → z ≡ passed t y 91
+      → Reads t reference (λ r. v ≡ referenceOf r) z m → n ≡ passed t m 93
+      → Reads t optionalUnit (λ a. Given v ≡ optionalOf a) y n
+  unfolding optionalUnit unitReference
+  unit-there k e r f =
+      let left = is-square "[" (omega arith) in
+      let close = expected (is-square "]" (omega arith)) f in
+      let inner = bind r (λ a q. bind close (λ _ _. stay a q) (λ _ _ c. c)) (close .passes) in
+      if-true (isMark "[") _ _ (is-yes left k)
+      (mapped some (bind (expected left e) (λ _ _. inner) (inner .passes)) (λ a q. ap Given q))
+
+  pub no-unit : (y .code ≡ 91 → ⊥) → Reads t optionalUnit (λ a. Nothing ≡ optionalOf a) y y
+  unfolding optionalUnit
+  no-unit k = if-false (isMark "[") _ _ (is-no (is-square "[" (omega arith)) k) (stay none refl)

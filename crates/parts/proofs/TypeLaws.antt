@@ -16,8 +16,9 @@ use Rattle.rules.specs.Symbols.{too-large, symbolAt, endOf, digitCount, Kind, w
 use Rattle.rules.specs.Symbols.{mark, fault, tag, isKind, isMark, isWord, isOneWord}
 use Rattle.rules.specs.Readers.{Reader, ret, _>>=_, expect}
 use Rattle.rules.specs.Numbers.{digits, valueOf, decimalsOf}
-use Rattle.rules.specs.Grammar.{enough, deepest, enumeration, WrittenType, text, range, numeric, enum, named, isLength}
-use Rattle.rules.specs.Grammar.{textLength, textType, rangeType, reference, typeOf, typeOrReference, placeOfNext}
+use Rattle.rules.specs.Grammar.{enough, deepest, enumeration, WrittenType, text, numeric, enum, named, isLength}
+use Rattle.rules.specs.Grammar.{textLength, textType, optionalUnit, rangeType, numericType, reference, typeOf}
+use Rattle.rules.specs.Grammar.{typeOrReference, placeOfNext}
 use Rattle.rules.specs.Grammar.{written}
 use Rattle.rules.proofs.Tests.{never, both, fail-r}
 use Rattle.ground.specs.Parts.{part}
@@ -33,11 +34,14 @@ use Rattle.readers.proofs.ReadLaws.{onward, bind, stay, mapped, weaker, if-true
 use Rattle.readers.proofs.ReadLaws.{refuses, is-yes, is-no}
 use Rattle.elements.specs.Noted.{Whole}
 use Rattle.ground.specs.declared.Reference.{Reference}
+use Rattle.parts.specs.declared.Optional.{Optional}
+use Rattle.parts.specs.declared.Optional.the-variants.{Nothing, Given}
 use Rattle.parts.specs.declared.types.Whole.the-variants.{Count, Other}
 use Rattle.parts.specs.declared.types.Meant.{Meant}
 use Rattle.parts.specs.declared.types.Meant.the-variants.{Alone, Text, Limited, Range, Numeric, Enumeration}
 use Rattle.parts.specs.declared.types.Meant.the-variants.{Named}
-use Rattle.parts.specs.Forms.{referenceOf, numberOf, wholeOf, textCode, limitOf, Plainly, Means, MeansAny}
+use Rattle.parts.specs.Forms.{referenceOf, optionalOf, numberOf, wholeOf, textCode, limitOf, Plainly, Means}
+use Rattle.parts.specs.Forms.{MeansAny}
 use Rattle.parts.specs.Forms.{MeansAll, typeBy, mandatoryBy}
 use Rattle.parts.proofs.PropertyLaws.{word-bytes}
 
@@ -180,55 +184,63 @@ module _ {t : List ℕ} {y : Symbol} where
   module _ (m : Bool) (k : y .code ≡ textCode m) {z : Symbol} (e : z ≡ passed t y (y .code)) where
     text-with : {v : Meant} {n : Symbol} (q : Reader (Option rules.Symbol)) → Reads t q (λ o. v ≡ limitOf m o) z n →
         Reads t (expect (isOneWord (ascii "TEXT" ∷ ascii "MTEXT" ∷ []))
-        >>= λ w. q >>= λ o. ret (text (same (w .bytes) (ascii "MTEXT")) o)) (Plainly v) y n
+        >>= λ w. q >>= λ o. ret (text (same (w .bytes) (ascii "MTEXT")) o)) (Plainly v Nothing) y n
     text-with q r =
         bind (taken (is-text m k) (no-fault y m k) e) (λ w c. mapped (λ o. text (same (w .bytes) (ascii "MTEXT")) o) r
-        (λ o h. (rw (text-kind m k w c) h, λ _ _. tt))) (r .passes)
+        (λ o h. (rw (text-kind m k w c) h, refl, λ _ _. tt))) (r .passes)
 
-    pub text-limited : {v : Meant} {s n : Symbol} → z .code ≡ 42 → s ≡ passed t z 42
-        → Reads t textLength (λ x. v ≡ limitOf m (some x)) s n → Reads t textType (Plainly v) y n
+    pub text-limited : {v : Meant} {u : Optional} {s n : Symbol} → z .code ≡ 42 → s ≡ passed t z 42
+        → Reads t textLength (λ x. v ≡ limitOf m (some x)) s n → u ≡ Nothing → Reads t textType (Plainly v u) y n
     unfolding textType
-    text-limited f g r =
+    text-limited f g r h =
         let star = is-mark "*" (omega arith) (omega arith) in
-        text-with _ (if-true (isMark "*") _ _ (is-yes star f)
-        (mapped some (bind (expected star g) (λ _ _. r) (r .passes)) (λ x h. h)))
+        rw h (text-with _ (if-true (isMark "*") _ _ (is-yes star f)
+        (mapped some (bind (expected star g) (λ _ _. r) (r .passes)) (λ x h. h))))
 
-    pub text-free : {kind : ℕ} → kind ≡ textKind m → (z .code ≡ 42 → ⊥) → Reads t textType (Plainly (Text kind)) y z
+    pub text-free : {kind : ℕ} → kind ≡ textKind m → (z .code ≡ 42 → ⊥)
+        → Reads t textType (Plainly (Text kind) Nothing) y z
     unfolding textType
     text-free h f = text-with _
         (if-false (isMark "*") _ _ (is-no (is-mark "*" (omega arith) (omega arith)) f) (stay none (ap Text h)))
 
--- ---- ranges
-pub range-reads : {t : List ℕ} {y d z n : Symbol} {a b : Number} → d ≡ passed t y 2
-    → z ≡ passed t d 4 → n ≡ passed t z 2
+-- ---- numbers
+pub range-reads : {t : List ℕ} {y d z m n : Symbol} {a b : Number} {u : Optional} → d ≡ passed t y 2
+    → z ≡ passed t d 4 → m ≡ passed t z 2
     → ((w : rules.Symbol) → Cuts t w y → y .code ≡ 2 → a ≡ numberOf (w .bytes))
     → ((w : rules.Symbol) → Cuts t w z → z .code ≡ 2 → b ≡ numberOf (w .bytes))
-    → Reads t rangeType (Plainly (Range a b)) y n
+    → Reads t optionalUnit (λ r. u ≡ optionalOf r) m n → Reads t rangeType (Plainly (Range a b) u) y n
 unfolding rangeType
-range-reads e₁ e₂ e₃ f g =
+range-reads e₁ e₂ e₃ f g r =
     let first = passes-by is-number e₁ in
     let second = expected is-dots e₂ in
     let third = passes-by is-number e₃ in
-    bind first (λ u h. bind second (λ _ _.
-    mapped (λ w. range u w) third (λ w k. (rw (f u (h .0) (h .1), g w (k .0) (k .1)), λ _ _. tt))) (third .passes))
-    (onward (second .passes) (third .passes))
+    let last = onward (third .passes) (r .passes) in
+    bind first (λ u h. bind second (λ _ _. bind third (λ w k.
+    mapped (λ o. numeric (some (record { first = u; second = w })) o) r
+    (λ o q. (rw (f u (h .0) (h .1), g w (k .0) (k .1)), q, λ _ _. tt))) (r .passes)) last)
+    (onward (second .passes) last)
 
--- ---- types
 numeric-word : Test (isWord (ascii "NUMERIC")) 81
 numeric-word = is-word (ascii "NUMERIC") 81 refl
 
+pub numeric-reads : {t : List ℕ} {y m n : Symbol} {u : Optional} → m ≡ passed t y 81
+    → Reads t optionalUnit (λ r. u ≡ optionalOf r) m n → Reads t numericType (Plainly Numeric u) y n
+unfolding numericType
+numeric-reads e r =
+    bind (expected numeric-word e) (λ _ _. mapped (numeric none) r (λ o q. (refl, q, λ _ _. tt))) (r .passes)
+
+-- ---- types
 module _ {t : List ℕ} {y n : Symbol} where
   pub type-text : {P : WrittenType → Type 0} (m : Bool) → y .code ≡ textCode m
       → Reads t textType P y n → Reads t typeOf P y n
   unfolding typeOf
   type-text m k r = if-true (isOneWord (ascii "TEXT" ∷ ascii "MTEXT" ∷ [])) _ _ (is-text m k) r
 
-  pub type-numeric : y .code ≡ 81 → n ≡ passed t y 81 → Reads t typeOf (Plainly Numeric) y n
+  pub type-numeric : {P : WrittenType → Type 0} → y .code ≡ 81 → Reads t numericType P y n → Reads t typeOf P y n
   unfolding typeOf
-  type-numeric k e =
+  type-numeric k r =
       if-false (isOneWord (ascii "TEXT" ∷ ascii "MTEXT" ∷ [])) _ _ (no-text (omega arith) (omega arith))
-      (if-true (isWord (ascii "NUMERIC")) _ _ (is-yes numeric-word k)
-      (bind (expected numeric-word e) (λ _ _. stay numeric (refl, λ _ _. tt)) (λ _ _ c. c)))
+      (if-true (isWord (ascii "NUMERIC")) _ _ (is-yes numeric-word k) r)
 
   pub type-range : {P : WrittenType → Type 0} → (y .code ≡ 79 → ⊥) → (y .code ≡ 80 → ⊥)
       → (y .code ≡ 81 → ⊥) → (y .code ≡ 40 → ⊥)
@@ -240,22 +252,23 @@ module _ {t : List ℕ} {y n : Symbol} where
       (if-false (isMark "(") _ _ (is-no (is-mark "(" (omega arith) (omega arith)) d) r))
 
   pub type-enum : {o p : List ℕ} {u : ℕ} → y .code ≡ 40 → Reads t (enumeration (enough t) deepest) (Whole o p u) y n
-      → Reads t typeOf (Means o p (Enumeration u)) y n
+      → Reads t typeOf (Means o p (Enumeration u) Nothing) y n
   unfolding typeOf
   type-enum k r =
       if-false (isOneWord (ascii "TEXT" ∷ ascii "MTEXT" ∷ [])) _ _ (no-text (omega arith) (omega arith))
       (if-false (isWord (ascii "NUMERIC")) _ _ (is-no numeric-word (omega arith))
       (if-true (isMark "(") _ _ (is-yes (is-mark "(" (omega arith) (omega arith)) k)
       (mapped {R = λ s z. enumeration (enough s) deepest s z} enum (record { reads = r .reads; passes = r .passes })
-      (λ e h. (ap Enumeration (h .0), h .1)))))
+      (λ e h. (ap Enumeration (h .0), refl, h .1)))))
 
-  pub type-plain : {o : List ℕ} {v : Meant} → Reads t typeOf (Plainly v) y n → Reads t typeOf (Means o o v) y n
-  type-plain {o} r = weaker r (λ x h. (h .0, h .1 o o))
+  pub type-plain : {o : List ℕ} {v : Meant} {u : Optional} → Reads t typeOf (Plainly v u) y n
+      → Reads t typeOf (Means o o v u) y n
+  type-plain {o} r = weaker r (λ x h. (h .0, h .1, h .2 o o))
 
   pub type-named : {o : List ℕ} {v : Reference} → y .code ≡ 1 → Reads t reference (λ a. v ≡ referenceOf a) y n
-      → Reads t typeOrReference (Means o o (Named v)) y n
+      → Reads t typeOrReference (Means o o Named (Given v)) y n
   unfolding typeOrReference
-  type-named k r = if-true (isKind name) _ _ (is-yes is-name k) (mapped named r (λ a h. (ap Named h, tt)))
+  type-named k r = if-true (isKind name) _ _ (is-yes is-name k) (mapped named r (λ a h. (refl, ap Given h, tt)))
 
   pub type-other : {P : WrittenType → Type 0} → (y .code ≡ 1 → ⊥) → Reads t typeOf P y n → Reads t typeOrReference P y n
   unfolding typeOrReference
@@ -266,13 +279,15 @@ pub semicolon : Test (isMark ";") 59
 semicolon = is-mark ";" (omega arith) (omega arith)
 
 module _ {t o : List ℕ} {y : Symbol} (based or-reference : Bool) where
-  pub alone : based ≡ true → y .code ≡ 59 → Reads t (mandatoryBy based (typeBy or-reference)) (MeansAny o o Alone) y y
-  alone h k = if-true (λ z. based && isMark ";" z) _ _ (λ z c. both h (is-yes semicolon k z c)) (stay none (refl, tt))
+  pub alone : based ≡ true → y .code ≡ 59
+      → Reads t (mandatoryBy based (typeBy or-reference)) (MeansAny o o Alone Nothing) y y
+  alone h k =
+      if-true (λ z. based && isMark ";" z) _ _ (λ z c. both h (is-yes semicolon k z c)) (stay none (refl, refl, tt))
 
-module _ {t o p : List ℕ} {y n : Symbol} (based or-reference : Bool) {v : Meant} where
+module _ {t o p : List ℕ} {y n : Symbol} (based or-reference : Bool) {v : Meant} {u : Optional} where
   pub not-alone : ((z : rules.Symbol) → Cuts t z y → (based && isMark ";" z) ≡ false)
-      → Reads t (typeBy or-reference) (Means o p v) y n
-      → Reads t (mandatoryBy based (typeBy or-reference)) (MeansAny o p v) y n
+      → Reads t (typeBy or-reference) (Means o p v u) y n
+      → Reads t (mandatoryBy based (typeBy or-reference)) (MeansAny o p v u) y n
   not-alone h r = if-false (λ z. based && isMark ";" z) _ _ h (mapped some r (λ x q. q))
 
 pub here-reads : {t : List ℕ} {y : Symbol} → Reads t placeOfNext (λ p. y .place ≡ p) y y
@@ -284,25 +299,26 @@ here-reads = record {
 mandatory-word : Test (isWord (ascii "MANDATORY")) 78
 mandatory-word = is-word (ascii "MANDATORY") 78 refl
 
-module _ {t o p : List ℕ} {y n : Symbol} (based or-reference : Bool) {v : Meant} where
+module _ {t o p : List ℕ} {y n : Symbol} (based or-reference : Bool) {v : Meant} {u : Optional} where
   pub with-mandatory : {z : Symbol} → y .code ≡ 78 → z ≡ passed t y 78
-      → Reads t (mandatoryBy based (typeBy or-reference)) (MeansAny o p v) z n
+      → Reads t (mandatoryBy based (typeBy or-reference)) (MeansAny o p v u) z n
       → Reads t (written based (typeBy or-reference))
-      (MeansAll o p (record { mandatory = true; place = z .place; meant = v })) y n
+      (MeansAll o p (record { mandatory = true; place = z .place; meant = v; reference = u })) y n
   unfolding written
   with-mandatory k e r =
       if-true (isWord (ascii "MANDATORY")) _ _ (is-yes mandatory-word k) (bind (expected mandatory-word e)
       (λ _ _. bind here-reads (λ i q. mapped (λ x. record { mandatory = true; place = i; type = x }) r
-      (λ x h. (rw (q, h .0), h .1))) (r .passes)) (r .passes))
+      (λ x h. (rw (q, h .0, h .1), h .2))) (r .passes)) (r .passes))
 
-  pub not-mandatory : (y .code ≡ 78 → ⊥) → Reads t (typeBy or-reference) (Means o p v) y n →
+  pub not-mandatory : (y .code ≡ 78 → ⊥) → Reads t (typeBy or-reference) (Means o p v u) y n →
       Reads t (written based (typeBy or-reference))
-      (MeansAll o p (record { mandatory = false; place = y .place; meant = v })) y n
+      (MeansAll o p (record { mandatory = false; place = y .place; meant = v; reference = u })) y n
   unfolding written
   not-mandatory k r =
       if-false (isWord (ascii "MANDATORY")) _ _ (is-no mandatory-word k)
       (bind here-reads (λ i q.
-      mapped (λ x. record { mandatory = false; place = i; type = some x }) r (λ x h. (rw (q, h .0), h .1))) (r .passes))
+      mapped (λ x. record { mandatory = false; place = i; type = some x }) r
+      (λ x h. (rw (q, h .0, h .1), h .2))) (r .passes))
 
 -- ---- an unsigned whole number, as the code tells it
 module _ (t : List ℕ) (place len : ℕ) (h : 0 < len) where

@@ -9,15 +9,20 @@ use readers::name_of;
 use symbols::Symbol;
 use symbols::faulty;
 ghost use mathlib.Core.Path.{_≡_};
-ghost use mathlib.Core.Bool.{_||_};
 ghost use mathlib.Core.List.{[]};
-ghost use lib.Dec.{eqb};
-ghost use Rattle.rules.specs.Grammar.{enough, propertiesFrom, reference};
+ghost use Rattle.rules.specs.Grammar.{enough, propertiesFrom, reference, optionalUnit};
 ghost use Rattle.rules.specs.Grammar.{properties as Grammar·properties, extends as Grammar·extends};
 ghost use Rattle.readers.specs.Reads.{Held, Reads};
-ghost use Rattle.parts.specs.Forms.{wordsOf, otherOf, flagsOf, withWord, referenceOf, extendsOf, givenOf};
+ghost use Rattle.parts.specs.Forms.{wordsOf, isProperty, flagsOf, withWord, referenceOf, optionalOf, givenOf};
 
 // ---- properties
+// What properties are written at: an attribute; a class, structure or domain; a unit of numbers.
+pub enum Owner {
+    Attribute,
+    Definition,
+    Measure,
+}
+
 pub struct Properties {
     pub is_abstract: bool,
     pub is_final: bool,
@@ -69,35 +74,25 @@ fn with(p: Properties, word: u8) -> Properties
     }
 }
 
-// The property beside FINAL.
-fn other(attribute: bool) -> u8
-    ensures { λ r. ⌜ r ≡ otherOf attribute ⌝ }
+fn is_property(code: u8, owner: Owner) -> bool
+    ensures { λ r. ⌜ r ≡ isProperty owner code ⌝ }
 {
-    if attribute {
-        readers::EXTENDED
-    } else {
-        readers::ABSTRACT
+    match owner {
+        Owner::Attribute => either(code == readers::EXTENDED, code == readers::FINAL),
+        Owner::Definition => either(code == readers::ABSTRACT, code == readers::FINAL),
+        Owner::Measure => code == readers::ABSTRACT,
     }
-}
-
-fn is_property(code: u8, attribute: bool) -> bool
-    ensures { λ r. ⌜ r ≡ (eqb code (otherOf attribute) || eqb code 72) ⌝ }
-{
-    if code == other(attribute) {
-        return true;
-    }
-    code == readers::FINAL
 }
 
 // The list behind its `(`, whose first symbol is y.
-fn property_list(text: &[u8], y: Symbol, attribute: bool) -> PropertiesRead
+fn property_list(text: &[u8], y: Symbol, owner: Owner) -> PropertiesRead
     requires { ⌜ Held (now text) y ⌝ }
-    ensures { λ r. ⌜ Reads (now (text .entry)) (propertiesFrom (enough (now (text .entry))) (wordsOf attribute))
+    ensures { λ r. ⌜ Reads (now (text .entry)) (propertiesFrom (enough (now (text .entry))) (wordsOf owner))
         (λ p. r .properties ≡ flagsOf p) y (r .next) ⌝ }
 {
     let mut have = none_written();
     let mut z = y;
-    while is_property(z.code, attribute) {
+    while is_property(z.code, owner) {
         have = with(have, z.code);
         let m = expect(text, z, z.code);
         if m.code == readers::COMMA {
@@ -115,14 +110,14 @@ fn property_list(text: &[u8], y: Symbol, attribute: bool) -> PropertiesRead
     }
 }
 
-pub fn read_properties(text: &[u8], y: Symbol, attribute: bool) -> PropertiesRead
+pub fn read_properties(text: &[u8], y: Symbol, owner: Owner) -> PropertiesRead
     requires { ⌜ Held (now text) y ⌝ }
-    ensures { λ r. ⌜ Reads (now (text .entry)) (Grammar·properties (wordsOf attribute))
+    ensures { λ r. ⌜ Reads (now (text .entry)) (Grammar·properties (wordsOf owner))
         (λ p. r .properties ≡ flagsOf p) y (r .next) ⌝ }
 {
     if y.code == readers::ROUND {
         let z = expect(text, y, readers::ROUND);
-        return property_list(text, z, attribute);
+        return property_list(text, z, owner);
     }
     PropertiesRead {
         properties: none_written(),
@@ -161,41 +156,61 @@ pub fn read_reference(text: &[u8], y: Symbol) -> ReferenceRead
     }
 }
 
-// What EXTENDS names, if it is there.
-pub enum Extends {
+// What EXTENDS or a type names, if anything.
+pub enum Optional {
     Nothing,
-    Base(Reference),
+    Given(Reference),
 }
 
-pub struct ExtendsRead {
-    pub base: Extends,
+pub struct OptionalRead {
+    pub reference: Optional,
     pub next: Symbol,
 }
 
-pub fn read_extends(text: &[u8], y: Symbol) -> ExtendsRead
-    ensures { λ r. ⌜ Reads (now (text .entry)) Grammar·extends (λ a. r .base ≡ extendsOf a) y (r .next) ⌝ }
+pub fn read_extends(text: &[u8], y: Symbol) -> OptionalRead
+    ensures { λ r. ⌜ Reads (now (text .entry)) Grammar·extends (λ a. r .reference ≡ optionalOf a) y (r .next) ⌝ }
 {
     if y.code == readers::EXTENDS {
         let z = expect(text, y, readers::EXTENDS);
         let r = read_reference(text, z);
         let base = r.reference;
         let next = r.next;
-        return ExtendsRead {
-            base: Extends::Base(base),
+        return OptionalRead {
+            reference: Optional::Given(base),
             next: next,
         };
     }
-    ExtendsRead {
-        base: Extends::Nothing,
+    OptionalRead {
+        reference: Optional::Nothing,
         next: y,
     }
 }
 
-pub fn is_given(base: Extends) -> bool
-    ensures { λ r. ⌜ r ≡ givenOf base ⌝ }
+// The unit of a number in brackets, if it is there.
+pub fn read_unit_reference(text: &[u8], y: Symbol) -> OptionalRead
+    ensures { λ r. ⌜ Reads (now (text .entry)) optionalUnit (λ a. r .reference ≡ optionalOf a) y (r .next) ⌝ }
 {
-    match base {
-        Extends::Nothing => false,
-        Extends::Base(_) => true,
+    if y.code == readers::SQUARE {
+        let z = expect(text, y, readers::SQUARE);
+        let r = read_reference(text, z);
+        let unit = r.reference;
+        let close = r.next;
+        return OptionalRead {
+            reference: Optional::Given(unit),
+            next: expect(text, close, readers::SQUARE_CLOSE),
+        };
+    }
+    OptionalRead {
+        reference: Optional::Nothing,
+        next: y,
+    }
+}
+
+pub fn is_given(reference: Optional) -> bool
+    ensures { λ r. ⌜ r ≡ givenOf reference ⌝ }
+{
+    match reference {
+        Optional::Nothing => false,
+        Optional::Given(_) => true,
     }
 }

@@ -1,5 +1,6 @@
 -- Tests on symbols of the rules are tests on codes.
 use mathlib.Core.Path.{_≡_, refl, _∙_}
+use mathlib.Core.Logic.{inl, inr}
 use mathlib.Core.Bool.{Bool, true, false, _&&_, _||_}
 use mathlib.Core.List.{List, [], _∷_}
 use Prim.Native.Nat.{ℕ, _+_, _<_}
@@ -39,7 +40,14 @@ is-stop = record { test = λ z i. stop-of (z .kind) (z .bytes) i; sound = omega 
 -- ---- marks
 pub is-mark : (c : Char) → 39 < code c → code c < 62 → Test (isMark c) (code c)
 is-mark c h l = record {
-  test = λ z i. mark-of (code c) (omega arith) (omega arith) (z .kind) (z .bytes);
+  test = λ z i. mark-of (code c) (omega arith) (inl (omega arith)) (z .kind) (z .bytes);
+  sound = omega arith;
+}
+
+-- a bracket
+pub is-square : (c : Char) → 90 < code c → Test (isMark c) (code c)
+is-square c h = record {
+  test = λ z i. mark-of (code c) (omega arith) (inr h) (z .kind) (z .bytes);
   sound = omega arith;
 }
 
@@ -48,11 +56,19 @@ is-mark c h l = record {
 pub is-word : (w : List ℕ) (k : ℕ) → 64 + position w forms ≡ k → Test (isWord w) k
 is-word w k e = record { test = λ z i. word-of w (z .kind) (z .bytes) i ∙ rw e; sound = omega arith }
 
+only : (k a : Bool) → (k && (a || false)) ≡ (k && a)
+only k true = refl
+only k false = refl
+
 spread : (k a b : Bool) → (k && (a || (b || false))) ≡ ((k && a) || (k && b))
 spread true true b = refl
 spread true false true = refl
 spread true false false = refl
 spread false a b = refl
+
+pub is-only-word : (w : List ℕ) (k : ℕ) → 64 + position w forms ≡ k → (z : rules.Symbol) → Sound (z .kind) (z .bytes)
+    → isOneWord (w ∷ []) z ≡ eqb (codeOf (z .kind) (z .bytes)) k
+is-only-word w k e z i = only (isKind word z) (same (z .bytes) w) ∙ is-word w k e .test z i
 
 -- one of the words v and w, which have the codes j and k
 pub is-one-word : (v w : List ℕ) (j k : ℕ) → 64 + position v forms ≡ j → 64 + position w forms ≡ k

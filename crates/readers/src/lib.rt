@@ -31,6 +31,10 @@ pub const SEMICOLON: u8 = b';';
 
 pub const EQUALS: u8 = b'=';
 
+pub const SQUARE: u8 = b'[';
+
+pub const SQUARE_CLOSE: u8 = b']';
+
 pub const INTERLIS: u8 = 64;
 
 pub const MODEL: u8 = 65;
@@ -66,6 +70,8 @@ pub const TEXT: u8 = 79;
 pub const MTEXT: u8 = 80;
 
 pub const NUMERIC: u8 = 81;
+
+pub const UNIT: u8 = 82;
 
 pub fn name_of(y: Symbol) -> Name
     ensures { λ r. ⌜ r ≡ named y ⌝ }

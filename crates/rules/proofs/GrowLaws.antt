@@ -64,6 +64,7 @@ head-some D.topic d = omega arith
 head-some D.class d = omega arith
 head-some D.struct d = omega arith
 head-some D.domain d = omega arith
+head-some D.unit d = omega arith
 
 pub with-sort : (c : Def) (a : Attribute) → withAttribute c a .sort ≡ c .sort
 unfolding withAttribute

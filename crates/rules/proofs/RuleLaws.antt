@@ -34,8 +34,7 @@ doubled-nine (some p) = refl
 pub element-nine : (w : Option WrittenType) → elementRule w .number ≡ 9
 element-nine none = refl
 element-nine (some (G.text m n)) = refl
-element-nine (some (G.range x y)) = refl
-element-nine (some G.numeric) = refl
+element-nine (some (G.numeric q r)) = refl
 element-nine (some (G.enum e)) = doubled-nine (twice e [])
 element-nine (some (G.named r)) = refl
 

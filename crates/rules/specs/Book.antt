@@ -8,7 +8,8 @@ use lib.IntN.{ℤ, pos, negsuc}
 use lib.Dec.{leb}
 use Rattle.rules.specs.Names.{Name}
 use Rattle.rules.specs.Enumerations.{Enum, end, elem, final}
-use Rattle.rules.specs.Types.{Ty, text, range, numeric, structure, enum}
+use Rattle.rules.specs.Numbers.{Range}
+use Rattle.rules.specs.Types.{Measure, Ty, text, numeric, structure, enum}
 use Rattle.rules.specs.Declarations as D
 use Rattle.rules.specs.Declarations.{Link, Use, inline, ofDomain, ofStructure, Attribute, Sort, Def, Decl, State}
 
@@ -66,10 +67,18 @@ abbrev pub lengthOr : Option ℕ → ℕ
 lengthOr none = 0
 lengthOr (some n) = n
 
+abbrev pub numberRecord : Option Range → Record
+numberRecord none = 11 ∷ []
+numberRecord (some r) = 10 ∷ r .decimals ∷ (lowFirst 8 (twos (r .low)) ++ lowFirst 8 (twos (r .high)))
+
+-- document 02, No. 1: of a number before it
+abbrev pub unitRecords : Option Measure → List Record
+unitRecords none = []
+unitRecords (some u) = (19 ∷ lowFirst 4 (u .number)) ∷ []
+
 abbrev pub typeRecords : Ty → List Record
 typeRecords (text m n) = (cond m 9 8 ∷ lowFirst 4 (lengthOr n)) ∷ []
-typeRecords (range r) = (10 ∷ r .decimals ∷ (lowFirst 8 (twos (r .low)) ++ lowFirst 8 (twos (r .high)))) ∷ []
-typeRecords numeric = (11 ∷ []) ∷ []
+typeRecords (numeric r u) = numberRecord r ∷ unitRecords u
 typeRecords (enum e) = openRecord e ∷ elementRecords e
 typeRecords structure = []
 
@@ -103,6 +112,7 @@ headRecords D.topic d = nameRecord 2 (d .name) ∷ []
 headRecords D.class d = classRecords 4 d
 headRecords D.struct d = classRecords 5 d
 headRecords D.domain d = defRecord 7 d ∷ typeRecords (d .type)
+headRecords D.unit d = defRecord 18 d ∷ []
 
 -- a class or structure is followed by the record of its END
 abbrev pub endRecords : Sort → List Record
@@ -110,6 +120,7 @@ endRecords D.topic = []
 endRecords D.class = (16 ∷ []) ∷ []
 endRecords D.struct = (16 ∷ []) ∷ []
 endRecords D.domain = []
+endRecords D.unit = []
 
 abbrev pub declRecords : Decl → List Record
 declRecords (D.model n) = nameRecord 1 n ∷ []

@@ -8,15 +8,15 @@ use Rattle.rules.specs.Bytes.{same}
 use Rattle.rules.specs.Names.{Name}
 use Rattle.rules.specs.Grammar as G
 use Rattle.rules.specs.Grammar.{Reference}
-use Rattle.rules.specs.Types.{Ty, structure}
+use Rattle.rules.specs.Types.{Measure, Ty, structure}
 use Rattle.rules.specs.Units.{Strings}
-pub use Rattle.rules.specs.Names.{Sort, topic, class, struct, domain, sortNumber, isSort}
+pub use Rattle.rules.specs.Names.{Sort, topic, class, struct, domain, unit, sortNumber, isSort}
 -- whether a lookup finds something
 pub use Rattle.rules.specs.Units.{isGiven as isFound}
 
 -- ---- bases
--- a domain, class or structure as its descendants know it: its record number, its full name behind the model's (the
--- topic around it, if there is one, and its own name), and its type
+-- a domain, class, structure or unit as its descendants know it: its record number, its full name behind the model's
+-- (the topic around it, if there is one, and its own name), and its type
 pub record Link : Type 0 where
   pub number : ℕ
   pub around : Option (List ℕ)
@@ -63,6 +63,18 @@ pub record Def : Type 0 where
 
 abbrev pub linkOf : Def → Link
 linkOf d = record { number = d .number; around = d .around; name = d .name .bytes; type = d .type }
+
+abbrev pub numbersOf : List Link → List ℕ
+numbersOf [] = []
+numbersOf (l ∷ bs) = l .number ∷ numbersOf bs
+
+-- a declared unit as a number carries it
+abbrev pub measureOf : Def → Measure
+measureOf d = record { number = d .number; bases = numbersOf (d .bases) }
+
+abbrev pub measureIn : Option Def → Option Measure
+measureIn none = none
+measureIn (some d) = some (measureOf d)
 
 -- all attributes of a class; of two with one name the nearer stands first
 abbrev pub attributesOf : Def → List Attribute

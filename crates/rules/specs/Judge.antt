@@ -1,5 +1,5 @@
--- Document 01, "Names", "Types and bases" and "Refusals in order", 4 (attribute count) and 7 to 18: the rules of each
--- unit in the order of their numbers, and the state after a unit that breaks none.
+-- Document 01, "Names", "Types and bases" and "Refusals in order", 4 (attribute count) and 7 to 18, and document 02,
+-- No. 1, 22: the rules of each unit in the order of their numbers, and the state after a unit that breaks none.
 use mathlib.Core.Bool.{Bool, true, false, cond, not, _&&_, _||_}
 use mathlib.Core.Option.{Option, none, some}
 use mathlib.Core.List.{List, [], _∷_, _++_}
@@ -10,15 +10,16 @@ use lib.Dec.{eqb, leb}
 use Rattle.rules.specs.Bytes.{ascii, same, isOneOf}
 use Rattle.rules.specs.Names.{Name}
 use Rattle.rules.specs.Symbols.{Symbol}
-use Rattle.rules.specs.Numbers.{digits, valueOf, decimalsOf}
+use Rattle.rules.specs.Numbers.{Range, digits, valueOf, decimalsOf}
 use Rattle.rules.specs.Enumerations.{Enum, isLeaf, merge, twice}
 use Rattle.rules.specs.Grammar as G
-use Rattle.rules.specs.Grammar.{Reference, WrittenType, Written}
+use Rattle.rules.specs.Grammar.{Reference, Bounds, WrittenType, Written}
 use Rattle.rules.specs.Units as U
 use Rattle.rules.specs.Units.{Strings, isGiven}
-use Rattle.rules.specs.Types.{Ty, text, range, numeric, structure, enum, kindOf, fits}
+use Rattle.rules.specs.Types.{Ty, text, numeric, structure, enum, kindOf, fits, unitsFit}
 use Rattle.rules.specs.Declarations.{Link, Use, inline, ofDomain, ofStructure, tyOf, Attribute, Sort, topic}
-use Rattle.rules.specs.Declarations.{class, domain, isSort, Def, linkOf, attributesOf, attributeAt, isFound}
+use Rattle.rules.specs.Declarations.{class, domain, unit, isSort, Def, linkOf, measureIn, attributesOf}
+use Rattle.rules.specs.Declarations.{attributeAt, isFound}
 use Rattle.rules.specs.Declarations.{nameCount, Decl, model, def, endTopic, State, numberIn, topicName, atHand}
 use Rattle.rules.specs.Declarations.{resolve}
 use Rattle.rules.specs.Declarations as D
@@ -123,23 +124,29 @@ lengthIn (some y) = some (digits (y .bytes) 0)
 abbrev pub mergedInto : Ty → Enum → Ty
 mergedInto (enum b) e = enum (merge b e)
 mergedInto (text m n) e = enum e
-mergedInto (range r) e = enum e
-mergedInto numeric e = enum e
+mergedInto (numeric r u) e = enum e
 mergedInto structure e = enum e
 
--- the type that is written, over a base's; a reference is for attributes alone
-abbrev pub meant : WrittenType → Ty → Ty
-meant (G.text m n) b = text m (lengthIn n)
-meant (G.range x y) b =
-    range (record { decimals = decimalsOf (x .bytes); low = valueOf (x .bytes); high = valueOf (y .bytes) })
-meant G.numeric b = numeric
-meant (G.enum e) b = mergedInto b e
-meant (G.named r) b = structure
+abbrev pub rangeIn : Option Bounds → Option Range
+rangeIn none = none
+rangeIn (some q) = some (record {
+  decimals = decimalsOf (q .first .bytes);
+  low = valueOf (q .first .bytes);
+  high = valueOf (q .second .bytes);
+})
 
--- MANDATORY alone means the base's type
-abbrev pub domainType : Option WrittenType → Ty → Ty
-domainType none b = b
-domainType (some x) b = meant x b
+-- the type that is written, over a base's, b; its unit's reference leads to target; a reference in place of a type is
+-- for attributes alone
+abbrev pub meant : WrittenType → Option Def → Ty → Ty
+meant (G.text m n) target b = text m (lengthIn n)
+meant (G.numeric q r) target b = numeric (rangeIn q) (measureIn target)
+meant (G.enum e) target b = mergedInto b e
+meant (G.named r) target b = structure
+
+-- MANDATORY alone means the base's type, with its unit
+abbrev pub domainType : Option WrittenType → Option Def → Ty → Ty
+domainType none target b = b
+domainType (some x) target b = meant x target b
 
 abbrev pub naming : Def → Use
 naming d = cond (isSort domain (d .sort)) (ofDomain (linkOf d) (d .bases)) (ofStructure (linkOf d) (d .bases))
@@ -147,24 +154,31 @@ naming d = cond (isSort domain (d .sort)) (ofDomain (linkOf d) (d .bases)) (ofSt
 -- what types an attribute over its base's use, b; a reference leads to target
 abbrev pub attributeUse : Option WrittenType → Option Def → Use → Use
 attributeUse none target b = b
-attributeUse (some (G.text m n)) target b = inline (meant (G.text m n) (tyOf b))
-attributeUse (some (G.range x y)) target b = inline (meant (G.range x y) (tyOf b))
-attributeUse (some G.numeric) target b = inline (meant G.numeric (tyOf b))
-attributeUse (some (G.enum e)) target b = inline (meant (G.enum e) (tyOf b))
+attributeUse (some (G.text m n)) target b = inline (meant (G.text m n) target (tyOf b))
+attributeUse (some (G.numeric q r)) target b = inline (meant (G.numeric q r) target (tyOf b))
+attributeUse (some (G.enum e)) target b = inline (meant (G.enum e) target (tyOf b))
 attributeUse (some (G.named r)) target b = naming (orNoDef target)
 
+-- the reference that stands in a type, to its unit, or in place of one
 abbrev pub referenceIn : Option WrittenType → Option Reference
 referenceIn none = none
 referenceIn (some (G.text m n)) = none
-referenceIn (some (G.range x y)) = none
-referenceIn (some G.numeric) = none
+referenceIn (some (G.numeric q r)) = r
 referenceIn (some (G.enum e)) = none
 referenceIn (some (G.named r)) = some r
 
+-- a domain or structure is named in place of a type
+abbrev pub isNaming : Option WrittenType → Bool
+isNaming none = false
+isNaming (some (G.text m n)) = false
+isNaming (some (G.numeric q r)) = false
+isNaming (some (G.enum e)) = false
+isNaming (some (G.named r)) = true
+
 abbrev pub isNumeric : Ty → Bool
 isNumeric (text m n) = false
-isNumeric (range r) = false
-isNumeric numeric = true
+isNumeric (numeric none u) = true
+isNumeric (numeric (some r) u) = false
 isNumeric (enum e) = false
 isNumeric structure = false
 
@@ -176,8 +190,7 @@ doubled (some p) = rule 9 p true
 abbrev pub elementRule : Option WrittenType → Rule
 elementRule none = doubled none
 elementRule (some (G.text m n)) = doubled none
-elementRule (some (G.range x y)) = doubled none
-elementRule (some G.numeric) = doubled none
+elementRule (some (G.numeric q r)) = doubled none
 elementRule (some (G.enum e)) = doubled (twice e [])
 elementRule (some (G.named r)) = doubled none
 
@@ -186,10 +199,11 @@ abbrev pub typeRules : Bool → ℕ → Option WrittenType → List Rule
 typeRules based p none = []
 typeRules based p (some (G.text m none)) = []
 typeRules based p (some (G.text m (some y))) = rule 14 (y .place) (eqb (digits (y .bytes) 0) 0) ∷ []
-typeRules based p (some (G.range x y)) =
-    rule 14 (x .place)
-    (not (eqb (decimalsOf (x .bytes)) (decimalsOf (y .bytes))) || ltZ (valueOf (y .bytes)) (valueOf (x .bytes))) ∷ []
-typeRules based p (some G.numeric) = []
+typeRules based p (some (G.numeric none r)) = []
+typeRules based p (some (G.numeric (some q) r)) =
+    rule 14 (q .first .place)
+    (not (eqb (decimalsOf (q .first .bytes)) (decimalsOf (q .second .bytes)))
+    || ltZ (valueOf (q .second .bytes)) (valueOf (q .first .bytes))) ∷ []
 typeRules based p (some (G.enum e)) = rule 15 p (isLeaf e && not based) ∷ []
 typeRules based p (some (G.named r)) = []
 
@@ -242,8 +256,8 @@ topicRules s n = rule 9 (n .offset) (isFound (atHand s (n .bytes))) ∷ []
 abbrev pub afterTopic : State → Name → State
 afterTopic s n = inTopic (declare s (def (newTopic s n))) (some (newTopic s n))
 
--- ---- classes and structures: c is the sort, r the reference after EXTENDS, base what it leads to
--- "Types and bases": only what is of the same sort
+-- ---- classes, structures and units: c is the sort, r the reference after EXTENDS, base what it leads to
+-- "Types and bases", and document 02, No. 1: only what is of the same sort
 abbrev pub mayExtend : Sort → Sort → Bool
 mayExtend c b = isSort c b
 
@@ -263,13 +277,19 @@ newClass s c n p base = record {
   inherited = attributesOf (orNoDef base);
 }
 
--- 10 to 12 of what EXTENDS a reference
+-- 10 of a reference that leads to o
+abbrev pub unknownRule : Option Reference → Option Def → Rule
+unknownRule r o = rule 10 (placeOf r) (isGiven r && not (isFound o))
+
+-- 11 and 12 of what EXTENDS a reference
+abbrev pub extends11 : Sort → Option Reference → Option Def → Rule
+extends11 c r base = rule 11 (placeOf r) (isFound base && not (mayExtend c (orNoDef base .sort)))
+
+abbrev pub extends12 : Option Reference → Option Def → Rule
+extends12 r base = rule 12 (placeOf r) (orNoDef base .final)
+
 unfoldable pub extendsRules : Sort → Option Reference → Option Def → List Rule
-extendsRules c r base =
-    rule 10 (placeOf r) (isGiven r && not (isFound base))
-    ∷ rule 11 (placeOf r) (isFound base && not (mayExtend c (orNoDef base .sort)))
-    ∷ rule 12 (placeOf r) (orNoDef base .final)
-    ∷ []
+extendsRules c r base = unknownRule r base ∷ extends11 c r base ∷ extends12 r base ∷ []
 
 unfoldable pub classRules : State → Sort → Name → List (List ℕ) → Option Reference → Option Def → List Rule
 classRules s c n p r base =
@@ -277,9 +297,21 @@ classRules s c n p r base =
     ∷ (extendsRules c r base
     ++ (rule 13 (n .offset) (hasTwice p || (isAbstract p && isFinal p)) ∷ []))
 
--- ---- domains: r is the reference after EXTENDS, base what it leads to
-unfoldable pub newDomain : State → Name → List (List ℕ) → Written → Option Def → Def
-newDomain s n p w base = record {
+-- ---- the reference in a type leads to target: in place of a type to a domain or a structure, in square brackets to a
+-- unit
+abbrev pub mayType : Sort → Bool
+mayType b = isSort domain b || isSort D.struct b
+
+abbrev pub mayStandIn : Option WrittenType → Sort → Bool
+mayStandIn w b = cond (isNaming w) (mayType b) (isSort unit b)
+
+-- 11
+abbrev pub type11 : Option WrittenType → Option Def → Rule
+type11 w target = rule 11 (placeOf (referenceIn w)) (isFound target && not (mayStandIn w (orNoDef target .sort)))
+
+-- ---- domains: r is the reference after EXTENDS, base what it leads to; target what the type's reference leads to
+unfoldable pub newDomain : State → Name → List (List ℕ) → Written → Option Def → Option Def → Def
+newDomain s n p w base target = record {
   sort = domain;
   name = n;
   home = numberIn (s .topic);
@@ -288,30 +320,44 @@ newDomain s n p w base = record {
   abstract = isAbstract p;
   final = isFinal p;
   mandatory = w .mandatory || orNoDef base .mandatory;
-  type = domainType (w .type) (orNoDef base .type);
+  type = domainType (w .type) target (orNoDef base .type);
   bases = basesOf base;
   own = [];
   inherited = [];
 }
 
 -- 9 to 16
-unfoldable pub domainTo16 : State → Name → List (List ℕ) → Option Reference → Written → Option Def → List Rule
-domainTo16 s n p r w base =
-    let e = newDomain s n p w base in
+unfoldable pub domainTo16 : State → Name → List (List ℕ) → Option Reference → Written → Option Def → Option Def
+    → List Rule
+domainTo16 s n p r w base target =
+    let e = newDomain s n p w base target in
     rule 9 (n .offset) (isFound (atHand s (n .bytes)))
     ∷ elementRule (w .type)
-    ∷ (extendsRules domain r base
-    ++ (rule 13 (n .offset) (hasTwice p || ((isAbstract p && isFinal p) || (isNumeric (e .type) && not (isAbstract p))))
+    ∷ unknownRule r base
+    ∷ unknownRule (referenceIn (w .type)) target
+    ∷ extends11 domain r base
+    ∷ type11 (w .type) target
+    ∷ extends12 r base
+    ∷ rule 13 (n .offset) (hasTwice p || ((isAbstract p && isFinal p) || (isNumeric (e .type) && not (isAbstract p))))
     ∷ (typeRules (isFound base) (w .place) (w .type)
-    ++ (kindRule (w .place) (isFound base) (e .type) (orNoDef base .type) ∷ []))))
+    ++ (kindRule (w .place) (isFound base) (e .type) (orNoDef base .type) ∷ []))
 
 -- 17
-abbrev pub domain17 : Written → Option Def → Rule
-domain17 w base =
-    rule 17 (w .place) (isFound base && not (fits (domainType (w .type) (orNoDef base .type)) (orNoDef base .type)))
+abbrev pub domain17 : Written → Option Def → Option Def → Rule
+domain17 w base target =
+    rule 17 (w .place)
+    (isFound base && not (fits (domainType (w .type) target (orNoDef base .type)) (orNoDef base .type)))
 
-unfoldable pub domainRules : State → Name → List (List ℕ) → Option Reference → Written → Option Def → List Rule
-domainRules s n p r w base = domainTo16 s n p r w base ++ (domain17 w base ∷ [])
+-- 22
+abbrev pub domain22 : Written → Option Def → Option Def → Rule
+domain22 w base target =
+    rule 22 (w .place)
+    (isFound base && not (unitsFit (domainType (w .type) target (orNoDef base .type)) (orNoDef base .type)))
+
+unfoldable pub domainRules : State → Name → List (List ℕ) → Option Reference → Written → Option Def → Option Def
+    → List Rule
+domainRules s n p r w base target =
+    domainTo16 s n p r w base target ++ (domain17 w base target ∷ domain22 w base target ∷ [])
 
 -- ---- attributes: c is the open class, base the nearest inherited attribute of that name, target
 -- what a reference leads to
@@ -324,7 +370,7 @@ abbrev pub baseOfAttribute : Option Attribute → Option ℕ
 baseOfAttribute none = none
 baseOfAttribute (some a) = some (a .number)
 
--- "Types and bases": MANDATORY is written here, or taken over from what is named or extended
+-- "Types and bases": MANDATORY is written here, or taken over from what is named or extended; no unit has it
 unfoldable pub newAttribute : State → Name → List (List ℕ) → Written → Option Attribute → Option Def → Attribute
 newAttribute s n p w base target = record {
   name = n;
@@ -352,10 +398,6 @@ withAttribute c a = record {
   inherited = c .inherited;
 }
 
--- an attribute names a domain or a structure
-abbrev pub mayType : Sort → Bool
-mayType b = isSort domain b || isSort D.struct b
-
 -- 4 and 9 to 16; where an attribute is inherited and not EXTENDED, 9 comes first, so behind it an
 -- inherited one is the base
 unfoldable pub attributeTo16 : State → Def → Name → List (List ℕ) → Written → Option Attribute → Option Def → List Rule
@@ -365,8 +407,8 @@ attributeTo16 s c n p w base target =
     ∷ rule 9 (n .offset) (isFound (attributeAt (n .bytes) (c .own)) || (isFound base && not (isExtended p)))
     ∷ elementRule (w .type)
     ∷ rule 10 (n .offset) (isExtended p && not (isFound base))
-    ∷ rule 10 (placeOf (referenceIn (w .type))) (isGiven (referenceIn (w .type)) && not (isFound target))
-    ∷ rule 11 (placeOf (referenceIn (w .type))) (isFound target && not (mayType (orNoDef target .sort)))
+    ∷ unknownRule (referenceIn (w .type)) target
+    ∷ type11 (w .type) target
     ∷ rule 12 (n .offset) (orNoAttribute base .final)
     ∷ rule 13 (n .offset) (hasTwice p || (isNumeric (tyOf u) || (isDomain u && orNoDef target .abstract)))
     ∷ (typeRules (isFound base) (w .place) (w .type)
@@ -394,13 +436,18 @@ attribute17 p based names u b = rule 17 p (based && (not (names && descends u b)
 abbrev pub attribute18 : ℕ → Bool → Bool → Use → Use → Rule
 attribute18 p based names u b = rule 18 p (based && (names && not (descends u b)))
 
-abbrev pub attribute17To18 : ℕ → Bool → Bool → Use → Use → List Rule
-attribute17To18 p based names u b = attribute17 p based names u b ∷ attribute18 p based names u b ∷ []
+-- 22, of a type in place; a descendant that is named was judged where it was declared, any other name is 18
+abbrev pub attribute22 : ℕ → Bool → Bool → Use → Use → Rule
+attribute22 p based names u b = rule 22 p (based && (not names && not (unitsFit (tyOf u) (tyOf b))))
+
+abbrev pub attributeFrom17 : ℕ → Bool → Bool → Use → Use → List Rule
+attributeFrom17 p based names u b =
+    attribute17 p based names u b ∷ attribute18 p based names u b ∷ attribute22 p based names u b ∷ []
 
 unfoldable pub attributeRules : State → Def → Name → List (List ℕ) → Written → Option Attribute → Option Def → List Rule
 attributeRules s c n p w base target =
     attributeTo16 s c n p w base target
-    ++ attribute17To18 (w .place) (isFound base) (isGiven (referenceIn (w .type)))
+    ++ attributeFrom17 (w .place) (isFound base) (isNaming (w .type))
     (newAttribute s n p w base target .use-of) (orNoAttribute base .use-of)
 
 -- the nearest inherited attribute of a name
@@ -437,8 +484,9 @@ rulesOf s (U.header v) = headerRules v
 rulesOf s (U.model n q) = []
 rulesOf s (U.topic n) = topicRules s n
 rulesOf s (U.class c n p r) = classRules s c n p r (resolved s r)
-rulesOf s (U.domain n p r w) = domainRules s n p r w (resolved s r)
+rulesOf s (U.domain n p r w) = domainRules s n p r w (resolved s r) (resolved s (referenceIn (w .type)))
 rulesOf s (U.attribute n p w) = memberRules s n p w (s .open-class)
+rulesOf s (U.unit n p r) = classRules s unit n p r (resolved s r)
 rulesOf s (U.close n) = endRules n (openName s (s .open-class) (s .topic))
 
 abbrev pub nextState : State → U.Unit → State
@@ -446,8 +494,10 @@ nextState s (U.header v) = s
 nextState s (U.model n q) = begun n q
 nextState s (U.topic n) = afterTopic s n
 nextState s (U.class c n p r) = opened s (newClass s c n p (resolved s r))
-nextState s (U.domain n p r w) = declare s (def (newDomain s n p w (resolved s r)))
+nextState s (U.domain n p r w) =
+    declare s (def (newDomain s n p w (resolved s r) (resolved s (referenceIn (w .type)))))
 nextState s (U.attribute n p w) = afterMember s n p w (s .open-class)
+nextState s (U.unit n p r) = declare s (def (newClass s unit n p (resolved s r)))
 nextState s (U.close n) = afterClose s (s .open-class) (s .topic)
 
 unfoldable pub judge : State → U.Unit → Judged

@@ -32,7 +32,7 @@ use Rattle.units.specs.declared.Where.the-variants.{Start}
 use Rattle.units.specs.declared.Unit.{Unit}
 use Rattle.units.specs.declared.Step.{Step}
 use Rattle.units.specs.declared.Step.the-variants.{Read, Unread}
-use Rattle.units.specs.Steps.{aroundOf, runOf, behindOf, whereOf, placeOf, IsAny, StepIs, Steps}
+use Rattle.units.specs.Steps.{aroundOf, runOf, runCut, behindOf, whereOf, placeOf, IsAny, StepIs, Steps}
 use Rattle.rules.specs.All.{AnyIs}
 use Rattle.wellformed.specs.Fairness.{FairUnit, MayStand, Placed}
 use Rattle.wellformed.proofs.ReadLaws.{unit-fair}
@@ -232,9 +232,10 @@ around-where : (a : U.Around) → aroundOf (not (U.isModel a)) ≡ a
 around-where U.in-model = refl
 around-where U.in-topic = refl
 
-run-where : (r : U.Run) → runOf (U.ofDomains r) ≡ r
+run-where : (r : U.Run) → runOf (runCut r) ≡ r
 run-where U.no-run = refl
 run-where U.domains = refl
+run-where U.units = refl
 
 behind-where : (b : U.Behind) → behindOf (U.isHead b) ≡ b
 behind-where U.its-head = refl

@@ -67,7 +67,7 @@ module _ (m p : ℕ) (s : State) (h : m ≤ 65535) where
   pub room-within : length (book s) ≤ m → room (lent m) p (ok s) ≡ ok s
   room-within w = rw (whole, le-ltb m (length (book s)) w)
 
--- ---- the answer: a rule of 4 and 7 to 18, 19, or the next state
+-- ---- the answer: a rule of 4, 7 to 18 and 22, then 19, or the next state
 module _ (t : List ℕ) (s : State) (v : U.Unit) (o : List ℕ) (st : code.State)
     (r : code-judged.Judged) (o' x z y hs : List ℕ) where
   answer : (j : Judged) → verdict s v o ≡ j → JudgedAs t j st r o' x z y hs

@@ -10,11 +10,12 @@ use lib.Seq.{take-at}
 use lib.Dec.{leb}
 use Rattle.rules.specs.Names as R
 use Rattle.rules.specs.Enumerations.{Enum, end, elem}
-use Rattle.rules.specs.Types.{Ty, text, range, numeric, structure, enum}
+use Rattle.rules.specs.Types.{Measure, Ty, text, numeric, structure, enum}
 use Rattle.rules.specs.Declarations as D
 use Rattle.rules.specs.Declarations.{Use, inline, ofDomain, ofStructure, Attribute, Sort, Def, attributeAt}
 use Rattle.rules.specs.Declarations.{attributesOf, isFound, nameCount, Decl, def, endTopic, State, known}
-use Rattle.rules.specs.Book.{Record, bytes, nameRecord, innerRecords, elementRecords, typeRecords, useRecords}
+use Rattle.rules.specs.Book.{Record, bytes, nameRecord, innerRecords, elementRecords, unitRecords, typeRecords}
+use Rattle.rules.specs.Book.{useRecords}
 use Rattle.rules.specs.Book.{headRecords, endRecords, declRecords, declsRecords, attributeRecords, attributesRecords}
 use Rattle.rules.specs.Book.{records, book, isDefinition, definitions}
 use Rattle.rules.specs.Units.{Strings, classSort}
@@ -31,6 +32,7 @@ use Rattle.members.proofs.HeldLaws.{Agree}
 use Rattle.rules.proofs.GrowLaws.{known-append, bytes-append, decls-append}
 use Rattle.members.proofs.StateLaws.{nowhere, owns-append, head-more, end-is, book-attribute, held-declared}
 use Rattle.members.proofs.StateLaws.{held-opened, held-member, held-closed, held-ended, open-row-more}
+use Rattle.members.proofs.StateLaws.{attribute-no-unit}
 use Rattle.wellformed.specs.Fairness.{FairOpen, FairState, Undeclared}
 use Rattle.rules.proofs.Tests.{never}
 use Rattle.rules.proofs.AllLaws.{any-is}
@@ -99,11 +101,15 @@ plain-elements (elem n i r) =
     plain-one 14 _ _ refl
     (plain-append _ _ (plain-inner i _ (plain-one 13 _ _ refl (plain-elements i))) (plain-elements r))
 
+plain-unit : (u : Option Measure) → Plain (unitRecords u)
+plain-unit none = plain-none
+plain-unit (some u) = plain-one 19 _ [] refl plain-none
+
 pub plain-type : (x : Ty) → Plain (typeRecords x)
 plain-type (text true n) = plain-one 9 _ [] refl plain-none
 plain-type (text false n) = plain-one 8 _ [] refl plain-none
-plain-type (range r) = plain-one 10 _ [] refl plain-none
-plain-type numeric = plain-one 11 [] [] refl plain-none
+plain-type (numeric none u) = plain-one 11 [] _ refl (plain-unit u)
+plain-type (numeric (some r) u) = plain-one 10 _ _ refl (plain-unit u)
 plain-type structure = plain-none
 plain-type (enum e) = plain-one 13 _ _ refl (plain-elements e)
 
@@ -137,20 +143,25 @@ head-solid D.topic d = record { solid = omega arith; six = omega arith }
 head-solid D.class d = record { solid = let h = solid-attributes (d .own) in omega arith; six = omega arith }
 head-solid D.struct d = record { solid = let h = solid-attributes (d .own) in omega arith; six = omega arith }
 head-solid D.domain d = record { solid = let h = plain-type (d .type) .solid in omega arith; six = omega arith }
+head-solid D.unit d = record { solid = omega arith; six = omega arith }
 
 end-solid : (x : Sort) → Solid (endRecords x)
 end-solid D.topic = omega arith
 end-solid D.class = omega arith
 end-solid D.struct = omega arith
 end-solid D.domain = omega arith
+end-solid D.unit = omega arith
 
 decl-solid : (d : Def) → Heads (declRecords (def d))
 decl-solid d =
     heads-append (headRecords (d .sort) d) (endRecords (d .sort)) (head-solid (d .sort) d) (end-solid (d .sort))
 
--- of a domain and of an attribute there is one definition
+-- of a domain and of an attribute there is one definition, of a unit none
 pub domain-defined : (d : Def) → d .sort ≡ D.domain → definitions (declRecords (def d)) ≡ 1
 domain-defined d e = rw (e, append-nil (typeRecords (d .type))) (ap suc (plain-type (d .type) .undefined))
+
+pub unit-defined : (d : Def) → d .sort ≡ D.unit → definitions (declRecords (def d)) ≡ 0
+unit-defined d e = rw e
 
 pub attribute-defined : (a : Attribute) → definitions (attributeRecords a) ≡ 1
 attribute-defined a = ap suc (plain-use (a .use-of) .undefined)
@@ -298,7 +309,7 @@ entry-last ks c (suc i) e = go ks i (omega arith)
     go (d ∷ l) zero e = absurd (omega arith)
     go (d ∷ l) (suc i) e = go l i (omega arith)
 
--- a topic or a domain d, declared whole, with its row behind the last
+-- a topic, a domain or a unit d, declared whole, with its row behind the last
 module _ (t : List ℕ) (s : State) (st : code.State) (o x z y hs : List ℕ) (k : Keeps t s st o x z y hs) where
   no-class : s .open-class ≡ none → OpenIs t s st x hs none
   no-class e = subst (OpenIs t s st x hs) e (k .opened)
@@ -403,6 +414,8 @@ module _ (t : List ℕ) (s : State) (st : code.State) (o x z y hs : List ℕ) (k
           open-names = tt;
           decls = f .decls;
           topic = k .fair .topic;
+          rising = f .rising;
+          open-behind = tt;
         };
         hand = k .hand;
         opened = (op, hl, omega arith, rw (a, n) hd);
@@ -481,7 +494,8 @@ module _ (t : List ℕ) (s : State) (st : code.State) (o x z y hs : List ℕ) (k
             omega arith,
             rw m op,
             rw (v, m) (open-row-more t (book s) (bytes (attributeRecords a)) (known (s .decls)) (attributesIn s)
-                (st .listing .count + 1) c (row definitionWidth x (st .listing .count + 1)) a old u few),
+                (st .listing .count + 1) c (row definitionWidth x (st .listing .count + 1)) a
+                (attribute-no-unit a) old u few),
           );
         }
 

@@ -4,3 +4,4 @@ pub mod KeepLaws
 pub mod JudgeLaws
 pub mod SharedLaws
 pub mod RowLaws
+pub mod TargetLaws

@@ -60,7 +60,7 @@ module _ (t b : List ℕ) (ks : List Def) (ms : List Attribute) (p : ℕ) (d : D
   no-own : Unlike (d .own)
   no-own = rw (h .own) tt
 
-  -- a topic or a domain
+  -- a topic, a domain or a unit
   pub def-row : DefRow t b ks ms p d (definitionRow w)
   def-row = record {
     says = says;

@@ -24,9 +24,9 @@ use Rattle.names.proofs.IndexLaws.{there}
 use Rattle.names.proofs.BaseLaws.{entry-there}
 use Rattle.readers.specs.Reads.{nameCut}
 use Rattle.parts.specs.declared.Properties.{Properties}
-use Rattle.parts.specs.declared.Extends.{Extends}
-use Rattle.parts.specs.declared.Extends.the-variants.{Nothing, Base}
-use Rattle.parts.specs.Forms.{flagsOf, referenceOf, extendsOf}
+use Rattle.parts.specs.declared.Optional.{Optional}
+use Rattle.parts.specs.declared.Optional.the-variants.{Nothing, Given}
+use Rattle.parts.specs.Forms.{flagsOf, referenceOf, optionalOf}
 use Rattle.rules.specs.All.{AnyIs}
 use Rattle.wellformed.specs.Fairness.{FairReference}
 use Rattle.ground.specs.Rulings.{rulingOf}
@@ -122,33 +122,48 @@ pub extends-positive : (c : Sort) (b : Option G.Reference) (o : Option Def) → 
 unfolding extendsRules
 extends-positive c b o = (omega arith, (omega arith, (omega arith, tt)))
 
--- ---- EXTENDS
-pub extends-inside : (t : List ℕ) (b : Option G.Reference) (e : Extends) (r : Reference) → e ≡ Base r → e ≡ extendsOf b
-    → AnyIs (FairReference t) b → AllInside t r
-extends-inside t none e r p q f = let z : _≡_ {A = ℕ} 0 1 = cc in absurd (omega arith)
-extends-inside t (some b) e r p q f = let u : r ≡ referenceOf b = cc in reference-inside t b r u f
+-- ---- a reference, if there is one
+pub nothing-is : (e : Optional) → e ≡ Nothing → (b : Option G.Reference) → e ≡ optionalOf b → b ≡ none
+nothing-is e p none q = refl
+nothing-is e p (some b) q = let z : _≡_ {A = ℕ} 0 1 = cc in absurd (omega arith)
 
-module _ (s : State) (c : Sort) where
-  nothing-ruled : record { number = 0; place = 0 } ≡ rulingOf (extendsRules c none none)
-  unfolding extendsRules
-  nothing-ruled = refl
+pub given-is : (e : Optional) (r : Reference) → e ≡ Given r → (b : Option G.Reference) → e ≡ optionalOf b
+    → (a : G.Reference) × (b ≡ some a) × (r ≡ referenceOf a)
+given-is e r p none q = let z : _≡_ {A = ℕ} 0 1 = cc in absurd (omega arith)
+given-is e r p (some b) q = (b, refl, cc)
 
-  pub extends-nothing : (b : Option G.Reference) (e : Extends) → e ≡ Nothing → e ≡ extendsOf b
-      → (record { number = 0; place = 0 } ≡ rulingOf (extendsRules c b (resolved s b))) × (none ≡ resolved s b)
-  extends-nothing none e p q = (nothing-ruled, refl)
-  extends-nothing (some b) e p q = let z : _≡_ {A = ℕ} 0 1 = cc in absurd (omega arith)
+pub given-inside : (t : List ℕ) (b : Option G.Reference) (e : Optional) (r : Reference) → e ≡ Given r
+    → e ≡ optionalOf b → AnyIs (FairReference t) b → AllInside t r
+given-inside t b e r p q f =
+    let (a, u, i) = given-is e r p b q in
+    reference-inside t a r i (subst (AnyIs (FairReference t)) u f)
 
-  pub extends-base : (t : List ℕ) (b : Option G.Reference) (e : Extends) (r : Reference) → e ≡ Base r → e ≡ extendsOf b
-      → AnyIs (FairReference t) b → (o : Option Def)
-      → ((q : G.Reference) → r ≡ referenceOf q → FairReference t q → o ≡ resolve s q)
-      → (place : ℕ) → ((q : G.Reference) → r ≡ referenceOf q → place ≡ firstPlace q) → (u : Ruling)
-      → ((q : G.Reference) → place ≡ firstPlace q → u ≡ rulingOf (extendsRules c (some q) o))
-      → (u ≡ rulingOf (extendsRules c b (resolved s b))) × (o ≡ resolved s b)
-  extends-base t none e r p q f o ho place hp u hu = let z : _≡_ {A = ℕ} 0 1 = cc in absurd (omega arith)
-  extends-base t (some b) e r p q f o ho place hp u hu =
-      let v : r ≡ referenceOf b = cc in
-      let w : o ≡ resolve s b = ho b v f in
-      (hu b (hp b v) ∙ ap (λ (x : Option Def). rulingOf (extendsRules c (some b) x)) w, w)
+-- what it leads to
+module _ (s : State) (b : Option G.Reference) (e : Optional) (q : e ≡ optionalOf b) where
+  pub leads-nowhere : e ≡ Nothing → none ≡ resolved s b
+  leads-nowhere p = rw (nothing-is e p b q)
+
+  pub leads-to : (t : List ℕ) (r : Reference) → e ≡ Given r → AnyIs (FairReference t) b → (o : Option Def)
+      → ((a : G.Reference) → r ≡ referenceOf a → FairReference t a → o ≡ resolve s a) → o ≡ resolved s b
+  leads-to t r p f o ho =
+      let (a, u, i) = given-is e r p b q in
+      rw u (ho a i (subst (AnyIs (FairReference t)) u f))
+
+  -- ---- EXTENDS
+  module _ (c : Sort) where
+    pub extends-nothing : e ≡ Nothing
+        → record { number = 0; place = 0 } ≡ rulingOf (extendsRules c b (resolved s b))
+    unfolding extendsRules
+    extends-nothing p = rw (nothing-is e p b q)
+
+    pub extends-base : (r : Reference) → e ≡ Given r → (o : Option Def) → o ≡ resolved s b
+        → (place : ℕ) → ((a : G.Reference) → r ≡ referenceOf a → place ≡ firstPlace a) → (u : Ruling)
+        → ((a : G.Reference) → place ≡ firstPlace a → u ≡ rulingOf (extendsRules c (some a) o))
+        → u ≡ rulingOf (extendsRules c b (resolved s b))
+    extends-base r p o ho place hp u hu =
+        let (a, v, i) = given-is e r p b q in
+        hu a (hp a i) ∙ ap (λ (x : Option Def). rulingOf (extendsRules c (some a) x)) ho
+        ∙ ap (λ (x : Option G.Reference). rulingOf (extendsRules c x (resolved s b))) (sym v)
 
 -- ---- the base's record number
 module _ (t : List ℕ) (ks : List Def) (x : List ℕ) (count : ℕ) (k : Known t ks x count) (p : ℕ) (w : p ≤ count) where

@@ -94,7 +94,7 @@ pub record Comes (t : List ℕ) (s : State) (v : U.Unit) (u : Unit) (rs : List �
   pub fair : FairUnit t v
   pub stands : MayStand s v
 
--- 4 by count and 7 to 19 of it, with the buffer o
+-- 4 by count, 7 to 19 and 22 of it, with the buffer o
 abbrev pub verdict : State → U.Unit → List ℕ → J.Judged
 verdict s v o = room (lent (length o)) (unitPlace v) (judge s v)
 

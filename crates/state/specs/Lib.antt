@@ -1,3 +1,4 @@
 pub mod Parts
 pub mod Keeping
 pub mod Next
+pub mod Targets

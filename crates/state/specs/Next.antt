@@ -38,7 +38,7 @@ begunBy st n = record {
   };
 }
 
--- a topic or a domain
+-- a topic, a domain or a unit
 abbrev pub declaredBy : State → ℕ → ℕ → ℕ → State
 declaredBy st b r d = record {
   extent = longer (st .extent) b r d;

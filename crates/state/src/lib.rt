@@ -4,23 +4,26 @@ pub mod work;
 use ground::Name;
 use ground::Reference;
 use ground::Ruling;
-use parts::Extends;
+use parts::Optional;
 use parts::Properties;
+use parts::types::Meant;
 ghost use mathlib.Core.Path.{_≡_};
 ghost use mathlib.Core.Bool.{false, _&&_, _||_};
-ghost use mathlib.Core.Option.{Option, some};
+ghost use mathlib.Core.Option.{Option, none, some};
 ghost use mathlib.Core.List.{List};
 ghost use Prim.Native.Nat.{ℕ, _+_, _*_, _≤_, _<_};
 ghost use lib.ListN.{length, replicate};
 ghost use Rattle.rules.specs.Grammar as G;
+ghost use Rattle.rules.specs.Grammar.{WrittenType};
 ghost use Rattle.rules.specs.Declarations as D;
 ghost use Rattle.rules.specs.Declarations.{Def, Sort, sortNumber, isFound, atHand, resolve, known};
 ghost use Rattle.rules.specs.Book.{baseNumber};
 ghost use Rattle.rules.specs.Book.{bit as Book·bit, flags as Book·flags};
 ghost use Rattle.rules.specs.Judge.{firstPlace, hasTwice, isAbstract, isFinal, resolved, basesOf, extendsRules};
+ghost use Rattle.rules.specs.Judge.{referenceIn, mayStandIn};
 ghost use Rattle.names.specs.Index.{entry, Known, Rows};
 ghost use Rattle.names.specs.References.{bytesOf, Inside, AllInside};
-ghost use Rattle.parts.specs.Forms.{flagsOf, referenceOf, extendsOf};
+ghost use Rattle.parts.specs.Forms.{flagsOf, referenceOf, optionalOf, anyOf};
 ghost use Rattle.rules.specs.All.{AnyIs};
 ghost use Rattle.wellformed.specs.Fairness.{FairReference};
 ghost use Rattle.ground.specs.Rulings.{rulingOf};
@@ -29,6 +32,7 @@ ghost use Rattle.state.specs.declared.Judged.the-variants.{Fine, Refused
 ghost use Rattle.state.specs.Keeping.{Keeps, Kept};
 ghost use Rattle.book.specs.Sizes.{modelSize, headSize, classEndSize};
 ghost use Rattle.state.specs.Parts.{Roomy, Ample};
+ghost use Rattle.state.specs.Targets.{targetRules, earlierOf};
 ghost use Rattle.state.specs.Next.{longer as Next·longer, oneDefinition, oneAttribute, holding as Next·holding};
 ghost use Rattle.state.specs.Next.{grownBy, begunBy, declaredBy, inTopicBy, openedBy, memberBy, closedBy};
 
@@ -221,7 +225,7 @@ impl State {
         }
     }
 
-    // With a topic or a domain.
+    // With a topic, a domain or a unit.
     pub fn declared(self, bytes: usize, records: usize, definitions: usize) -> State
         requires { ⌜ (self .extent .used + bytes ≤ 65535) × (self .extent .records + records ≤ 65535)
             × (self .extent .definitions + definitions ≤ 65535) ⌝ }
@@ -398,25 +402,25 @@ fn extends_ruling(index: &[u16], sort: usize, base: usize, place: usize) -> Ruli
 }
 
 // Of what extends, by the number of its sort.
-pub fn extends(text: &[u8], work: &[u16], st: State, sort: usize, base: Extends) -> Extension
+pub fn extends(text: &[u8], work: &[u16], st: State, sort: usize, base: Optional) -> Extension
     requires { ⌜ Inside (now text) (st .context .model) × Ample st (length (now work)) ⌝ }
-    requires { ⌜ ((b : Option G.Reference) × (base ≡ extendsOf b) × AnyIs (FairReference (now text)) b) ⌝ }
+    requires { ⌜ ((b : Option G.Reference) × (base ≡ optionalOf b) × AnyIs (FairReference (now text)) b) ⌝ }
     ensures { λ r. ⌜ (r .base ≤ st .listing .count)
         × ((s : D.State) (c : Sort) (b : Option G.Reference) (o hs : List ℕ)
         → Kept (now (text .entry)) s st o (now (work .entry)) hs
-        → sort ≡ sortNumber c → base ≡ extendsOf b → AnyIs (FairReference (now (text .entry))) b
+        → sort ≡ sortNumber c → base ≡ optionalOf b → AnyIs (FairReference (now (text .entry))) b
         → (r .ruling ≡ rulingOf (extendsRules c b (resolved s b)))
         × (entry (known (s .decls)) (r .base) ≡ resolved s b)) ⌝ }
 {
     match base {
-        Extends::Nothing => {
+        Optional::Nothing => {
             let ruling = Ruling {
                 number: 0,
                 place: 0,
             };
             Extension { ruling, base: 0 }
         }
-        Extends::Base(r) => {
+        Optional::Given(r) => {
             let p = named(text, work, st, r);
             let i = st.listing.layout.index;
             let m = st.listing.layout.rows;
@@ -424,6 +428,79 @@ pub fn extends(text: &[u8], work: &[u16], st: State, sort: usize, base: Extends)
             Extension { ruling, base: p }
         }
     }
+}
+
+// What the reference that stands in a type leads to: its position, 0 for nothing.
+pub fn target(text: &[u8], work: &[u16], st: State, reference: Optional) -> usize
+    requires { ⌜ Inside (now text) (st .context .model) × Ample st (length (now work)) ⌝ }
+    requires { ⌜ ((b : Option G.Reference) × (reference ≡ optionalOf b) × AnyIs (FairReference (now text)) b) ⌝ }
+    ensures { λ p. ⌜ (p ≤ st .listing .count)
+        × ((s : D.State) (b : Option G.Reference) (o hs : List ℕ)
+        → Kept (now (text .entry)) s st o (now (work .entry)) hs
+        → reference ≡ optionalOf b → AnyIs (FairReference (now (text .entry))) b
+        → entry (known (s .decls)) p ≡ resolved s b) ⌝ }
+{
+    match reference {
+        Optional::Nothing => 0,
+        Optional::Given(r) => named(text, work, st, r),
+    }
+}
+
+// By the number of its sort: a domain or a structure in place of a type, a unit on a number.
+fn may_stand_in(m: Meant, sort: usize) -> bool
+    ensures { λ r. ⌜ ((w : Option WrittenType) (d : Sort) → m ≡ anyOf w → sort ≡ sortNumber d
+        → r ≡ mayStandIn w d) ⌝ }
+{
+    if let Meant::Named = m {
+        if sort == 3 {
+            return true;
+        }
+        return sort == 2;
+    }
+    sort == 4
+}
+
+// 10 and 11 of the reference in a type, which leads to the definition at a position.
+pub fn target_ruling(index: &[u16], m: Meant, reference: Optional, target: usize) -> Ruling
+    requires { ⌜ Rows (now index) target ⌝ }
+    ensures { λ r. ⌜ ((t : List ℕ) (ks : List Def) (count : ℕ) (w : Option WrittenType)
+        → Known t ks (now (index .entry)) count → target ≤ count
+        → m ≡ anyOf w → reference ≡ optionalOf (referenceIn w) → (referenceIn w ≡ none → entry ks target ≡ none)
+        → r ≡ rulingOf (targetRules w (entry ks target))) ⌝ }
+{
+    if let Optional::Given(r) = reference {
+        let place = first_place(r);
+        if target == 0 {
+            return Ruling { number: 10, place };
+        }
+        if may_stand_in(m, names::sort_of(index, target)) {
+            return Ruling {
+                number: 0,
+                place: 0,
+            };
+        }
+        return Ruling { number: 11, place };
+    }
+    Ruling {
+        number: 0,
+        place: 0,
+    }
+}
+
+// Of two rulings the one with the lesser number, the first where they are alike; 0 is none.
+pub fn earlier(a: Ruling, b: Ruling) -> Ruling
+    ensures { λ r. ⌜ r ≡ earlierOf a b ⌝ }
+{
+    if b.number == 0 {
+        return a;
+    }
+    if a.number == 0 {
+        return b;
+    }
+    if b.number < a.number {
+        return b;
+    }
+    a
 }
 
 // 13: a property twice, or ABSTRACT with FINAL.

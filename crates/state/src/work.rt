@@ -44,7 +44,7 @@ pub fn make_known(text: &[u8], work: &mut [u16], st: State, name: Name)
     names::make_known(&mut work[c..e], st.listing.count + 1, key);
 }
 
-// A new definition, a topic or a domain: its row behind the last, and its name, which is found from now on.
+// A new definition, a topic, a domain or a unit: its row behind the last, and its name, which is found from now on.
 pub fn declare(text: &[u8], work: &mut [u16], st: State, d: NewDefinition)
     requires { ⌜ Ample st (length (now work)) × Narrow d × Inside (now text) (d .name)
         × (st .listing .count < 65535) ⌝ }

@@ -20,7 +20,7 @@ use Rattle.rules.proofs.Tests.{never, alike, or-split, split}
 use Rattle.rules.proofs.ByteLaws.{same-eq, same-refl}
 use Rattle.rules.proofs.SymbolLaws.{either}
 use Rattle.words.specs.Words.{position}
-use Rattle.symbols.specs.Cut.{codeOf, Sound}
+use Rattle.symbols.specs.Cut.{codeOf, NoWord, Sound}
 use Rattle.ground.proofs.TableLaws.{test}
 
 -- ---- what holds of a symbol's kind and bytes
@@ -57,23 +57,33 @@ word-sound b s l q =
 number-sound : (b : List ℕ) → Sound (numberKind b) b
 number-sound b = either (λ k. Sound k b) (ltb 18 (digitCount b)) (λ _. tt) (λ e. ltb-false 18 (digitCount b) e)
 
-mark-sound : (b : ℕ) → isMarkByte b ≡ true → (40 ≤ b) × (b ≤ 61)
+mark-sound : (b : ℕ) → isMarkByte b ≡ true → (40 ≤ b) × NoWord b
 mark-sound b e = one (or-split {x = from "(" "*" b} e)
   where
-    range : (c d : ℕ) → 40 ≤ c → d ≤ 61 → (leb c b && leb b d) ≡ true → (40 ≤ b) × (b ≤ 61)
+    range : (c d : ℕ) → 40 ≤ c → d < 64 → (leb c b && leb b d) ≡ true → (40 ≤ b) × NoWord b
     range c d h l p =
         let (x, y) = split {x = leb c b} p in
-        (omega (arith, leb-true c b x), omega (arith, leb-true b d y))
+        (omega (arith, leb-true c b x), inl (omega (arith, leb-true b d y)))
 
-    three : (from ":" ";" b ≡ true) ⊎ (is "=" b ≡ true) → (40 ≤ b) × (b ≤ 61)
+    five : (is "[" b ≡ true) ⊎ (is "]" b ≡ true) → (40 ≤ b) × NoWord b
+    five (inl p) = let q = eqb-true b 91 p in (omega arith, inr (omega arith))
+    five (inr p) = let q = eqb-true b 93 p in (omega arith, inr (omega arith))
+
+    four : (is "=" b ≡ true) ⊎ ((is "[" b || is "]" b) ≡ true) → (40 ≤ b) × NoWord b
+    four (inl p) = let q = eqb-true b 61 p in (omega arith, inl (omega arith))
+    four (inr p) = five (or-split {x = is "[" b} p)
+
+    three : (from ":" ";" b ≡ true) ⊎ ((is "=" b || (is "[" b || is "]" b)) ≡ true) → (40 ≤ b) × NoWord b
     three (inl p) = range 58 59 (omega arith) (omega arith) p
-    three (inr p) = let q = eqb-true b 61 p in (omega arith, omega arith)
+    three (inr p) = four (or-split {x = is "=" b} p)
 
-    two : (is "," b ≡ true) ⊎ ((from ":" ";" b || is "=" b) ≡ true) → (40 ≤ b) × (b ≤ 61)
-    two (inl p) = let q = eqb-true b 44 p in (omega arith, omega arith)
+    two : (is "," b ≡ true) ⊎ ((from ":" ";" b || (is "=" b || (is "[" b || is "]" b))) ≡ true)
+        → (40 ≤ b) × NoWord b
+    two (inl p) = let q = eqb-true b 44 p in (omega arith, inl (omega arith))
     two (inr p) = three (or-split {x = from ":" ";" b} p)
 
-    one : (from "(" "*" b ≡ true) ⊎ ((is "," b || (from ":" ";" b || is "=" b)) ≡ true) → (40 ≤ b) × (b ≤ 61)
+    one : (from "(" "*" b ≡ true) ⊎ ((is "," b || (from ":" ";" b || (is "=" b || (is "[" b || is "]" b)))) ≡ true)
+        → (40 ≤ b) × NoWord b
     one (inl p) = range 40 42 (omega arith) (omega arith) p
     one (inr p) = two (or-split {x = is "," b} p)
 
@@ -99,7 +109,7 @@ module _ (t : List ℕ) (k : ℕ) where
   unfolding symbolOf
   of-cut [] e = record { stands = refl; sound = tt }
   of-cut (b ∷ s) e =
-      let marked : (40 ≤ b) × (b ≤ 61) → Cut t (symbol (mark b) k (b ∷ [])) = λ h. rw e at (first-cut (mark b) 1 h) in
+      let marked : (40 ≤ b) × NoWord b → Cut t (symbol (mark b) k (b ∷ [])) = λ h. rw e at (first-cut (mark b) 1 h) in
       either (Cut t) (isLetter b) (λ l. rw e at
       (word-cut (suc (span isWordByte s)) (rw e (word-sound b (take (span isWordByte s) s) l (span-run isWordByte s)))))
       (λ _. either (Cut t) (isDigit b) (λ _. rw e at (number-cut (unsignedLength (b ∷ s))))
@@ -109,7 +119,7 @@ module _ (t : List ℕ) (k : ℕ) where
       (λ _. either (Cut t) (isMarkByte b) (λ m. marked (mark-sound b m))
       (λ _. either (Cut t) (is "." b)
       (λ p. either (Cut t) (is "." (getD s 0 0)) (λ _. rw e at (first-cut dots 2 tt))
-      (λ _. let q = eqb-true b 46 p in marked (omega arith, omega arith)))
+      (λ _. let q = eqb-true b 46 p in marked (omega arith, inl (omega arith))))
       (λ _. empty-cut _ _))))))
 
 beyond-cut : (t : List ℕ) (g : Gap) → Cut t (beyond t g)
@@ -124,8 +134,19 @@ cut-at t i = beyond-cut t (gap (drop i t) apart i)
 neither : (a b c d : ℕ) → ¬ (a ≡ b) → ¬ (c ≡ d) → eqb a b ≡ eqb c d
 neither a b c d p q = ne-eqb a b p ∙ sym (ne-eqb c d q)
 
-pub mark-of : (m : ℕ) → 5 < m → m < 64 → (k : Kind) (b : List ℕ) → eqb (tag k) (7 + m) ≡ eqb (codeOf k b) m
-mark-of m h l word b = neither 0 (7 + m) (64 + position b forms) m (λ e. omega arith) (λ e. omega arith)
+-- no word of the forms has the code of a mark
+position-most : (b : List ℕ) (l : List (List ℕ)) → position b l ≤ length l
+position-most b [] = omega arith
+position-most b (w ∷ l) =
+    let go = position-most b l in
+    test (same b w) (λ e. rw e (omega arith)) (λ e. rw e (omega arith))
+
+no-word : (m : ℕ) → NoWord m → (b : List ℕ) → 64 + position b forms ≡ m → ⊥
+no-word m (inl h) b e = omega arith
+no-word m (inr h) b e = let l : position b forms ≤ 19 = position-most b forms in omega arith
+
+pub mark-of : (m : ℕ) → 5 < m → NoWord m → (k : Kind) (b : List ℕ) → eqb (tag k) (7 + m) ≡ eqb (codeOf k b) m
+mark-of m h l word b = neither 0 (7 + m) (64 + position b forms) m (λ e. omega arith) (no-word m l b)
 mark-of m h l name b = neither 1 (7 + m) 1 m (λ e. omega arith) (λ e. omega arith)
 mark-of m h l number b = neither 2 (7 + m) 2 m (λ e. omega arith) (λ e. omega arith)
 mark-of m h l quoted b = neither 3 (7 + m) 3 m (λ e. omega arith) (λ e. omega arith)
@@ -186,4 +207,4 @@ word-of w dots b s = sym (ne-eqb 4 (64 + position w forms) (λ e. omega arith))
 word-of w stop b s = sym (ne-eqb 0 (64 + position w forms) (λ e. omega arith))
 word-of w (fault f) b s = sym (ne-eqb 5 (64 + position w forms) (λ e. omega arith))
 word-of w (mark x) b s =
-    rw (ne-eqb (7 + x) 0 (λ e. omega arith)) (sym (ne-eqb x (64 + position w forms) (λ e. omega arith)))
+    rw (ne-eqb (7 + x) 0 (λ e. omega arith)) (sym (ne-eqb x (64 + position w forms) (λ e. no-word x (s .1) w (sym e))))

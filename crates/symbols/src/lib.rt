@@ -14,8 +14,8 @@ pub struct Cursor {
     at: usize,
 }
 
-// code: 0 the end of the text, 1 a name, 2 a number, 3 a string, 4 `..`, 5 a fault, 40 to 61 a mark's byte,
-// from 64 on a word of the forms.
+// code: 0 the end of the text, 1 a name, 2 a number, 3 a string, 4 `..`, 5 a fault, 40 to 61, 91 and 93 a mark's byte,
+// 64 to 82 a word of the forms; 90 is the last code that a word may have.
 // refusal: the number that refuses the symbol where it is not possible: its own fault's, or 5.
 pub struct Symbol {
     pub code: u8,
@@ -74,7 +74,7 @@ fn class_of(b: u8) -> Class
         b'+' | b'-' => Class::Sign,
         b'"' => Class::Quote,
         b'!' | b'/' => Class::Comment,
-        b'('..=b'*' | b',' | b'.' | b':'..=b';' | b'=' => Class::Punctuation,
+        b'('..=b'*' | b',' | b'.' | b':'..=b';' | b'=' | b'[' | b']' => Class::Punctuation,
         b'\t'..=b'\n' | b'\r' | b' ' => Class::Separator,
         _ => Class::Other,
     }

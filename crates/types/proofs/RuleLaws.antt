@@ -42,8 +42,8 @@ pub element-listed : {m : Meant} (t x : List ℕ) (f : Found) → isListed m ≡
 element-listed {m} t x f h q none e s = never (rw e at h)
 element-listed {m} t x f h q (some (G.text k none)) e s = never (rw e at h)
 element-listed {m} t x f h q (some (G.text k (some y))) e s = never (rw e at h)
-element-listed {m} t x f h q (some (G.range a b)) e s = never (rw e at h)
-element-listed {m} t x f h q (some G.numeric) e s = never (rw e at h)
+element-listed {m} t x f h q (some (G.numeric none r)) e s = never (rw e at h)
+element-listed {m} t x f h q (some (G.numeric (some b) r)) e s = never (rw e at h)
 element-listed {m} t x f h q (some (G.enum g)) e s = ap elementRuling (q g s) ∙ found-ruling (twice g [])
 element-listed {m} t x f h q (some (G.named r)) e s = never (rw e at h)
 
@@ -52,8 +52,7 @@ pub element-other : {m : Meant} → isListed m ≡ false → (w : Option Written
     → rulingIf 9 0 false ≡ rulingOf (elementRule w ∷ [])
 element-other {m} h none e = refl
 element-other {m} h (some (G.text k n)) e = refl
-element-other {m} h (some (G.range a b)) e = refl
-element-other {m} h (some G.numeric) e = refl
+element-other {m} h (some (G.numeric b r)) e = refl
 element-other {m} h (some (G.enum g)) e = never (sym (rw e at h))
 element-other {m} h (some (G.named r)) e = refl
 
@@ -68,8 +67,8 @@ rules-are : (p : ℕ) (based : Bool) (w : Option WrittenType) → AnyIs (Begins 
 rules-are p based none g = refl
 rules-are p based (some (G.text m none)) g = refl
 rules-are p based (some (G.text m (some y))) g = refl
-rules-are p based (some (G.range x y)) g = rw g
-rules-are p based (some G.numeric) g = refl
+rules-are p based (some (G.numeric none r)) g = refl
+rules-are p based (some (G.numeric (some b) r)) g = rw g
 rules-are p based (some (G.enum e)) g = rw (leaf-bytes e)
 rules-are p based (some (G.named r)) g = refl
 
@@ -85,10 +84,12 @@ kept p false h = refl
 ordered : (based : Bool) (p : ℕ) (w : Option WrittenType) → rulingOf (typeRules based p w) .number ≡ 0 → Ordered w
 ordered based p none h = tt
 ordered based p (some (G.text m n)) h = tt
-ordered based p (some (G.range x y)) h =
+ordered based p (some (G.numeric none r)) h = tt
+ordered based p (some (G.numeric (some b) r)) h =
+    let x = b .first in
+    let y = b .second in
     in-order (x .bytes) (y .bytes) (kept (x .place)
     (not (eqb (decimalsOf (x .bytes)) (decimalsOf (y .bytes))) || ltZ (valueOf (y .bytes)) (valueOf (x .bytes))) h)
-ordered based p (some G.numeric) h = tt
 ordered based p (some (G.enum e)) h = tt
 ordered based p (some (G.named r)) h = tt
 

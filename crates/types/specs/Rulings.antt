@@ -25,4 +25,4 @@ typeRuling (Limited k n q) p based = rulingIf 14 q (eqb n 0)
 typeRuling (Range x y) p based = rulingIf 14 p (not (eqb (x .decimals) (y .decimals)) || ltZ (y .value) (x .value))
 typeRuling Numeric p based = rulingIf 0 0 false
 typeRuling (Enumeration n) p based = rulingIf 15 p (eqb n 3 && not based)
-typeRuling (Named r) p based = rulingIf 0 0 false
+typeRuling Named p based = rulingIf 0 0 false

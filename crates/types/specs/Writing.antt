@@ -8,17 +8,17 @@ use lib.Signed.{leZ}
 use Rattle.rules.specs.Numbers.{valueOf}
 use Rattle.rules.specs.Enumerations.{merge, enumFits, twice}
 use Rattle.rules.specs.Grammar as G
-use Rattle.rules.specs.Grammar.{WrittenType}
-use Rattle.rules.specs.Types.{Ty, text, range, numeric, structure, enum, fits}
+use Rattle.rules.specs.Grammar.{Bounds, WrittenType}
+use Rattle.rules.specs.Types.{Ty, text, numeric, structure, enum, fits}
 use Rattle.rules.specs.Judge.{meant}
+use Rattle.rules.specs.All.{AnyIs}
 use Rattle.enumerations.specs.Standing.{Stands}
 
 -- an enumeration's records stand at the start of the scratch x
 abbrev pub Scratched : List ℕ → List ℕ → Option WrittenType → Type 0
 Scratched t x none = Unit {0}
 Scratched t x (some (G.text m n)) = Unit {0}
-Scratched t x (some (G.range a b)) = Unit {0}
-Scratched t x (some G.numeric) = Unit {0}
+Scratched t x (some (G.numeric q r)) = Unit {0}
 Scratched t x (some (G.enum e)) = Stands t x e 0
 Scratched t x (some (G.named r)) = Unit {0}
 
@@ -26,8 +26,7 @@ Scratched t x (some (G.named r)) = Unit {0}
 abbrev pub Once : Option WrittenType → Type 0
 Once none = Unit {0}
 Once (some (G.text m n)) = Unit {0}
-Once (some (G.range a b)) = Unit {0}
-Once (some G.numeric) = Unit {0}
+Once (some (G.numeric q r)) = Unit {0}
 Once (some (G.enum e)) = twice e [] ≡ none
 Once (some (G.named r)) = Unit {0}
 
@@ -35,28 +34,26 @@ Once (some (G.named r)) = Unit {0}
 abbrev pub Ordered : Option WrittenType → Type 0
 Ordered none = Unit {0}
 Ordered (some (G.text m n)) = Unit {0}
-Ordered (some (G.range x y)) = leZ (valueOf (x .bytes)) (valueOf (y .bytes)) ≡ true
-Ordered (some G.numeric) = Unit {0}
+Ordered (some (G.numeric q r)) =
+    AnyIs (λ (b : Bounds). leZ (valueOf (b .first .bytes)) (valueOf (b .second .bytes)) ≡ true) q
 Ordered (some (G.enum e)) = Unit {0}
 Ordered (some (G.named r)) = Unit {0}
 
--- 17 of all but a written enumeration, and of a written enumeration, over a base's type of its kind
+-- 17 of all but a written enumeration, and of a written enumeration, over a base's type of its kind; the unit is not
+-- looked at
 abbrev pub plainFits : Option WrittenType → Ty → Bool
 plainFits none b = true
-plainFits (some (G.text m n)) b = fits (meant (G.text m n) b) b
-plainFits (some (G.range x y)) b = fits (meant (G.range x y) b) b
-plainFits (some G.numeric) b = fits (meant G.numeric b) b
+plainFits (some (G.text m n)) b = fits (meant (G.text m n) none b) b
+plainFits (some (G.numeric q r)) b = fits (meant (G.numeric q r) none b) b
 plainFits (some (G.enum e)) b = true
 plainFits (some (G.named r)) b = true
 
 abbrev pub mergeFits : Option WrittenType → Ty → Bool
 mergeFits none b = true
 mergeFits (some (G.text m n)) b = true
-mergeFits (some (G.range x y)) b = true
-mergeFits (some G.numeric) b = true
+mergeFits (some (G.numeric q r)) b = true
 mergeFits (some (G.enum e)) (enum b) = enumFits (merge b e) b
 mergeFits (some (G.enum e)) (text m n) = true
-mergeFits (some (G.enum e)) (range r) = true
-mergeFits (some (G.enum e)) numeric = true
+mergeFits (some (G.enum e)) (numeric r u) = true
 mergeFits (some (G.enum e)) structure = true
 mergeFits (some (G.named r)) b = true

@@ -19,7 +19,7 @@ ghost use Rattle.enumerations.specs.Standing.{Stands};
 ghost use Rattle.enumerations.specs.Records.{records};
 ghost use Rattle.merging.specs.Merging.{LaidAs};
 ghost use Rattle.fitting.specs.Values.{Valued, Typed, Sized};
-ghost use Rattle.types.specs.Meaning.{plainRecords};
+ghost use Rattle.types.specs.Meaning.{unitRecordsBy, plainRecords};
 
 fn put_record(out: &mut [u8], at: usize, src: &[u8]) -> Laid
     requires { ⌜ (at ≤ 65546) × (length (now src) ≤ 262144) ⌝ }
@@ -32,7 +32,24 @@ fn put_record(out: &mut [u8], at: usize, src: &[u8]) -> Laid
     })
 }
 
-// The record of a type other than an enumeration.
+// A number's record, and behind it that of its unit, if it has one.
+fn put_number(out: &mut [u8], at: usize, src: &[u8], unit: usize) -> Laid
+    requires { ⌜ (at ≤ 65546) × (length (now src) ≤ 262144) ⌝ }
+    ensures { λ r. ⌜ LaidAs true (now (src .entry) ∷ unitRecordsBy unit) at (now (out .entry)) (now (out .exit)) r ⌝ }
+{
+    if unit == 0 {
+        return put_record(out, at, src);
+    }
+    let r = book::length_record(19, unit - 1);
+    put_if(out, at, src);
+    put_if(out, at + src.len(), &r);
+    Laid::Whole(Size {
+        bytes: src.len() + book::LENGTH_SIZE,
+        records: 2,
+    })
+}
+
+// The records of a type other than an enumeration.
 pub fn plain(out: &mut [u8], at: usize, x: Typing) -> Laid
     requires { ⌜ Sized x ⌝ }
     requires { ⌜ at ≤ 65546 ⌝ }
@@ -47,13 +64,14 @@ pub fn plain(out: &mut [u8], at: usize, x: Typing) -> Laid
             decimals,
             low,
             high,
+            unit,
         } => {
             let r = book::range_record(decimals as u8, low, high);
-            put_record(out, at, &r)
+            put_number(out, at, &r, unit)
         }
-        Typing::Numeric => {
+        Typing::Numeric { unit } => {
             let r = [11];
-            put_record(out, at, &r)
+            put_number(out, at, &r, unit)
         }
         Typing::Enumeration { .. } => Laid::Whole(Size {
             bytes: 0,

@@ -16,8 +16,9 @@ use Rattle.rules.specs.Readers.{Result, done, refused, Reader, andThen, _>>=_, 
 use Rattle.rules.specs.Grammar as G
 use Rattle.rules.specs.Grammar.{properties, extends, written, typeOf, typeOrReference}
 use Rattle.rules.specs.Units as U
-use Rattle.rules.specs.Units.{step, headerUnit, modelUnit, topicUnit, classUnit, isGiven, domainUnit, attributeUnit}
-use Rattle.rules.specs.Units.{endUnit, wordStep, bodyEnd, bodyUnit, memberUnit, lastStep, unitAt}
+use Rattle.rules.specs.Names.{sortNumber}
+use Rattle.rules.specs.Units.{step, headerUnit, modelUnit, topicUnit, classUnit, isGiven, domainUnit, unitUnit}
+use Rattle.rules.specs.Units.{attributeUnit, endUnit, wordStep, bodyEnd, bodyUnit, memberUnit, lastStep, unitAt}
 use Rattle.rules.proofs.Tests.{split, or-split}
 use Rattle.symbols.specs.declared.Symbol.{Symbol}
 use Rattle.symbols.specs.Cut.{cut}
@@ -27,17 +28,22 @@ use Rattle.readers.proofs.CodeLaws.{Test, is-name, is-number, is-quoted, is-sto
 use Rattle.readers.proofs.ReadLaws.{Passes, onward, bind, stay, mapped, if-true, if-false, expected, taken, is-yes}
 use Rattle.readers.proofs.ReadLaws.{is-no, a-name}
 use Rattle.parts.specs.declared.Properties.{Properties}
-use Rattle.parts.specs.declared.Extends.{Extends}
+use Rattle.parts.specs.declared.Optional.{Optional}
+use Rattle.parts.specs.declared.Owner.the-variants as Owner
 use Rattle.parts.specs.declared.types.Written.{Written}
-use Rattle.parts.specs.Forms.{wordsOf, flagsOf, extendsOf, givenOf, typeBy, MeansAll}
+use Rattle.parts.specs.Forms.{wordsOf, flagsOf, optionalOf, givenOf, typeBy, MeansAll}
+use Rattle.units.specs.declared.Run.{Run}
+use Rattle.units.specs.declared.Run.the-variants.{Nothing, Domains, Units}
 use Rattle.units.specs.declared.Where.{Where}
 use Rattle.units.specs.declared.Where.the-variants.{Start, AfterHeader, Body, Members, Over}
 use Rattle.units.specs.declared.ModelHead.{ModelHead}
 use Rattle.units.specs.declared.Unit as C
-use Rattle.units.specs.declared.Unit.the-variants.{Header, Model, Topic, Class, Domain, Attribute, Close, Mark}
+use Rattle.units.specs.declared.Unit.the-variants.{Header, Model, Topic, Class, Domain, Attribute, Measure}
+use Rattle.units.specs.declared.Unit.the-variants.{Close, Mark}
 use Rattle.units.specs.declared.Step.{Step}
 use Rattle.units.specs.declared.Step.the-variants.{Read, Unread}
-use Rattle.units.specs.Steps.{aroundOf, runOf, behindOf, whereOf, placeOf, endMark, language, anything, IsAny}
+use Rattle.units.specs.Steps.{aroundOf, runOf, runCut, behindOf, whereOf, placeOf, runUnit, endMark, language}
+use Rattle.units.specs.Steps.{anything, IsAny}
 use Rattle.units.specs.Steps.{StepIs, Steps, endedOf}
 
 -- ---- one part after another
@@ -101,9 +107,10 @@ where-around : (t : Bool) → not (U.isModel (aroundOf t)) ≡ t
 where-around true = refl
 where-around false = refl
 
-where-run : (r : Bool) → U.ofDomains (runOf r) ≡ r
-where-run true = refl
-where-run false = refl
+where-run : (r : Run) → runCut (runOf r) ≡ r
+where-run Nothing = refl
+where-run Domains = refl
+where-run Units = refl
 
 where-behind : (f : Bool) → U.isHead (behindOf f) ≡ f
 where-behind true = refl
@@ -124,7 +131,7 @@ end-sound : (last : Bool) → _≡_ {A = ℕ} (cond last 46 59) 5 → ⊥
 end-sound true h = omega arith
 end-sound false h = omega arith
 
-given-extends : (b : Option G.Reference) → givenOf (extendsOf b) ≡ isGiven b
+given-extends : (b : Option G.Reference) → givenOf (optionalOf b) ≡ isGiven b
 given-extends none = refl
 given-extends (some a) = refl
 
@@ -173,11 +180,11 @@ module _ {t : List ℕ} (o : List ℕ) {y : Symbol} {r : Step} where
       (through (second .passes) last)
 
   pub topic-steps : {n e : Symbol} {i : Name} → n ≡ passed t y 68 → e ≡ passed t n 1 → i ≡ named n
-      → r ≡ endedOf t e 61 (Topic i) (Body true false) → Steps t o o topicUnit y r
+      → r ≡ endedOf t e 61 (Topic i) (Body true Nothing) → Steps t o o topicUnit y r
   unfolding topicUnit
   topic-steps {n} {e} {i} e₁ e₂ f g =
       let second = a-name e₂ in
-      let last = fault-ended 61 (Topic i) (Body true false) (omega arith) g in
+      let last = fault-ended 61 (Topic i) (Body true Nothing) (omega arith) g in
       on (expected (is-word (ascii "TOPIC") 68 refl) e₁) (λ _ _. on second
       (λ a q. ends (Topic i) (some (U.topic a)) (U.body U.in-topic U.no-run) refl equals g (ap Topic (f ∙ q))) last)
       (through (second .passes) last)
@@ -196,7 +203,7 @@ module _ {t : List ℕ} (o : List ℕ) {y : Symbol} {r : Step} where
   pub model-steps : {n l a s v w e : Symbol} (head : ModelHead) → n ≡ passed t y 65 → l ≡ passed t n 1
       → head .name ≡ named n → Reads t language anything l a → s ≡ passed t a 66
       → v ≡ passed t s 3 → head .address ≡ named s → w ≡ passed t v 67 → e ≡ passed t w 3 → head .version ≡ named w
-      → r ≡ endedOf t e 61 (Model head) (Body false false) → Steps t o o modelUnit y r
+      → r ≡ endedOf t e 61 (Model head) (Body false Nothing) → Steps t o o modelUnit y r
   unfolding modelUnit
   model-steps head e₁ e₂ f m e₃ e₄ x e₅ e₆ z g =
       let r₂ = a-name e₂ in
@@ -204,7 +211,7 @@ module _ {t : List ℕ} (o : List ℕ) {y : Symbol} {r : Step} where
       let r₄ = expected is-quoted e₄ in
       let r₅ = expected (is-word (ascii "VERSION") 67 refl) e₅ in
       let r₆ = expected is-quoted e₆ in
-      let f₆ = fault-ended 61 (Model head) (Body false false) (omega arith) g in
+      let f₆ = fault-ended 61 (Model head) (Body false Nothing) (omega arith) g in
       let f₅ = through (r₆ .passes) f₆ in
       let f₄ = through (r₅ .passes) f₅ in
       let f₃ = through (r₄ .passes) f₄ in
@@ -225,47 +232,64 @@ module _ {t : List ℕ} (o : List ℕ) {y : Symbol} {r : Step} where
   unfolding lastStep
   over-steps g = ends Mark none U.over refl is-stop g refl
 
-  pub class-steps : (topic : Bool) {n l m k : Symbol} {i : Name} {ps : Properties} {b : Extends} {s : Bool}
+  pub class-steps : (topic : Bool) {n l m k : Symbol} {i : Name} {ps : Properties} {b : Optional} {s : ℕ}
       → (eqb (y .code) 69 || eqb (y .code) 70) ≡ true → n ≡ passed t y (y .code)
-      → l ≡ passed t n 1 → i ≡ named n → Reads t (properties (wordsOf false)) (λ p. ps ≡ flagsOf p) l m
-      → Reads t extends (λ a. b ≡ extendsOf a) m k → s ≡ eqb (y .code) 70
-      → r ≡ endedOf t k 61 (Class (record { structure = s; name = i; properties = ps; base = b })) (Members topic true)
+      → l ≡ passed t n 1 → i ≡ named n → Reads t (properties (wordsOf Owner.Definition)) (λ p. ps ≡ flagsOf p) l m
+      → Reads t extends (λ a. b ≡ optionalOf a) m k → s ≡ sortNumber (U.classSort (eqb (y .code) 70))
+      → r ≡ endedOf t k 61 (Class (record { sort = s; name = i; properties = ps; base = b })) (Members topic true)
       → Steps t o o (classUnit (aroundOf topic)) y r
   unfolding classUnit
   class-steps topic {n} {l} {m} {k} {i} {ps} {b} {s} h e₁ e₂ f p x j g =
       let r₂ = a-name e₂ in
-      let head = Class (record { structure = s; name = i; properties = ps; base = b }) in
+      let head = Class (record { sort = s; name = i; properties = ps; base = b }) in
       let f₄ = fault-ended 61 head (Members topic true) (omega arith) g in
       let f₃ = through (x .passes) f₄ in
       let f₂ = through (p .passes) f₃ in
       on (taken (class-word h) (class-sound y h) e₁) (λ w c. on r₂ (λ a q₁. on p (λ d q₂. on x (λ z q₃.
       ends head (some (U.class (U.classSort (same (w .bytes) (ascii "STRUCTURE"))) a d z))
       (U.members (aroundOf topic) U.its-head) (where-place (Members topic true)) equals g
-      (s, ap U.classSort (structure-flag h w c ∙ sym j), rw (f ∙ q₁, q₂, q₃))) f₄) f₃) f₂) (through (r₂ .passes) f₂)
+      (same (w .bytes) (ascii "STRUCTURE"), refl, rw (f ∙ q₁, q₂, q₃, j, structure-flag h w c))) f₄) f₃) f₂)
+      (through (r₂ .passes) f₂)
+
+  pub measure-steps : (topic : Bool) {l m k : Symbol} {i : Name} {ps : Properties} {b : Optional}
+      → l ≡ passed t y 1 → i ≡ named y → Reads t (properties (wordsOf Owner.Measure)) (λ p. ps ≡ flagsOf p) l m
+      → Reads t extends (λ a. b ≡ optionalOf a) m k
+      → r ≡ endedOf t k 59 (Measure (record { sort = 4; name = i; properties = ps; base = b })) (Body topic Units)
+      → Steps t o o (unitUnit (aroundOf topic)) y r
+  unfolding unitUnit
+  measure-steps topic {l} {m} {k} {i} {ps} {b} e f p x g =
+      let head = Measure (record { sort = 4; name = i; properties = ps; base = b }) in
+      let f₃ = fault-ended 59 head (Body topic Units) (omega arith) g in
+      let f₂ = through (x .passes) f₃ in
+      on (a-name e) (λ a q₁. on p (λ d q₂. on x (λ z q₃. ends head (some (U.unit a d z))
+      (U.body (aroundOf topic) U.units) (where-place (Body topic Units)) semi g (rw (f ∙ q₁, q₂, q₃))) f₃) f₂)
+      (through (p .passes) f₂)
 
 -- ---- domains and attributes
 module _ {t o o′ : List ℕ} (topic : Bool) {y : Symbol} {r : Step} {l m : Symbol} {i : Name} {ps : Properties} {v :
     Written} (e₁ : l ≡ passed t y 1) (f : i ≡ named y) where
-  pub domain-steps : {k q e : Symbol} {b : Extends} {x : Bool}
-      → Reads t (properties (wordsOf false)) (λ p. ps ≡ flagsOf p) l m → Reads t extends (λ a. b ≡ extendsOf a) m k
+  pub domain-steps : {k q e : Symbol} {b : Optional} {x : Bool}
+      → Reads t (properties (wordsOf Owner.Definition)) (λ p. ps ≡ flagsOf p) l m
+      → Reads t extends (λ a. b ≡ optionalOf a) m k
       → q ≡ passed t k 61 → x ≡ givenOf b → Reads t (written x (typeBy false)) (MeansAll o o′ v) q e →
-      r ≡ endedOf t e 59 (Domain (record { name = i; properties = ps; base = b; written = v })) (Body topic true)
+      r ≡ endedOf t e 59 (Domain (record { name = i; properties = ps; base = b; written = v })) (Body topic Domains)
       → Steps t o o′ (domainUnit (aroundOf topic)) y r
   unfolding domainUnit
   domain-steps {k} {q} {e} {b} {x} p n e₂ j w g =
       let unit = Domain (record { name = i; properties = ps; base = b; written = v }) in
       let r₄ = expected equals e₂ in
-      let f₅ = fault-ended 59 unit (Body topic true) (omega arith) g in
+      let f₅ = fault-ended 59 unit (Body topic Domains) (omega arith) g in
       let f₄ = through (w .passes) f₅ in
       let f₃ = through (r₄ .passes) f₄ in
       let f₂ = through (n .passes) f₃ in
       on (a-name e₁) (λ a q₁. on p (λ d q₂. on n (λ z q₃. on r₄ (λ _ _.
       on (subst (λ (c : Bool). Reads t (written c typeOf) (MeansAll o o′ v) q e) (j ∙ rw q₃ (given-extends z)) w)
-      (λ u q₄. ends unit (some (U.domain a d z u)) (U.body (aroundOf topic) U.domains) (where-place (Body topic true))
+      (λ u q₄.
+      ends unit (some (U.domain a d z u)) (U.body (aroundOf topic) U.domains) (where-place (Body topic Domains))
       semi g (rw (f ∙ q₁, q₂, q₃, q₄ .0), q₄ .1)) f₅) f₄) f₃) f₂) (through (p .passes) f₂)
 
   pub attribute-steps : {q e : Symbol}
-      → Reads t (properties (wordsOf true)) (λ p. ps ≡ flagsOf p) l m → q ≡ passed t m 58
+      → Reads t (properties (wordsOf Owner.Attribute)) (λ p. ps ≡ flagsOf p) l m → q ≡ passed t m 58
       → Reads t (written (ps .extended) (typeBy true)) (MeansAll o o′ v) q e
       → r ≡ endedOf t e 59 (Attribute (record { name = i; properties = ps; written = v })) (Members topic false)
       → Steps t o o′ (attributeUnit (aroundOf topic)) y r
@@ -283,6 +307,12 @@ module _ {t o o′ : List ℕ} (topic : Bool) {y : Symbol} {r : Step} {l m : Sym
       (where-place (Members topic false)) semi g (rw (f ∙ q₁, q₂, q₄ .0), q₄ .1)) f₄) f₃) f₂) (through (p .passes) f₂)
 
 -- ---- which unit
+pub domain-word : Test (isWord (ascii "DOMAIN")) 74
+domain-word = is-word (ascii "DOMAIN") 74 refl
+
+pub unit-word : Test (isWord (ascii "UNIT")) 82
+unit-word = is-word (ascii "UNIT") 82 refl
+
 is-model : (t : Bool) → U.isModel (aroundOf t) ≡ not t
 is-model true = refl
 is-model false = refl
@@ -293,9 +323,10 @@ module _ {t : List ℕ} {y : Symbol} where
   at-topic topic x e z c =
       rw (is-model topic, is-word (ascii "TOPIC") 68 refl .test z (c .stands .coded)) (rw (c .cuts) at e)
 
-  at-domain : (run x : Bool) → (run && eqb (y .code) 1) ≡ x → (z : rules.Symbol) → Cuts t z y
-      → (U.ofDomains (runOf run) && isKind name z) ≡ x
-  at-domain run x e z c = rw (where-run run, is-name .test z (c .stands .coded)) (rw (c .cuts) at e)
+  -- a name, where the run is one that takes it
+  at-name : (run x : Bool) → (run && eqb (y .code) 1) ≡ x → (z : rules.Symbol) → Cuts t z y
+      → (run && isKind name z) ≡ x
+  at-name run x e z c = rw (is-name .test z (c .stands .coded)) (rw (c .cuts) at e)
 
   at-attribute : (first x : Bool) → (first && eqb (y .code) 75) ≡ x → (z : rules.Symbol) → Cuts t z y
       → (U.isHead (behindOf first) && isWord (ascii "ATTRIBUTE") z) ≡ x
@@ -303,7 +334,7 @@ module _ {t : List ℕ} {y : Symbol} where
       rw (where-behind first, is-word (ascii "ATTRIBUTE") 75 refl .test z (c .stands .coded)) (rw (c .cuts) at e)
 
 module _ {t o p : List ℕ} {y : Symbol} {r : Step} (topic : Bool) where
-  module _ (run : Bool) where
+  module _ (run : Run) where
     pub body-topic : (not topic && eqb (y .code) 68) ≡ true → Steps t o p topicUnit y r
         → Steps t o p (bodyUnit (aroundOf topic) (runOf run)) y r
     unfolding bodyUnit
@@ -320,22 +351,36 @@ module _ {t o p : List ℕ} {y : Symbol} {r : Step} (topic : Bool) where
             r → Steps t o p (bodyUnit (aroundOf topic) (runOf run)) y r
         unfolding bodyUnit
         body-domains h g = unless _ _ _ (at-topic topic false h₁)
-            (unless _ _ _ (class-test false h₂) (when _ _ _ (is-yes (is-word (ascii "DOMAIN") 74 refl) h) g))
+            (unless _ _ _ (class-test false h₂) (when _ _ _ (is-yes domain-word h) g))
 
         module _ (h₃ : y .code ≡ 74 → ⊥) where
-          pub body-domain : (run && eqb (y .code) 1) ≡ true → Steps t o p (domainUnit (aroundOf topic)) y r
+          pub body-units : y .code ≡ 82 → Steps t o p (wordStep (ascii "UNIT") (U.body (aroundOf topic) U.units)) y r
               → Steps t o p (bodyUnit (aroundOf topic) (runOf run)) y r
           unfolding bodyUnit
-          body-domain h g =
-              unless _ _ _ (at-topic topic false h₁) (unless _ _ _ (class-test false h₂)
-              (unless _ _ _ (is-no (is-word (ascii "DOMAIN") 74 refl) h₃) (when _ _ _ (at-domain run true h) g)))
+          body-units h g = unless _ _ _ (at-topic topic false h₁) (unless _ _ _ (class-test false h₂)
+              (unless _ _ _ (is-no domain-word h₃) (when _ _ _ (is-yes unit-word h) g)))
 
-          pub body-close : (run && eqb (y .code) 1) ≡ false → Steps t o p (bodyEnd (aroundOf topic)) y r
+          pub body-run : (y .code ≡ 82 → ⊥) → Steps t o p (runUnit (aroundOf topic) (runOf run)) y r
               → Steps t o p (bodyUnit (aroundOf topic) (runOf run)) y r
           unfolding bodyUnit
-          body-close h g =
-              unless _ _ _ (at-topic topic false h₁) (unless _ _ _ (class-test false h₂)
-              (unless _ _ _ (is-no (is-word (ascii "DOMAIN") 74 refl) h₃) (unless _ _ _ (at-domain run false h) g)))
+          body-run h g = unless _ _ _ (at-topic topic false h₁) (unless _ _ _ (class-test false h₂)
+              (unless _ _ _ (is-no domain-word h₃) (unless _ _ _ (is-no unit-word h) g)))
+
+    module _ {a : Bool} (e₁ : a ≡ U.ofDomains (runOf run)) where
+      pub run-domain : (a && eqb (y .code) 1) ≡ true → Steps t o p (domainUnit (aroundOf topic)) y r
+          → Steps t o p (runUnit (aroundOf topic) (runOf run)) y r
+      run-domain h g = when _ _ _ (at-name (U.ofDomains (runOf run)) true (rw e₁ at h)) g
+
+      module _ {b : Bool} (h : (a && eqb (y .code) 1) ≡ false) (e₂ : b ≡ U.ofUnits (runOf run)) where
+        pub run-measure : (b && eqb (y .code) 1) ≡ true → Steps t o p (unitUnit (aroundOf topic)) y r
+            → Steps t o p (runUnit (aroundOf topic) (runOf run)) y r
+        run-measure k g = unless _ _ _ (at-name (U.ofDomains (runOf run)) false (rw e₁ at h))
+            (when _ _ _ (at-name (U.ofUnits (runOf run)) true (rw e₂ at k)) g)
+
+        pub run-close : (b && eqb (y .code) 1) ≡ false → Steps t o p (bodyEnd (aroundOf topic)) y r
+            → Steps t o p (runUnit (aroundOf topic) (runOf run)) y r
+        run-close k g = unless _ _ _ (at-name (U.ofDomains (runOf run)) false (rw e₁ at h))
+            (unless _ _ _ (at-name (U.ofUnits (runOf run)) false (rw e₂ at k)) g)
 
   module _ (first : Bool) where
     pub members-open : (first && eqb (y .code) 75) ≡ true

@@ -1,26 +1,33 @@
 -- Units as the code hands them on, and what it promises of the units of the rules.
 use mathlib.Core.Path.{_≡_}
-use mathlib.Core.Bool.{Bool, true, false, not, cond}
+use mathlib.Core.Bool.{Bool, true, false, not, cond, _&&_}
 use mathlib.Core.Option.{Option, none, some}
 use mathlib.Core.List.{List}
 use Prim.Native.Nat.{ℕ}
 use Prim.Native.Char.{Char}
 use lib.ListN.{length}
 use lib.Dec.{eqb}
+use Rattle.rules.specs.Names as Names
+use Rattle.rules.specs.Names.{Sort, unit, sortNumber}
 use Rattle.rules.specs.Symbols as rules
-use Rattle.rules.specs.Symbols.{Fault, numberOf, symbolAt, isMark}
-use Rattle.rules.specs.Readers.{Result, done, refused, Reader, _>>_, aName, theMark, optional}
+use Rattle.rules.specs.Symbols.{Fault, numberOf, symbolAt, name, isKind, isMark}
+use Rattle.rules.specs.Readers.{Result, done, refused, Reader, _>>_, aName, theMark, ifNext, optional}
+use Rattle.rules.specs.Grammar.{Reference}
 use Rattle.rules.specs.Units as U
 use Rattle.symbols.specs.declared.Symbol.{Symbol}
 use Rattle.symbols.specs.Cut.{cut}
 use Rattle.ground.specs.declared.Name.{Name}
 use Rattle.readers.specs.Reads.{nameCut, faultAt, Cuts}
-use Rattle.parts.specs.Forms.{flagsOf, extendsOf, writtenOf, Scratches}
+use Rattle.parts.specs.Forms.{flagsOf, optionalOf, writtenOf, Scratches}
+use Rattle.units.specs.declared.Run.{Run}
+use Rattle.units.specs.declared.Run.the-variants.{Nothing, Domains, Units}
 use Rattle.units.specs.declared.Where.{Where}
 use Rattle.units.specs.declared.Where.the-variants.{Start, AfterHeader, Body, Members, Over}
 use Rattle.units.specs.declared.ModelHead.{ModelHead}
+use Rattle.units.specs.declared.Head.{Head}
 use Rattle.units.specs.declared.Unit as code
-use Rattle.units.specs.declared.Unit.the-variants.{Header, Model, Topic, Class, Domain, Attribute, Close, Mark}
+use Rattle.units.specs.declared.Unit.the-variants.{Header, Model, Topic, Class, Domain, Attribute, Measure}
+use Rattle.units.specs.declared.Unit.the-variants.{Close, Mark}
 use Rattle.units.specs.declared.Step.{Step}
 use Rattle.units.specs.declared.Step.the-variants.{Read, Unread}
 
@@ -29,9 +36,15 @@ abbrev pub aroundOf : Bool → U.Around
 aroundOf true = U.in-topic
 aroundOf false = U.in-model
 
-abbrev pub runOf : Bool → U.Run
-runOf true = U.domains
-runOf false = U.no-run
+abbrev pub runOf : Run → U.Run
+runOf Nothing = U.no-run
+runOf Domains = U.domains
+runOf Units = U.units
+
+abbrev pub runCut : U.Run → Run
+runCut U.no-run = Nothing
+runCut U.domains = Domains
+runCut U.units = Units
 
 abbrev pub behindOf : Bool → U.Behind
 behindOf true = U.its-head
@@ -41,7 +54,7 @@ abbrev pub whereOf : U.Where → Where
 whereOf U.start = Start
 whereOf U.afterHeader = AfterHeader
 whereOf U.over = Over
-whereOf (U.body a r) = Body (not (U.isModel a)) (U.ofDomains r)
+whereOf (U.body a r) = Body (not (U.isModel a)) (runCut r)
 whereOf (U.members a b) = Members (not (U.isModel a)) (U.isHead b)
 
 abbrev pub placeOf : Where → U.Where
@@ -50,6 +63,12 @@ placeOf AfterHeader = U.afterHeader
 placeOf (Body t r) = U.body (aroundOf t) (runOf r)
 placeOf (Members t f) = U.members (aroundOf t) (behindOf f)
 placeOf Over = U.over
+
+-- a unit of a body that begins with no word of its own
+abbrev pub runUnit : U.Around → U.Run → Reader U.Step
+runUnit a r =
+    ifNext (λ y. U.ofDomains r && isKind name y) (U.domainUnit a)
+    (ifNext (λ y. U.ofUnits r && isKind name y) (U.unitUnit a) (U.bodyEnd a))
 
 -- the mark after END and a name: the model ends with `.`
 abbrev pub endMark : Bool → Char
@@ -66,6 +85,10 @@ anything o = Unit {0}
 abbrev pub partOf : rules.Symbol → Name
 partOf s = record { offset = s .place; len = length (s .bytes) }
 
+-- of a class, a structure or a unit of numbers
+abbrev pub headOf : Sort → Names.Name → List (List ℕ) → Option Reference → Head
+headOf c n ps b = record { sort = sortNumber c; name = nameCut n; properties = flagsOf ps; base = optionalOf b }
+
 -- u is the unit, and the scratch o has become p
 abbrev pub Is : List ℕ → List ℕ → U.Unit → code.Unit → Type 0
 Is o p (U.header s) u = u ≡ Header (partOf s)
@@ -75,16 +98,16 @@ Is o p (U.model n q) u =
 Is o p (U.topic n) u = u ≡ Topic (nameCut n)
 Is o p (U.close n) u = u ≡ Close (nameCut n)
 Is o p (U.class c n ps b) u =
-    (k : Bool) × (c ≡ U.classSort k)
-    × (u ≡ Class (record { structure = k; name = nameCut n; properties = flagsOf ps; base = extendsOf b }))
+    (k : Bool) × (c ≡ U.classSort k) × (u ≡ Class (headOf c n ps b))
 Is o p (U.domain n ps b w) u =
-    (u ≡ Domain (record { name = nameCut n; properties = flagsOf ps; base = extendsOf b; written = writtenOf w }))
+    (u ≡ Domain (record { name = nameCut n; properties = flagsOf ps; base = optionalOf b; written = writtenOf w }))
     × Scratches o p (w .type)
 Is o p (U.attribute n ps w) u =
     (u ≡ Attribute (record { name = nameCut n; properties = flagsOf ps; written = writtenOf w }))
     × Scratches o p (w .type)
+Is o p (U.unit n ps b) u = u ≡ Measure (headOf unit n ps b)
 
--- DOMAIN and ATTRIBUTE are marks
+-- DOMAIN, UNIT and ATTRIBUTE are marks
 abbrev pub IsAny : List ℕ → List ℕ → Option U.Unit → code.Unit → Type 0
 IsAny o p none u = u ≡ Mark
 IsAny o p (some x) u = Is o p x u

@@ -1,7 +1,8 @@
 // The readers of units: a unit is read from its first symbol on, and the symbol behind it is handed on. A fault goes on
 // as a faulty symbol, which no reader takes; the unit's end finds it.
 use ground::Name;
-use parts::Extends;
+use parts::Optional;
+use parts::Owner;
 use parts::Properties;
 use parts::types::Written;
 use readers::expect;
@@ -13,18 +14,26 @@ ghost use mathlib.Core.List.{List};
 ghost use Prim.Native.Nat.{ℕ, _*_, _≤_};
 ghost use lib.ListN.{length};
 ghost use lib.Dec.{eqb};
-ghost use Rattle.rules.specs.Units.{headerUnit, modelUnit, topicUnit, classUnit, domainUnit, attributeUnit, endUnit};
-ghost use Rattle.rules.specs.Units.{bodyEnd, bodyUnit, memberUnit, unitAt};
+ghost use Rattle.rules.specs.Names.{sortNumber};
+ghost use Rattle.rules.specs.Units.{headerUnit, modelUnit, topicUnit, classSort, classUnit, domainUnit, unitUnit};
+ghost use Rattle.rules.specs.Units.{attributeUnit, endUnit, ofDomains, ofUnits, bodyEnd, bodyUnit, memberUnit, unitAt};
 ghost use Rattle.readers.specs.Reads.{Held, Reads};
 ghost use Rattle.units.specs.Steps.{aroundOf, runOf, behindOf, placeOf, endMark, language, anything};
-ghost use Rattle.units.specs.Steps.{Steps, endedOf};
+ghost use Rattle.units.specs.Steps.{runUnit, Steps, endedOf};
 
-// Where the next unit stands: before the header; behind it; in the model or a topic, perhaps in a run of domains; in a
-// class, perhaps right after its head; behind the model's END.
+// The run that is open: none, of domains, of units of numbers.
+pub enum Run {
+    Nothing,
+    Domains,
+    Units,
+}
+
+// Where the next unit stands: before the header; behind it; in the model or a topic, perhaps in a run; in a class,
+// perhaps right after its head; behind the model's END.
 pub enum Where {
     Start,
     AfterHeader,
-    Body { topic: bool, run: bool },
+    Body { topic: bool, run: Run },
     Members { topic: bool, first: bool },
     Over,
 }
@@ -36,17 +45,25 @@ pub struct ModelHead {
     pub version: Name,
 }
 
-pub struct ClassHead {
-    pub structure: bool,
+// The numbers of sorts: `sortNumber`.
+pub const CLASS: usize = 1;
+
+pub const STRUCTURE: usize = 2;
+
+pub const UNIT: usize = 4;
+
+// Of a class, a structure or a unit of numbers, by the number of its sort.
+pub struct Head {
+    pub sort: usize,
     pub name: Name,
     pub properties: Properties,
-    pub base: Extends,
+    pub base: Optional,
 }
 
 pub struct DomainUnit {
     pub name: Name,
     pub properties: Properties,
-    pub base: Extends,
+    pub base: Optional,
     pub written: Written,
 }
 
@@ -56,14 +73,16 @@ pub struct AttributeUnit {
     pub written: Written,
 }
 
-// The header's number; names of a topic and after END; DOMAIN, ATTRIBUTE and the end of the text are marks.
+// The header's number; names of a topic and after END; a unit of numbers is a measure; DOMAIN, UNIT, ATTRIBUTE and the
+// end of the text are marks.
 pub enum Unit {
     Header(Name),
     Model(ModelHead),
     Topic(Name),
-    Class(ClassHead),
+    Class(Head),
     Domain(DomainUnit),
     Attribute(AttributeUnit),
+    Measure(Head),
     Close(Name),
     Mark,
 }
@@ -130,7 +149,7 @@ fn model(text: &[u8], y: Symbol) -> Step
     };
     let at = Where::Body {
         topic: false,
-        run: false,
+        run: Run::Nothing,
     };
     ended(text, end, readers::EQUALS, Unit::Model(head), at)
 }
@@ -142,7 +161,7 @@ fn topic(text: &[u8], y: Symbol) -> Step
     let end = expect(text, name, readers::NAME);
     let at = Where::Body {
         topic: true,
-        run: false,
+        run: Run::Nothing,
     };
     let unit = Unit::Topic(name_of(name));
     ended(text, end, readers::EQUALS, unit, at)
@@ -157,6 +176,12 @@ fn is_class(code: u8) -> bool
     code == readers::STRUCTURE
 }
 
+fn class_sort(structure: bool) -> usize
+    ensures { λ r. ⌜ r ≡ sortNumber (classSort structure) ⌝ }
+{
+    if structure { STRUCTURE } else { CLASS }
+}
+
 // CLASS or STRUCTURE, which is y.
 fn class(text: &[u8], y: Symbol, in_topic: bool) -> Step
     requires { ⌜ Held (now text) y ⌝ }
@@ -165,13 +190,13 @@ fn class(text: &[u8], y: Symbol, in_topic: bool) -> Step
 {
     let name = expect(text, y, y.code);
     let behind = expect(text, name, readers::NAME);
-    let p = parts::read_properties(text, behind, false);
+    let p = parts::read_properties(text, behind, Owner::Definition);
     let behind = p.next;
     let b = parts::read_extends(text, behind);
     let properties = p.properties;
-    let base = b.base;
-    let head = ClassHead {
-        structure: y.code == readers::STRUCTURE,
+    let base = b.reference;
+    let head = Head {
+        sort: class_sort(y.code == readers::STRUCTURE),
         name: name_of(name),
         properties: properties,
         base: base,
@@ -191,13 +216,13 @@ fn domain(text: &[u8], scratch: &mut [u8], y: Symbol, in_topic: bool) -> Step
         (domainUnit (aroundOf «in_topic»)) y r ⌝ }
 {
     let behind = expect(text, y, readers::NAME);
-    let p = parts::read_properties(text, behind, false);
+    let p = parts::read_properties(text, behind, Owner::Definition);
     let behind = p.next;
     let b = parts::read_extends(text, behind);
     let behind = b.next;
     let first = expect(text, behind, readers::EQUALS);
     let properties = p.properties;
-    let base = b.base;
+    let base = b.reference;
     let w = parts::types::read_written(text, scratch, first, parts::is_given(base), false);
     let written = w.written;
     let unit = DomainUnit {
@@ -208,10 +233,34 @@ fn domain(text: &[u8], scratch: &mut [u8], y: Symbol, in_topic: bool) -> Step
     };
     let at = Where::Body {
         topic: in_topic,
-        run: true,
+        run: Run::Domains,
     };
     let end = w.next;
     ended(text, end, readers::SEMICOLON, Unit::Domain(unit), at)
+}
+
+fn measure(text: &[u8], y: Symbol, in_topic: bool) -> Step
+    requires { ⌜ Held (now text) y ⌝ }
+    ensures { λ r. ⌜ ((o : List ℕ) → Steps (now (text .entry)) o o (unitUnit (aroundOf «in_topic»)) y r) ⌝ }
+{
+    let behind = expect(text, y, readers::NAME);
+    let p = parts::read_properties(text, behind, Owner::Measure);
+    let behind = p.next;
+    let b = parts::read_extends(text, behind);
+    let properties = p.properties;
+    let base = b.reference;
+    let head = Head {
+        sort: UNIT,
+        name: name_of(y),
+        properties: properties,
+        base: base,
+    };
+    let at = Where::Body {
+        topic: in_topic,
+        run: Run::Units,
+    };
+    let end = b.next;
+    ended(text, end, readers::SEMICOLON, Unit::Measure(head), at)
 }
 
 fn attribute(text: &[u8], scratch: &mut [u8], y: Symbol, in_topic: bool) -> Step
@@ -221,7 +270,7 @@ fn attribute(text: &[u8], scratch: &mut [u8], y: Symbol, in_topic: bool) -> Step
         (attributeUnit (aroundOf «in_topic»)) y r ⌝ }
 {
     let behind = expect(text, y, readers::NAME);
-    let p = parts::read_properties(text, behind, true);
+    let p = parts::read_properties(text, behind, Owner::Attribute);
     let behind = p.next;
     let first = expect(text, behind, readers::COLON);
     let properties = p.properties;
@@ -267,7 +316,7 @@ fn body_end(text: &[u8], y: Symbol, in_topic: bool) -> Step
     if in_topic {
         let at = Where::Body {
             topic: false,
-            run: false,
+            run: Run::Nothing,
         };
         return close(text, y, false, at);
     }
@@ -293,7 +342,43 @@ fn allowed(may: bool, code: u8, wanted: u8) -> bool
     false
 }
 
-fn body_unit(text: &[u8], scratch: &mut [u8], y: Symbol, in_topic: bool, run: bool) -> Step
+fn of_domains(run: Run) -> bool
+    ensures { λ r. ⌜ r ≡ ofDomains (runOf run) ⌝ }
+{
+    match run {
+        Run::Nothing => false,
+        Run::Domains => true,
+        Run::Units => false,
+    }
+}
+
+fn of_units(run: Run) -> bool
+    ensures { λ r. ⌜ r ≡ ofUnits (runOf run) ⌝ }
+{
+    match run {
+        Run::Nothing => false,
+        Run::Domains => false,
+        Run::Units => true,
+    }
+}
+
+// A unit that begins with no word of its own, by the run that is open, or the end.
+fn run_unit(text: &[u8], scratch: &mut [u8], y: Symbol, in_topic: bool, run: Run) -> Step
+    requires { ⌜ Held (now text) y ⌝ }
+    requires { ⌜ 3 * length (now text) ≤ length (now scratch) ⌝ }
+    ensures { λ r. ⌜ Steps (now (text .entry)) (now (scratch .entry)) (now (scratch .exit))
+        (runUnit (aroundOf «in_topic») (runOf run)) y r ⌝ }
+{
+    if allowed(of_domains(run), y.code, readers::NAME) {
+        return domain(text, scratch, y, in_topic);
+    }
+    if allowed(of_units(run), y.code, readers::NAME) {
+        return measure(text, y, in_topic);
+    }
+    body_end(text, y, in_topic)
+}
+
+fn body_unit(text: &[u8], scratch: &mut [u8], y: Symbol, in_topic: bool, run: Run) -> Step
     requires { ⌜ Held (now text) y ⌝ }
     requires { ⌜ 3 * length (now text) ≤ length (now scratch) ⌝ }
     ensures { λ r. ⌜ Steps (now (text .entry)) (now (scratch .entry)) (now (scratch .exit))
@@ -308,14 +393,18 @@ fn body_unit(text: &[u8], scratch: &mut [u8], y: Symbol, in_topic: bool, run: bo
     if y.code == readers::DOMAIN {
         let at = Where::Body {
             topic: in_topic,
-            run: true,
+            run: Run::Domains,
         };
         return ended(text, y, readers::DOMAIN, Unit::Mark, at);
     }
-    if allowed(run, y.code, readers::NAME) {
-        return domain(text, scratch, y, in_topic);
+    if y.code == readers::UNIT {
+        let at = Where::Body {
+            topic: in_topic,
+            run: Run::Units,
+        };
+        return ended(text, y, readers::UNIT, Unit::Mark, at);
     }
-    body_end(text, y, in_topic)
+    run_unit(text, scratch, y, in_topic, run)
 }
 
 fn member_unit(text: &[u8], scratch: &mut [u8], y: Symbol, in_topic: bool, first: bool) -> Step
@@ -336,7 +425,7 @@ fn member_unit(text: &[u8], scratch: &mut [u8], y: Symbol, in_topic: bool, first
     }
     let at = Where::Body {
         topic: in_topic,
-        run: false,
+        run: Run::Nothing,
     };
     close(text, y, false, at)
 }

@@ -2,7 +2,7 @@
 use mathlib.Core.Path.{_≡_, refl, sym, ap, subst, _∙_}
 use mathlib.Core.Bool.{Bool, true, false, cond, not, _&&_, _||_}
 use mathlib.Core.Option.{Option, none, some}
-use mathlib.Core.List.{List, [], _∷_, _++_}
+use mathlib.Core.List.{List, [], _∷_, _++_, append-nil}
 use Prim.Native.Nat.{ℕ, _≤_, _<_}
 use native.Mathlib.Omega.{arith}
 use lib.ListN.{length}
@@ -11,14 +11,19 @@ use Rattle.rules.specs.Grammar as G
 use Rattle.rules.specs.Grammar.{Reference, WrittenType, Written}
 use Rattle.rules.specs.Units as U
 use Rattle.rules.specs.Units.{isGiven, classSort}
-use Rattle.rules.specs.Types.{Ty}
+use Rattle.rules.specs.Numbers.{Range}
+use Rattle.rules.specs.Enumerations.{Enum}
+use Rattle.rules.specs.Types.{Ty, text, numeric, structure, enum, unitOf}
 use Rattle.rules.specs.Declarations as D
-use Rattle.rules.specs.Declarations.{Link, Use, inline, ofDomain, ofStructure, tyOf, Attribute, domain, isSort, Def}
-use Rattle.rules.specs.Declarations.{linkOf, attributesOf, isFound, Decl, def, State, known, topicName}
+use Rattle.rules.specs.Declarations.{Link, Use, inline, ofDomain, ofStructure, tyOf, Attribute, Sort, domain, isSort}
+use Rattle.rules.specs.Declarations.{Def}
+use Rattle.rules.specs.Declarations.{linkOf, measureIn, attributesOf, isFound, Decl, def, State, known, topicName}
 use Rattle.rules.specs.Book.{records}
-use Rattle.rules.specs.Judge.{ok, orNoDef, orNoAttribute, isExtended, resolved, basesOf, domainType, naming}
-use Rattle.rules.specs.Judge.{attributeUse, referenceIn, elementRule, typeRules, mayType, isDomain, isNumeric, hasTwice}
-use Rattle.rules.specs.Judge.{declare, opened, inTopic, newTopic, afterTopic, newClass, extendsRules, newDomain}
+use Rattle.rules.specs.Judge.{ok, orNoDef, orNoAttribute, isExtended, resolved, basesOf, mergedInto, rangeIn, meant}
+use Rattle.rules.specs.Judge.{domainType, naming}
+use Rattle.rules.specs.Judge.{attributeUse, referenceIn, isNaming, elementRule, typeRules, mayType, mayStandIn}
+use Rattle.rules.specs.Judge.{isDomain, isNumeric, hasTwice}
+use Rattle.rules.specs.Judge.{declare, opened, inTopic, newTopic, afterTopic, newClass, newDomain}
 use Rattle.rules.specs.Judge.{domainTo16, domainRules, newAttribute, withAttribute, attributeTo16, attributeRules}
 use Rattle.rules.specs.Judge.{inheritedAs, memberRules, afterMember, afterClose, rulesOf, nextState, judge}
 use Rattle.rules.specs.All.{All, AnyIs, In, Unbroken}
@@ -30,7 +35,8 @@ use Rattle.rules.proofs.GrowLaws.{known-append}
 use Rattle.enumerations.specs.Standing.{InText}
 use Rattle.members.proofs.OpenLaws.{apart-start, apart-more}
 use Rattle.wellformed.specs.Fairness.{FairType, FairWritten, FairUnit, Fair, FairUse, NameText, FairAttribute}
-use Rattle.wellformed.specs.Fairness.{FairLink, FairDef, FairOpen, LeadsTo, NamesDeclared, NamesAll, FairDecl}
+use Rattle.wellformed.specs.Fairness.{FairLink, FairDef, FairOpen, LeadsTo, UnitIn, NamesDeclared, NamesAll}
+use Rattle.wellformed.specs.Fairness.{Rising, Behind, FairDecl}
 use Rattle.wellformed.specs.Fairness.{FairState, MayStand}
 use Rattle.wellformed.proofs.RecordLaws.{declared-more, opened-more, ended-more, attribute-more, close-more}
 use Rattle.wellformed.proofs.TypeLaws.{Base, fair-base, use-base, meant-fair, domain-fair, use-fair}
@@ -60,22 +66,37 @@ declared-grows K E l bs m d h = record {
   holds = h .holds;
 }
 
+unit-grows : (K E : List Def) (x : Ty) → UnitIn K x → UnitIn (K ++ E) x
+unit-grows K E x h = any-map (λ u (d, i, e). (d, in-append K E i, e)) (unitOf x) h
+
 names-grow : (K E : List Def) (u : Use) (m : Bool) → NamesDeclared K u m → NamesDeclared (K ++ E) u m
-names-grow K E (inline x) m h = tt
+names-grow K E (inline x) m h = unit-grows K E x h
 names-grow K E (ofDomain l bs) m (d, h, s, a) = (d, declared-grows K E l bs m d h, s, a)
 names-grow K E (ofStructure l bs) m (d, h, s) = (d, declared-grows K E l bs m d h, s)
 
 all-names-grow : (K E : List Def) (d : Def) → NamesAll K d → NamesAll (K ++ E) d
-all-names-grow K E d h = all-map (λ (a : Attribute). names-grow K E (a .use-of) (a .mandatory)) (attributesOf d) h
+all-names-grow K E d h = (
+  unit-grows K E (d .type) (h .0),
+  all-map (λ (a : Attribute). names-grow K E (a .use-of) (a .mandatory)) (attributesOf d) (h .1),
+)
+
+rising-more : (K : List Def) (e : Def) → Rising K → Behind K e → Rising (K ++ (e ∷ []))
+rising-more [] e h k = (tt, tt)
+rising-more (d ∷ l) e h k =
+    (all-append (λ (f : Def). d .number < f .number) l (e ∷ []) (h .0) (k .0, tt), rising-more l e (h .1) (k .1))
 
 -- ---- states
 module _ (t : List ℕ) (s : State) (h : FairState t s) where
   abbrev K : List Def
   K = known (s .decls)
 
+  -- what is numbered now stands behind all
+  now-behind : (e : Def) → e .number ≡ length (records s) → Behind K e
+  now-behind e q = rw q (all-map (λ (d : Def) f. f .before) K (h .defs))
+
   declare-fair : (e : Def) → length (records s) ≤ length (records (declare s (def e)))
-      → FairDef t (length (records (declare s (def e)))) e → NamesAll K e → FairState t (declare s (def e))
-  declare-fair e l k g =
+      → FairDef t (length (records (declare s (def e)))) e → NamesAll K e → Behind K e → FairState t (declare s (def e))
+  declare-fair e l k g b =
       let m : ℕ = length (records (declare s (def e))) in
       let more = known-append (s .decls) (def e) in
       record {
@@ -87,32 +108,37 @@ module _ (t : List ℕ) (s : State) (h : FairState t s) where
         open-names = tt;
         decls = all-append (FairDecl t (s .model)) (s .decls) (def e ∷ []) (h .decls) (tt, tt);
         topic = h .topic;
+        rising = rw more (rising-more K e (h .rising) b);
+        open-behind = tt;
       }
 
   opened-fair : (c : Def) → length (records s) ≤ length (records (opened s c))
-      → FairOpen t (length (records (opened s c))) c → NamesAll K c → FairState t (opened s c)
-  opened-fair c l k g = record {
+      → FairOpen t (length (records (opened s c))) c → NamesAll K c → Behind K c → FairState t (opened s c)
+  opened-fair c l k g b = record {
     defs = all-map (def-grows t (length (records s)) (length (records (opened s c))) l) K (h .defs);
     open-class = k;
     names = h .names;
     open-names = g;
     decls = h .decls;
     topic = h .topic;
+    rising = h .rising;
+    open-behind = b;
   }
 
   end-fair : (n : Name) → InText t n → isFound (s .open-class) ≡ false
       → FairState t (inTopic (declare s (D.endTopic n)) none)
   end-fair n i c =
       let m : ℕ = length (records (declare s (D.endTopic n))) in
-      let more = known-append (s .decls) (D.endTopic n) in
+      let same : known (s .decls ++ (D.endTopic n ∷ [])) ≡ K = known-append (s .decls) (D.endTopic n) ∙ append-nil K in
       record {
-        defs = rw more (all-append (FairDef t m) K []
-            (all-map (def-grows t (length (records s)) m (ended-more s c n)) K (h .defs)) tt);
+        defs = rw same (all-map (def-grows t (length (records s)) m (ended-more s c n)) K (h .defs));
         open-class = tt;
-        names = rw more (all-append (NamesAll (K ++ [])) K [] (all-map (all-names-grow K []) K (h .names)) tt);
+        names = rw same (h .names);
         open-names = tt;
         decls = all-append (FairDecl t (s .model)) (s .decls) (D.endTopic n ∷ []) (h .decls) (i, tt);
         topic = tt;
+        rising = rw same (h .rising);
+        open-behind = tt;
       }
 
   -- the name of the open topic
@@ -133,6 +159,8 @@ in-topic t s d o i h = record {
   open-names = tt;
   decls = h .decls;
   topic = i;
+  rising = h .rising;
+  open-behind = tt;
 }
 
 base-links : (t : List ℕ) (n : ℕ) (o : Option Def) → AnyIs (FairDef t n) o → All FairLink (basesOf o)
@@ -155,7 +183,11 @@ new-topic t s n m l i = record {
 
 topic-names : (K : List Def) (s : State) (n : Name) → NamesAll K (newTopic s n)
 unfolding newTopic
-topic-names K s n = tt
+topic-names K s n = (tt, tt)
+
+topic-number : (s : State) (n : Name) → newTopic s n .number ≡ length (records s)
+unfolding newTopic
+topic-number s n = refl
 
 topic-name : (t : List ℕ) (s : State) (n : Name) → InText t n → InText t (newTopic s n .name)
 unfolding newTopic
@@ -167,9 +199,10 @@ fair-topic t s n c i h =
     let e = newTopic s n in
     let l = declared-more s c e in
     in-topic t s (def e) (some e) (topic-name t s n i)
-    (declare-fair t s h e (omega arith) (new-topic t s n _ l i) (topic-names (known (s .decls)) s n))
+    (declare-fair t s h e (omega arith) (new-topic t s n _ l i) (topic-names (known (s .decls)) s n)
+    (now-behind t s h e (topic-number s n)))
 
--- ---- classes and structures
+-- ---- classes, structures and units
 class-sort : (st : Bool) → classSort st ≡ domain → ⊥
 class-sort true e = let z : _≡_ {A = ℕ} 0 1 = cc in omega arith
 class-sort false e = let z : _≡_ {A = ℕ} 0 1 = cc in omega arith
@@ -183,57 +216,81 @@ base-attributes : (P : Attribute → Type 0) (o : Option Def) → AnyIs (λ (d :
 base-attributes P none h = tt
 base-attributes P (some d) h = h
 
-module _ (t : List ℕ) (s : State) (h : FairState t s) (st : Bool) (n : Name) (p : List (List ℕ)) (o : Option Def)
+unit-sort : D.unit ≡ domain → ⊥
+unit-sort e = let z : _≡_ {A = ℕ} 0 1 = cc in omega arith
+
+module _ (t : List ℕ) (s : State) (h : FairState t s) (x : Sort) (n : Name) (p : List (List ℕ)) (o : Option Def)
     (k : AnyIs (FairDef t (length (records s))) o) where
-  new-class : (m : ℕ) → length (records s) < m → InText t n → FairOpen t m (newClass s (classSort st) n p o)
-  unfolding newClass
-  new-class m l i =
-      let b = base-attributes (FairAttribute t (length (records s))) o (any-map (λ (d : Def) f. f .attributes) o k) in
-      let c = newClass s (classSort st) n p o in
-      record {
-        fair = record {
-          type = λ e. absurd (class-sort st e);
-          before = l;
-          attributes = all-map (attribute-grows t (length (records s)) m (omega arith)) (attributesOf (orNoDef o)) b;
-          bare = λ e. absurd (class-sort st e);
-          name = i;
-          around = topic-text t s h;
-          bases = base-links t (length (records s)) o k;
-        };
-        structure = st;
-        sort = refl;
-        apart = apart-start c refl (each-before t (length (records s)) (attributesOf (orNoDef o)) b);
-      }
+  abbrev new : Def
+  new = newClass s x n p o
 
-  class-names : AnyIs (NamesAll (known (s .decls))) o → NamesAll (known (s .decls)) (newClass s (classSort st) n p o)
-  unfolding newClass
-  class-names g = base-attributes (λ (a : Attribute). NamesDeclared (known (s .decls)) (a .use-of) (a .mandatory)) o g
+  base-fair : All (FairAttribute t (length (records s))) (attributesOf (orNoDef o))
+  base-fair = base-attributes (FairAttribute t (length (records s))) o (any-map (λ (d : Def) f. f .attributes) o k)
 
-  fair-class : isFound (s .open-class) ≡ false → InText t n → AnyIs (NamesAll (known (s .decls))) o
-      → FairState t (opened s (newClass s (classSort st) n p o))
-  fair-class c i g =
-      let l = opened-more s c (newClass s (classSort st) n p o) in
-      opened-fair t s h (newClass s (classSort st) n p o) (omega arith) (new-class _ l i) (class-names g)
+  new-head : (m : ℕ) → length (records s) < m → InText t n → (x ≡ domain → ⊥) → FairDef t m new
+  unfolding newClass
+  new-head m l i z = record {
+    type = λ e. absurd (z e);
+    before = l;
+    attributes =
+        all-map (attribute-grows t (length (records s)) m (omega arith)) (attributesOf (orNoDef o)) base-fair;
+    bare = λ e. absurd (z e);
+    name = i;
+    around = topic-text t s h;
+    bases = base-links t (length (records s)) o k;
+  }
+
+  new-class : (m : ℕ) → length (records s) < m → InText t n → (st : Bool) → x ≡ classSort st → FairOpen t m new
+  unfolding newClass
+  new-class m l i st e = record {
+    fair = new-head m l i (λ z. class-sort st (sym e ∙ z));
+    structure = st;
+    sort = e;
+    apart = apart-start new refl (each-before t (length (records s)) (attributesOf (orNoDef o)) base-fair);
+  }
+
+  class-names : AnyIs (NamesAll (known (s .decls))) o → NamesAll (known (s .decls)) new
+  unfolding newClass
+  class-names g = (
+    tt,
+    base-attributes (λ (a : Attribute). NamesDeclared (known (s .decls)) (a .use-of) (a .mandatory)) o
+        (any-map (λ (d : Def) f. f .1) o g),
+  )
+
+  class-behind : Behind (known (s .decls)) new
+  unfolding newClass
+  class-behind = now-behind t s h new refl
+
+  module _ (c : isFound (s .open-class) ≡ false) (i : InText t n) (g : AnyIs (NamesAll (known (s .decls))) o) where
+    fair-class : (st : Bool) → x ≡ classSort st → FairState t (opened s new)
+    fair-class st e =
+        let l = opened-more s c new in
+        opened-fair t s h new (omega arith) (new-class _ l i st e) (class-names g) class-behind
+
+    fair-unit : (x ≡ domain → ⊥) → FairState t (declare s (def new))
+    fair-unit z =
+        let l = declared-more s c new in
+        declare-fair t s h new (omega arith) (new-head _ l i z) (class-names g) class-behind
 
 -- ---- domains
-module _ (s : State) (n : Name) (p : List (List ℕ)) (b : Option Reference) (w : Written) (o : Option Def)
-    (h : All Unbroken (domainTo16 s n p b w o)) where
+module _ (s : State) (n : Name) (p : List (List ℕ)) (b : Option Reference) (w : Written) (o g : Option Def)
+    (h : All Unbroken (domainTo16 s n p b w o g)) where
   domain-element : elementRule (w .type) .broken ≡ false
   unfolding domainTo16
   domain-element = h .1 .0
 
   -- 10 and 11 of the base
   domain-found : (isGiven b && not (isFound o)) ≡ false
-  unfolding domainTo16 extendsRules
+  unfolding domainTo16
   domain-found = h .1 .1 .0
 
   domain-sort : (isFound o && not (isSort domain (orNoDef o .sort))) ≡ false
-  unfolding domainTo16 extendsRules
-  domain-sort = h .1 .1 .1 .0
+  unfolding domainTo16
+  domain-sort = h .1 .1 .1 .1 .0
 
   domain-types : All Unbroken (typeRules (isFound o) (w .place) (w .type))
-  unfolding domainTo16 extendsRules
-  domain-types = all-left Unbroken (typeRules (isFound o) (w .place) (w .type)) _ (h .1 .1 .1 .1 .1 .1)
+  unfolding domainTo16
+  domain-types = all-left Unbroken (typeRules (isFound o) (w .place) (w .type)) _ (h .1 .1 .1 .1 .1 .1 .1 .1)
 
 pub found-there : (b o : Bool) → b ≡ true → (b && not o) ≡ false → o ≡ true
 found-there true o e h = not-fails h
@@ -249,27 +306,56 @@ base-of : (t : List ℕ) (n : ℕ) (o : Option Def) → AnyIs (FairDef t n) o
 base-of t n none k q = tt
 base-of t n (some d) k q = fair-base t (d .type) (base-type t n (some d) k q refl)
 
-domain-type : (t : List ℕ) (found : Bool) (p : ℕ) (x : Option WrittenType) (y : Ty) → AnyIs (FairType t) x → Base t y
-    → referenceIn x ≡ none → elementRule x .broken ≡ false → All Unbroken (typeRules found p x)
-    → (x ≡ none → Fair t y) → Fair t (domainType x y)
-domain-type t found p none y h k r e q g = g refl
-domain-type t found p (some x) y h k r e q g = meant-fair t found p x y h k r e q
+domain-type : (t : List ℕ) (found : Bool) (p : ℕ) (x : Option WrittenType) (target : Option Def) (y : Ty)
+    → AnyIs (FairType t) x → Base t y
+    → isNaming x ≡ false → elementRule x .broken ≡ false → All Unbroken (typeRules found p x)
+    → (x ≡ none → Fair t y) → Fair t (domainType x target y)
+domain-type t found p none z y h k r e q g = g refl
+domain-type t found p (some x) z y h k r e q g = meant-fair t found p x z y h k r e q
+
+-- ---- the unit of a type is declared: that of what is written, to which its reference leads, or the base's
+merged-unit : (K : List Def) (b : Ty) (e : Enum) → UnitIn K (mergedInto b e)
+merged-unit K (text m n) e = tt
+merged-unit K (numeric r u) e = tt
+merged-unit K (enum b) e = tt
+merged-unit K structure e = tt
+
+target-unit : (K : List Def) (r : Option Range) (target : Option Def) → AnyIs (λ (d : Def). In d K) target
+    → UnitIn K (numeric r (measureIn target))
+target-unit K r none i = tt
+target-unit K r (some d) i = (d, i, refl)
+
+meant-unit : (K : List Def) (x : WrittenType) (target : Option Def) (b : Ty) → AnyIs (λ (d : Def). In d K) target
+    → UnitIn K (meant x target b)
+meant-unit K (G.text m n) g b i = tt
+meant-unit K (G.numeric q r) g b i = target-unit K (rangeIn q) g i
+meant-unit K (G.enum e) g b i = merged-unit K b e
+meant-unit K (G.named r) g b i = tt
+
+base-unit : (K : List Def) (o : Option Def) → AnyIs (NamesAll K) o → UnitIn K (orNoDef o .type)
+base-unit K none h = tt
+base-unit K (some d) h = h .0
+
+domain-unit : (K : List Def) (x : Option WrittenType) (target o : Option Def) → AnyIs (λ (d : Def). In d K) target
+    → AnyIs (NamesAll K) o → UnitIn K (domainType x target (orNoDef o .type))
+domain-unit K none g o i h = base-unit K o h
+domain-unit K (some x) g o i h = meant-unit K x g (orNoDef o .type) i
 
 module _ (t : List ℕ) (s : State) (h : FairState t s) (n : Name) (p : List (List ℕ)) (b : Option Reference)
-    (w : Written) (o : Option Def) (k : AnyIs (FairDef t (length (records s))) o) where
-  domain-early : All Unbroken (domainRules s n p b w o) → All Unbroken (domainTo16 s n p b w o)
+    (w : Written) (o g : Option Def) (k : AnyIs (FairDef t (length (records s))) o) where
+  domain-early : All Unbroken (domainRules s n p b w o g) → All Unbroken (domainTo16 s n p b w o g)
   unfolding domainRules
-  domain-early u = all-left Unbroken (domainTo16 s n p b w o) _ u
+  domain-early u = all-left Unbroken (domainTo16 s n p b w o g) _ u
 
   new-domain : (m : ℕ) → length (records s) < m → InText t n → FairWritten t (isGiven b) w
-      → referenceIn (w .type) ≡ none → All Unbroken (domainTo16 s n p b w o) → FairDef t m (newDomain s n p w o)
+      → isNaming (w .type) ≡ false → All Unbroken (domainTo16 s n p b w o g) → FairDef t m (newDomain s n p w o g)
   unfolding newDomain
   new-domain m l i f r u =
-      let e = domain-sort s n p b w o u in
-      let g : w .type ≡ none → Fair t (orNoDef o .type) = λ z. base-type t (length (records s)) o k e
-      (found-there (isGiven b) (isFound o) (f .alone z) (domain-found s n p b w o u)) in
-      let y = domain-type t (isFound o) (w .place) (w .type) (orNoDef o .type) (f .type)
-      (base-of t (length (records s)) o k e) r (domain-element s n p b w o u) (domain-types s n p b w o u) g in
+      let e = domain-sort s n p b w o g u in
+      let z : w .type ≡ none → Fair t (orNoDef o .type) = λ z. base-type t (length (records s)) o k e
+      (found-there (isGiven b) (isFound o) (f .alone z) (domain-found s n p b w o g u)) in
+      let y = domain-type t (isFound o) (w .place) (w .type) g (orNoDef o .type) (f .type)
+      (base-of t (length (records s)) o k e) r (domain-element s n p b w o g u) (domain-types s n p b w o g u) z in
       record {
         type = λ z. y;
         before = l;
@@ -280,16 +366,23 @@ module _ (t : List ℕ) (s : State) (h : FairState t s) (n : Name) (p : List (Li
         bases = base-links t (length (records s)) o k;
       }
 
-  domain-names : NamesAll (known (s .decls)) (newDomain s n p w o)
+  domain-names : AnyIs (λ (d : Def). In d (known (s .decls))) g → AnyIs (NamesAll (known (s .decls))) o
+      → NamesAll (known (s .decls)) (newDomain s n p w o g)
   unfolding newDomain
-  domain-names = tt
+  domain-names i j = (domain-unit (known (s .decls)) (w .type) g o i j, tt)
 
-  fair-domain : isFound (s .open-class) ≡ false → InText t n → FairWritten t (isGiven b) w → referenceIn (w .type)
-      ≡ none → All Unbroken (domainRules s n p b w o) → FairState t (declare s (def (newDomain s n p w o)))
-  fair-domain c i f r u =
-      let e = newDomain s n p w o in
+  domain-number : newDomain s n p w o g .number ≡ length (records s)
+  unfolding newDomain
+  domain-number = refl
+
+  fair-domain : isFound (s .open-class) ≡ false → InText t n → FairWritten t (isGiven b) w → isNaming (w .type) ≡ false
+      → AnyIs (λ (d : Def). In d (known (s .decls))) g → AnyIs (NamesAll (known (s .decls))) o
+      → All Unbroken (domainRules s n p b w o g) → FairState t (declare s (def (newDomain s n p w o g)))
+  fair-domain c i f r z j u =
+      let e = newDomain s n p w o g in
       let l = declared-more s c e in
-      declare-fair t s h e (omega arith) (new-domain _ l i f r (domain-early u)) domain-names
+      declare-fair t s h e (omega arith) (new-domain _ l i f r (domain-early u)) (domain-names z j)
+      (now-behind t s h e domain-number)
 
 -- ---- attributes
 module _ (s : State) (c : Def) (n : Name) (p : List (List ℕ)) (w : Written) (o : Option Attribute) (g : Option Def)
@@ -308,7 +401,7 @@ module _ (s : State) (c : Def) (n : Name) (p : List (List ℕ)) (w : Written) (o
   attribute-named = h .1 .1 .1 .1 .0
 
   -- 11 of what is named, and 13 of an ABSTRACT domain
-  attribute-sort : (isFound g && not (mayType (orNoDef g .sort))) ≡ false
+  attribute-sort : (isFound g && not (mayStandIn (w .type) (orNoDef g .sort))) ≡ false
   unfolding attributeTo16
   attribute-sort = h .1 .1 .1 .1 .1 .0
 
@@ -352,7 +445,7 @@ declared-holds K x m l bs d h = record {
 }
 
 names-hold : (K : List Def) (x m : Bool) (u : Use) → NamesDeclared K u m → NamesDeclared K u (x || m)
-names-hold K x m (inline y) h = tt
+names-hold K x m (inline y) h = h
 names-hold K x m (ofDomain l bs) (d, h, e, a) = (d, declared-holds K x m l bs d h, e, a)
 names-hold K x m (ofStructure l bs) (d, h, e) = (d, declared-holds K x m l bs d h, e)
 
@@ -380,15 +473,14 @@ target-names K (some d) w m i f s a = naming-names K d w m i (not-fails s) a
 use-names : (K : List Def) (x : Option WrittenType) (target : Option Def) (b : Use) (w m : Bool) → NamesDeclared K b m
     → AnyIs (λ (d : Def). In d K) target
     → (isGiven (referenceIn x) && not (isFound target)) ≡ false
-    → (isFound target && not (mayType (orNoDef target .sort))) ≡ false
+    → (isFound target && not (mayStandIn x (orNoDef target .sort))) ≡ false
     → (isDomain (attributeUse x target b) && orNoDef target .abstract) ≡ false
     → NamesDeclared K (attributeUse x target b) (w || (orNoDef target .mandatory || m))
 use-names K none g b w m h i f s a =
     names-hold K w (orNoDef g .mandatory || m) b (names-hold K (orNoDef g .mandatory) m b h)
 use-names K (some (G.text k n)) g b w m h i f s a = tt
-use-names K (some (G.range x y)) g b w m h i f s a = tt
-use-names K (some G.numeric) g b w m h i f s a = tt
-use-names K (some (G.enum e)) g b w m h i f s a = tt
+use-names K (some (G.numeric q r)) g b w m h i f s a = meant-unit K (G.numeric q r) g (tyOf b) i
+use-names K (some (G.enum e)) g b w m h i f s a = meant-unit K (G.enum e) g (tyOf b) i
 use-names K (some (G.named r)) g b w m h i f s a = target-names K g w m i (not-fails f) s a
 
 attribute-use : (t : List ℕ) (n : ℕ) (target : Option Def) → AnyIs (FairDef t n) target
@@ -478,10 +570,16 @@ more-names : (K : List Def) (c : Def) (a : Attribute) → NamesAll K c → Names
     → NamesAll K (withAttribute c a)
 unfolding withAttribute
 more-names K c a h k =
-    let P : Attribute → Type 0 = λ b. NamesDeclared K (b .use-of) (b .mandatory) in
-    all-append P (c .own ++ (a ∷ [])) (c .inherited)
-    (all-append P (c .own) (a ∷ []) (all-left P (c .own) (c .inherited) h) (k, tt))
-    (all-right P (c .own) (c .inherited) h)
+    let P : Attribute → Type 0 = λ b. NamesDeclared K (b .use-of) (b .mandatory) in (
+      h .0,
+      all-append P (c .own ++ (a ∷ [])) (c .inherited)
+          (all-append P (c .own) (a ∷ []) (all-left P (c .own) (c .inherited) (h .1)) (k, tt))
+          (all-right P (c .own) (c .inherited) (h .1)),
+    )
+
+more-behind : (K : List Def) (c : Def) (a : Attribute) → Behind K c → Behind K (withAttribute c a)
+unfolding withAttribute
+more-behind K c a h = h
 
 module _ (t : List ℕ) (s : State) (n : Name) (p : List (List ℕ)) (w : Written) (h : FairState t s) (i : InText t n)
     (f : FairWritten t (isExtended p) w) where
@@ -496,13 +594,14 @@ module _ (t : List ℕ) (s : State) (n : Name) (p : List (List ℕ)) (w : Writte
       let a = newAttribute s n p w o (resolved s (referenceIn (w .type))) in
       let j = any-attribute (FairAttribute t k) (n .bytes) (c .inherited)
       (all-right (FairAttribute t k) (c .own) (c .inherited) (y .fair .attributes)) in
-      let g = any-attribute P (n .bytes) (c .inherited) (all-right P (c .own) (c .inherited) z) in
+      let g = any-attribute P (n .bytes) (c .inherited) (all-right P (c .own) (c .inherited) (z .1)) in
       let l = attribute-more s c e (y .structure) a (y .sort) in
       let v = attribute-early t s c n p w o h u in
       opened-fair t s h (withAttribute c a) (omega arith)
       (more-fair t k _ l c y a (new-attribute t s c n p w o h f j v) (attribute-number t s c n p w o h)
       (attribute-name t s c n p w o h i))
       (more-names (known (s .decls)) c a z (attribute-names t s c n p w o h g v))
+      (more-behind (known (s .decls)) c a (any-is (Behind (known (s .decls))) (s .open-class) c (h .open-behind) e))
 
   fair-member : (o : Option Def) → s .open-class ≡ o → All Unbroken (memberRules s n p w o)
       → FairState t (afterMember s n p w o)
@@ -517,6 +616,7 @@ fair-close t s h (some c) e m z =
     let l = close-more s c e in
     declare-fair t s h c l (def-grows t (length (records s)) _ l c (y .fair))
     (any-is (NamesAll (known (s .decls))) (s .open-class) c (h .open-names) e)
+    (any-is (Behind (known (s .decls))) (s .open-class) c (h .open-behind) e)
 fair-close t s h none e (some m) z =
     end-fair t s h (m .name) (any-is (λ (d : Def). InText t (d .name)) (s .topic) m (h .topic) z) (ap isFound e)
 fair-close t s h none e none z = h
@@ -532,16 +632,22 @@ next-fair t s (U.model n q) f m h u = record {
   open-names = tt;
   decls = ((f .0, refl), tt);
   topic = tt;
+  rising = tt;
+  open-behind = tt;
 }
 next-fair t s (U.topic n) f m h u = fair-topic t s n m f h
 next-fair t s (U.class c n p b) f m h u =
     let (k, e) = f .2 in
-    let o = resolved s b in
-    rw e (fair-class t s h k n p o (any-resolved (FairDef t (length (records s))) s (h .defs) b) m (f .0)
-    (any-resolved (NamesAll (known (s .decls))) s (h .names) b))
-next-fair t s (U.domain n p b w) f m h u = fair-domain t s h n p b w (resolved s b)
-    (any-resolved (FairDef t (length (records s))) s (h .defs) b) m (f .0) (f .2) (f .3) u
+    fair-class t s h c n p (resolved s b) (any-resolved (FairDef t (length (records s))) s (h .defs) b) m (f .0)
+    (any-resolved (NamesAll (known (s .decls))) s (h .names) b) k e
+next-fair t s (U.domain n p b w) f m h u = fair-domain t s h n p b w (resolved s b) (resolved s (referenceIn (w .type)))
+    (any-resolved (FairDef t (length (records s))) s (h .defs) b) m (f .0) (f .2) (f .3)
+    (any-resolved (λ (d : Def). In d (known (s .decls))) s (all-in (known (s .decls))) (referenceIn (w .type)))
+    (any-resolved (NamesAll (known (s .decls))) s (h .names) b) u
 next-fair t s (U.attribute n p w) f m h u = fair-member t s n p w h (f .0) (f .1) (s .open-class) refl u
+next-fair t s (U.unit n p b) f m h u =
+    fair-unit t s h D.unit n p (resolved s b) (any-resolved (FairDef t (length (records s))) s (h .defs) b) m (f .0)
+    (any-resolved (NamesAll (known (s .decls))) s (h .names) b) unit-sort
 next-fair t s (U.close n) f m h u = fair-close t s h (s .open-class) refl (s .topic) refl
 
 pub judge-fair : (t : List ℕ) (s x : State) (u : U.Unit) → FairUnit t u → MayStand s u → FairState t s

@@ -7,3 +7,4 @@ pub mod ReaderLaws
 pub mod StandLaws
 pub mod SymbolLaws
 pub mod ReadLaws
+pub mod UnitLaws

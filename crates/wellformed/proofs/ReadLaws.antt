@@ -19,12 +19,14 @@ use Rattle.rules.specs.Numbers.{digits}
 use Rattle.rules.specs.Enumerations.{Enum}
 use Rattle.rules.specs.Grammar.{enough, propertiesFrom, properties, reference, extends, closeFinal, deepest}
 use Rattle.rules.specs.Grammar.{openingBracket, enumeration, elements, element, WrittenType, isLength, textLength}
-use Rattle.rules.specs.Grammar.{textType, rangeType, typeOf, typeOrReference, placeOfNext, written}
+use Rattle.rules.specs.Grammar.{textType, unitReference, optionalUnit, rangeType, numericType, typeOf, typeOrReference}
+use Rattle.rules.specs.Grammar.{placeOfNext, written}
 use Rattle.rules.specs.Units as U
-use Rattle.rules.specs.Units.{Around, isModel, ofDomains, isHead, Where, start, afterHeader, over, body, members, Step}
+use Rattle.rules.specs.Units.{Around, isModel, ofDomains, ofUnits, isHead, Where, start, afterHeader, over, body}
+use Rattle.rules.specs.Units.{members, Step}
 use Rattle.rules.specs.Units.{isGiven, headerUnit, modelUnit, topicUnit, classUnit, domainUnit, attributeUnit, endUnit}
-use Rattle.rules.specs.Units.{wordStep, bodyEnd, bodyUnit, memberUnit, lastStep, unitAt}
-use Rattle.rules.specs.Judge.{referenceIn}
+use Rattle.rules.specs.Units.{unitUnit, wordStep, bodyEnd, bodyUnit, memberUnit, lastStep, unitAt}
+use Rattle.rules.specs.Judge.{isNaming}
 use Rattle.readers.specs.Reads.{Stands}
 use Rattle.enumerations.specs.Standing.{InText, Named, plain, DeepIn, Deep}
 use Rattle.rules.specs.All.{AnyIs}
@@ -37,7 +39,7 @@ use Rattle.wellformed.proofs.SymbolLaws.{Whole, next-whole, in-text, sy
 
 -- what holds of a type that begins at a symbol
 abbrev Fairly : List ℕ → Symbol → WrittenType → Type 0
-Fairly t y x = FairType t x × Begins (y .place) x × (referenceIn (some x) ≡ none)
+Fairly t y x = FairType t x × Begins (y .place) x × (isNaming (some x) ≡ false)
 
 -- one enumeration further in
 inside : (d : ℕ) (i : Enum) → Deep (d - 1) i → 0 < d → DeepIn (plain i) d (Deep (d - 1) i)
@@ -99,11 +101,6 @@ module _ {t : List ℕ} where
       bind (skips (isOneWord (ascii "TEXT" ∷ ascii "MTEXT" ∷ []))) (λ _ _ _.
       bind (option (isMark "*") (bind (the-mark "*") (λ _ _ _. text-length))) (λ _ n h. stays (λ _. (h, tt, refl))))
 
-  range-type : Gives t (Whole t) (Fairly t) rangeType
-  unfolding rangeType
-  range-type = bind a-number
-      (λ y a h. bind (skips (isKind dots)) (λ _ _ _. bind a-number (λ _ b k. stays (λ _. ((h .0, k .0), h .1, refl)))))
-
 module _ {t : List ℕ} (small : length t < 4294967296) where
   a-name : Gives t (Whole t) (λ _ n. InText t n) aName
   a-name = bind (takes {P = λ _ a. InText t (nameOf a)} (isKind name) (λ y h e. in-text t y h small e))
@@ -158,11 +155,27 @@ module _ {t : List ℕ} (small : length t < 4294967296) where
         (λ _ i k. stays (λ _. (h, k .0, k .1))))
 
   -- ---- types
+  unit-of-number : Gives t (Whole t) (λ _. AnyIs (FairReference t)) optionalUnit
+  unfolding optionalUnit unitReference
+  unit-of-number = option (isMark "[") (bind (the-mark "[")
+      (λ _ _ _. bind the-reference (λ _ r h. bind (the-mark "]") (λ _ _ _. stays (λ _. h)))))
+
+  range-type : Gives t (Whole t) (Fairly t) rangeType
+  unfolding rangeType
+  range-type =
+      bind a-number (λ y a h. bind (skips (isKind dots)) (λ _ _ _. bind a-number (λ _ b k.
+      bind unit-of-number (λ _ u l. stays (λ _. (((h .0, k .0), l), h .1, refl))))))
+
+  numeric-type : Gives t (Whole t) (Fairly t) numericType
+  unfolding numericType
+  numeric-type =
+      bind (the-word (ascii "NUMERIC")) (λ _ _ _. bind unit-of-number (λ _ u l. stays (λ _. ((tt, l), tt, refl))))
+
   a-type : Gives t (Whole t) (Fairly t) typeOf
   unfolding typeOf
   a-type =
       if-next (isOneWord (ascii "TEXT" ∷ ascii "MTEXT" ∷ [])) text-type
-      (if-next (isWord (ascii "NUMERIC")) (bind (the-word (ascii "NUMERIC")) (λ _ _ _. stays (λ _. (tt, tt, refl))))
+      (if-next (isWord (ascii "NUMERIC")) numeric-type
       (if-next (isMark "(") (bind (by-text (λ t. enumeration (enough t) deepest) (an-enumeration (enough t) deepest))
       (λ _ e h. stays (λ _. ((h .0, h .1), tt, refl)))) range-type))
 
@@ -206,10 +219,9 @@ module _ {t : List ℕ} (Q : WrittenType → Type 0) {q : Reader WrittenType}
   the-written based = if-next (isWord (ascii "MANDATORY"))
       (bind (the-word (ascii "MANDATORY")) (λ _ _ _. may-type based)) (with-type based false)
 
-no-reference : (x : Option WrittenType)
-    → AnyIs (λ (y : WrittenType). referenceIn (some y) ≡ none) x → referenceIn x ≡ none
-no-reference none h = refl
-no-reference (some x) h = h
+not-naming : (x : Option WrittenType) → AnyIs (λ (y : WrittenType). isNaming (some y) ≡ false) x → isNaming x ≡ false
+not-naming none h = refl
+not-naming (some x) h = h
 
 -- ---- units
 abbrev Reads : List ℕ → Symbol → Step → Type 0
@@ -256,8 +268,14 @@ module _ {t : List ℕ} (small : length t < 4294967296) where
   domain-unit i =
       bind (a-name small) (λ _ n h. bind (the-properties (ascii "ABSTRACT" ∷ ascii "FINAL" ∷ []))
       (λ _ p _. bind (the-base small) (λ _ b k. bind (the-mark "=") (λ _ _ _.
-      bind (the-written (λ x. referenceIn (some x) ≡ none) (a-type small) (isGiven b))
-      (λ _ w l. bind (the-mark ";") (λ _ _ _. stays (λ _. (h, k, l .0, no-reference (w .type) (l .1)))))))))
+      bind (the-written (λ x. isNaming (some x) ≡ false) (a-type small) (isGiven b))
+      (λ _ w l. bind (the-mark ";") (λ _ _ _. stays (λ _. (h, k, l .0, not-naming (w .type) (l .1)))))))))
+
+  unit-unit : (i : Around) → Gives t (Whole t) (Reads t) (unitUnit i)
+  unfolding unitUnit
+  unit-unit i =
+      bind (a-name small) (λ _ n h. bind (the-properties (ascii "ABSTRACT" ∷ []))
+      (λ _ p _. bind (the-base small) (λ _ b k. bind (the-mark ";") (λ _ _ _. stays (λ _. (h, k))))))
 
   attribute-unit : (i : Around) → Gives t (Whole t) (Reads t) (attributeUnit i)
   unfolding attributeUnit
@@ -280,7 +298,9 @@ module _ {t : List ℕ} (small : length t < 4294967296) where
       if-next (λ y. isModel i && isWord (ascii "TOPIC") y) topic-unit
       (if-next (isOneWord (ascii "CLASS" ∷ ascii "STRUCTURE" ∷ [])) (class-unit i)
       (if-next (isWord (ascii "DOMAIN")) (word-step (ascii "DOMAIN") (body i U.domains))
-      (if-next (λ y. ofDomains r && isKind name y) (domain-unit i) (body-end i))))
+      (if-next (isWord (ascii "UNIT")) (word-step (ascii "UNIT") (body i U.units))
+      (if-next (λ y. ofDomains r && isKind name y) (domain-unit i)
+      (if-next (λ y. ofUnits r && isKind name y) (unit-unit i) (body-end i))))))
   the-unit (members i r) =
       if-next (λ y. isHead r && isWord (ascii "ATTRIBUTE") y) (word-step (ascii "ATTRIBUTE") (members i U.a-member))
       (if-next (isKind name) (attribute-unit i) (end-unit ";" (body i U.no-run)))
@@ -288,13 +308,15 @@ module _ {t : List ℕ} (small : length t < 4294967296) where
 
 -- ---- no unit begins with a number
 number-stops : (w : Where) (t : List ℕ) (p : ℕ) (b : List ℕ) → unitAt w t (symbol number p b) ≡ refused impossible p
-unfolding unitAt headerUnit modelUnit topicUnit classUnit domainUnit attributeUnit endUnit wordStep
+unfolding unitAt headerUnit modelUnit topicUnit classUnit domainUnit unitUnit attributeUnit endUnit wordStep
     bodyEnd bodyUnit memberUnit lastStep
 number-stops start t p b = refl
 number-stops afterHeader t p b = refl
 number-stops (body U.in-topic U.domains) t p b = refl
+number-stops (body U.in-topic U.units) t p b = refl
 number-stops (body U.in-topic U.no-run) t p b = refl
 number-stops (body U.in-model U.domains) t p b = refl
+number-stops (body U.in-model U.units) t p b = refl
 number-stops (body U.in-model U.no-run) t p b = refl
 number-stops (members i U.its-head) t p b = refl
 number-stops (members i U.a-member) t p b = refl

@@ -11,9 +11,11 @@ use Rattle.rules.specs.Symbols.{Symbol, name, stop, isKind, isMark, isWord, isO
 use Rattle.rules.specs.Readers.{done, _>>_, expect, aName, aNumber, aString, theMark, theWord, optional}
 use Rattle.rules.specs.Grammar.{Reference, Written, properties, extends, written, typeOf, typeOrReference}
 use Rattle.rules.specs.Units as U
-use Rattle.rules.specs.Units.{Strings, Around, isModel, Run, ofDomains, Behind, isHead, Where, start, afterHeader, over}
+use Rattle.rules.specs.Units.{Strings, Around, isModel, Run, ofDomains, ofUnits, Behind, isHead, Where, start}
+use Rattle.rules.specs.Units.{afterHeader, over}
 use Rattle.rules.specs.Units.{body, members, Step, isGiven, headerUnit, modelUnit, topicUnit, classUnit, domainUnit}
-use Rattle.rules.specs.Units.{attributeUnit, endUnit, wordStep, bodyEnd, bodyUnit, memberUnit, lastStep, unitAt}
+use Rattle.rules.specs.Units.{unitUnit, attributeUnit, endUnit, wordStep, bodyEnd, bodyUnit, memberUnit, lastStep}
+use Rattle.rules.specs.Units.{unitAt}
 use Rattle.rules.specs.Declarations.{Def, isFound, State}
 use Rattle.rules.specs.Judge.{Rule, ok, firstBrokenOr, afterMember, afterClose, rulesOf, nextState, judge}
 use Rattle.rules.specs.Check.{isOver}
@@ -33,7 +35,10 @@ data Goes : Where → Option U.Unit → Where → Type 0 where
       → Goes (body i r) (some (U.class c n p b)) (members i U.its-head)
   a-domain : (i : Around) (r : Run) (n : Name) (p : List (List ℕ)) (b : Option Reference) (w : Written)
       → Goes (body i r) (some (U.domain n p b w)) (body i U.domains)
+  a-unit : (i : Around) (r : Run) (n : Name) (p : List (List ℕ)) (b : Option Reference)
+      → Goes (body i r) (some (U.unit n p b)) (body i U.units)
   domains : (i : Around) (r : Run) → Goes (body i r) none (body i U.domains)
+  units : (i : Around) (r : Run) → Goes (body i r) none (body i U.units)
   topic-end : (r : Run) (n : Name) → Goes (body U.in-topic r) (some (U.close n)) (body U.in-model U.no-run)
   model-end : (r : Run) (n : Name) → Goes (body U.in-model r) (some (U.close n)) over
   an-attribute : (i : Around) (r : Behind) (n : Name) (p : List (List ℕ)) (w : Written)
@@ -76,6 +81,12 @@ module _ {t : List ℕ} where
       bind (anything (written (isGiven b) typeOf))
       (λ _ w _. bind (anything (theMark ";")) (λ _ _ _. stays (λ _. a-domain i r n p b w)))))))
 
+  unit-unit-leads : (i : Around) (r : Run) → Gives t Any (Leads (body i r)) (unitUnit i)
+  unfolding unitUnit
+  unit-unit-leads i r =
+      bind (anything aName) (λ _ n _. bind (anything (properties (ascii "ABSTRACT" ∷ []))) (λ _ p _.
+      bind (anything extends) (λ _ b _. bind (anything (theMark ";")) (λ _ _ _. stays (λ _. a-unit i r n p b)))))
+
   attribute-leads : (i : Around) (r : Behind) → Gives t Any (Leads (members i r)) (attributeUnit i)
   unfolding attributeUnit
   attribute-leads i r =
@@ -103,7 +114,9 @@ module _ {t : List ℕ} where
       if-next (λ y. isModel i && isWord (ascii "TOPIC") y) (topic-leads i r)
       (if-next (isOneWord (ascii "CLASS" ∷ ascii "STRUCTURE" ∷ [])) (class-leads i r)
       (if-next (isWord (ascii "DOMAIN")) (word-leads (body i r) (ascii "DOMAIN") (body i U.domains) (domains i r))
-      (if-next (λ y. ofDomains r && isKind name y) (domain-leads i r) (body-end-leads i r))))
+      (if-next (isWord (ascii "UNIT")) (word-leads (body i r) (ascii "UNIT") (body i U.units) (units i r))
+      (if-next (λ y. ofDomains r && isKind name y) (domain-leads i r)
+      (if-next (λ y. ofUnits r && isKind name y) (unit-unit-leads i r) (body-end-leads i r))))))
   unit-leads (members i r) =
       if-next (λ y. isHead r && isWord (ascii "ATTRIBUTE") y)
       (word-leads (members i r) (ascii "ATTRIBUTE") (members i U.a-member) (attributes i r))
@@ -143,7 +156,9 @@ goes-may s (a-model n q) h = h
 goes-may s (a-topic i r n) h = h
 goes-may s (a-class i r c n p b) h = h
 goes-may s (a-domain i r n p b w) h = h
+goes-may s (a-unit i r n p b) h = h
 goes-may s (domains i r) h = tt
+goes-may s (units i r) h = tt
 goes-may s (topic-end r n) h = tt
 goes-may s (model-end r n) h = tt
 goes-may s (an-attribute i r n p w) h = h
@@ -157,7 +172,9 @@ goes-mark s (a-model n q) h e = apart e
 goes-mark s (a-topic i r n) h e = apart e
 goes-mark s (a-class i r c n p b) h e = apart e
 goes-mark s (a-domain i r n p b w) h e = apart e
+goes-mark s (a-unit i r n p b) h e = apart e
 goes-mark s (domains i r) h e = h
+goes-mark s (units i r) h e = h
 goes-mark s (topic-end r n) h e = apart e
 goes-mark s (model-end r n) h e = apart e
 goes-mark s (an-attribute i r n p w) h e = apart e
@@ -172,7 +189,9 @@ goes-next s x (a-model n q) h = judged-open s x (U.model n q)
 goes-next s x (a-topic i r n) h = judged-open s x (U.topic n)
 goes-next s x (a-class i r c n p b) h = judged-open s x (U.class c n p b)
 goes-next s x (a-domain i r n p b w) h = judged-open s x (U.domain n p b w)
+goes-next s x (a-unit i r n p b) h = judged-open s x (U.unit n p b)
 goes-next s x (domains i r) h = tt
+goes-next s x (units i r) h = tt
 goes-next s x (topic-end r n) h = λ q. judged-open s x (U.close n) q ∙ close-open s (s .open-class) (s .topic) refl
 goes-next s x (model-end r n) h = λ q. judged-open s x (U.close n) q ∙ close-open s (s .open-class) (s .topic) refl
 goes-next s x (an-attribute i r n p w) h =

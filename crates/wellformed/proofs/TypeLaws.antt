@@ -1,5 +1,5 @@
 -- The type that a fair unit means, over a fair base, is fair.
-use mathlib.Core.Path.{_≡_, refl}
+use mathlib.Core.Path.{_≡_, refl, sym}
 use mathlib.Core.Bool.{Bool, true, false, cond}
 use mathlib.Core.Option.{Option, none, some}
 use mathlib.Core.List.{List, []}
@@ -12,31 +12,29 @@ use Rattle.rules.specs.Numbers.{digits}
 use Rattle.rules.specs.Enumerations.{Enum, twice}
 use Rattle.rules.specs.Grammar as G
 use Rattle.rules.specs.Grammar.{WrittenType}
-use Rattle.rules.specs.Types.{Ty, text, range, numeric, structure, enum}
+use Rattle.rules.specs.Types.{Ty, text, numeric, structure, enum}
 use Rattle.rules.specs.Declarations as D
 use Rattle.rules.specs.Declarations.{Use, inline, ofDomain, ofStructure, tyOf, Sort, domain, isSort, Def, linkOf}
 use Rattle.rules.specs.Declarations.{isFound}
-use Rattle.rules.specs.Judge.{orNoDef, mergedInto, meant, naming, attributeUse, referenceIn, elementRule, typeRules}
+use Rattle.rules.specs.Judge.{orNoDef, mergedInto, meant, naming, attributeUse, referenceIn, isNaming, elementRule}
+use Rattle.rules.specs.Judge.{typeRules}
 use Rattle.rules.proofs.Tests.{never}
 use Rattle.rules.proofs.NumberLaws.{in-order}
 use Rattle.enumerations.specs.Standing.{Kept}
 use Rattle.enumerations.proofs.KeptLaws.{merged-kept}
 use Rattle.rules.specs.All.{All, AnyIs, Unbroken}
 use Rattle.wellformed.specs.Fairness.{FairType, Fair, FairUse, FairDef}
-use Rattle.rules.proofs.AllLaws.{apart}
 
 -- into which an enumeration may be merged
 abbrev pub Base : List ℕ → Ty → Type 0
 Base t (text m n) = Unit
-Base t (range r) = Unit
-Base t numeric = Unit
+Base t (numeric r u) = Unit
 Base t structure = Unit
 Base t (enum e) = Kept t e
 
 pub fair-base : (t : List ℕ) (b : Ty) → Fair t b → Base t b
 fair-base t (text m n) h = tt
-fair-base t (range r) h = tt
-fair-base t numeric h = tt
+fair-base t (numeric r u) h = tt
 fair-base t structure h = tt
 fair-base t (enum e) h = h
 
@@ -47,8 +45,7 @@ use-base t (ofStructure l bs) h = tt
 
 merged-fair : (t : List ℕ) (b : Ty) (e : Enum) → Base t b → Kept t e → Fair t (mergedInto b e)
 merged-fair t (text m n) e h k = k
-merged-fair t (range r) e h k = k
-merged-fair t numeric e h k = k
+merged-fair t (numeric r u) e h k = k
 merged-fair t structure e h k = k
 merged-fair t (enum b) e h k = merged-kept t b e h k
 
@@ -56,16 +53,18 @@ positive : (n : ℕ) → eqb n 0 ≡ false → 0 < n
 positive n h = let k = eqb-false n 0 h in omega arith
 
 -- 9 of elements and 14 are kept
-pub meant-fair : (t : List ℕ) (based : Bool) (p : ℕ) (x : WrittenType) (b : Ty) → FairType t x
-    → Base t b → referenceIn (some x) ≡ none
-    → elementRule (some x) .broken ≡ false → All Unbroken (typeRules based p (some x)) → Fair t (meant x b)
-meant-fair t based p (G.text m none) b h k r e q = tt
-meant-fair t based p (G.text m (some y)) b h k r e q = (positive (digits (y .bytes) 0) (q .0), h)
-meant-fair t based p (G.range x y) b h k r e q = (h .0 .0, h .0 .1, h .1 .1, in-order (x .bytes) (y .bytes) (q .0))
-meant-fair t based p G.numeric b h k r e q = tt
-meant-fair t based p (G.enum x) b h k r e q =
+pub meant-fair : (t : List ℕ) (based : Bool) (p : ℕ) (x : WrittenType) (target : Option Def) (b : Ty)
+    → FairType t x → Base t b → isNaming (some x) ≡ false
+    → elementRule (some x) .broken ≡ false → All Unbroken (typeRules based p (some x)) → Fair t (meant x target b)
+meant-fair t based p (G.text m none) g b h k r e q = tt
+meant-fair t based p (G.text m (some y)) g b h k r e q = (positive (digits (y .bytes) 0) (q .0), h)
+meant-fair t based p (G.numeric none u) g b h k r e q = tt
+meant-fair t based p (G.numeric (some y) u) g b h k r e q =
+    let f = h .0 in
+    (f .0 .0, f .0 .1, f .1 .1, in-order (y .first .bytes) (y .second .bytes) (q .0))
+meant-fair t based p (G.enum x) g b h k r e q =
     merged-fair t b x k (record { named = h .0; deep = h .1; once = doubled-none (twice x []) e })
-meant-fair t based p (G.named n) b h k r e q = apart r
+meant-fair t based p (G.named n) g b h k r e q = never (sym r)
 
 -- ---- what an attribute names
 pub sort-domain : (x : Sort) → isSort domain x ≡ true → x ≡ domain
@@ -73,6 +72,7 @@ sort-domain D.topic e = never e
 sort-domain D.class e = never e
 sort-domain D.struct e = never e
 sort-domain D.domain e = refl
+sort-domain D.unit e = never e
 
 pub domain-fair : (t : List ℕ) (n : ℕ) (d : Def) → FairDef t n d → isSort domain (d .sort) ≡ true → Fair t (d .type)
 domain-fair t n d h e = h .type (sort-domain (d .sort) e)
@@ -93,8 +93,7 @@ pub use-fair : (t : List ℕ) (n : ℕ) (target : Option Def) (based : Bool) (p 
     → elementRule (some x) .broken ≡ false → All Unbroken (typeRules based p (some x)) →
     AnyIs (FairDef t n) target → (isFound (referenceIn (some x)) ≡ true → isFound target ≡ true)
     → FairUse t (attributeUse (some x) target b)
-use-fair t n g based p (G.text m y) b h k e q f z = meant-fair t based p (G.text m y) (tyOf b) h k refl e q
-use-fair t n g based p (G.range x y) b h k e q f z = meant-fair t based p (G.range x y) (tyOf b) h k refl e q
-use-fair t n g based p G.numeric b h k e q f z = tt
-use-fair t n g based p (G.enum x) b h k e q f z = meant-fair t based p (G.enum x) (tyOf b) h k refl e q
+use-fair t n g based p (G.text m y) b h k e q f z = meant-fair t based p (G.text m y) g (tyOf b) h k refl e q
+use-fair t n g based p (G.numeric y u) b h k e q f z = meant-fair t based p (G.numeric y u) g (tyOf b) h k refl e q
+use-fair t n g based p (G.enum x) b h k e q f z = meant-fair t based p (G.enum x) g (tyOf b) h k refl e q
 use-fair t n g based p (G.named r) b h k e q f z = naming-fair t n g f (z refl)

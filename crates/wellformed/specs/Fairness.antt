@@ -1,28 +1,29 @@
 -- What the code relies on beside the rules, of what is read from a text t and of what is declared: names are parts of
 -- the text and words that are not reserved, strings are parts of it, numbers have at most 18 digits, enumerations are
--- nested at most 8 deep and have no element twice, record numbers grow, and what an attribute names is declared.
+-- nested at most 8 deep and have no element twice, record numbers grow, and what an attribute names and the units of
+-- types are declared.
 use mathlib.Core.Path.{_≡_}
 use mathlib.Core.Bool.{Bool, true, false, _||_}
 use mathlib.Core.Option.{none}
-use mathlib.Core.List.{List, []}
+use mathlib.Core.List.{List, [], _∷_}
 use Prim.Native.Nat.{ℕ, _+_, _≤_, _<_, _^_}
 use lib.ListN.{length}
 use lib.IntN.{natAbs}
 use lib.Signed.{leZ}
 use Rattle.rules.specs.Names.{Name}
 use Rattle.rules.specs.Symbols.{Symbol, isNameText}
-use Rattle.rules.specs.Numbers.{digits, valueOf, decimalsOf}
+use Rattle.rules.specs.Numbers.{Range, digits, valueOf, decimalsOf}
 use Rattle.rules.specs.Grammar as G
-use Rattle.rules.specs.Grammar.{Reference, WrittenType, Written}
+use Rattle.rules.specs.Grammar.{Reference, Bounds, WrittenType, Written}
 use Rattle.rules.specs.Units as U
 use Rattle.rules.specs.Units.{Where, start, afterHeader, over, body, members, isGiven, classSort}
-use Rattle.rules.specs.Types.{Ty, text, range, numeric, structure, enum}
+use Rattle.rules.specs.Types.{Measure, Ty, text, numeric, structure, enum, unitOf}
 use Rattle.rules.specs.Declarations as D
 use Rattle.rules.specs.Declarations.{Link, Use, inline, ofDomain, ofStructure, Attribute, isSort, Def, linkOf}
-use Rattle.rules.specs.Declarations.{attributesOf, isFound, Decl, State, known}
+use Rattle.rules.specs.Declarations.{measureOf, attributesOf, isFound, Decl, State, known}
 use Rattle.rules.specs.Book.{records}
 use Rattle.rules.specs.All.{All, AnyIs, In}
-use Rattle.rules.specs.Judge.{isExtended, referenceIn}
+use Rattle.rules.specs.Judge.{isExtended, isNaming}
 use Rattle.ground.specs.Parts.{part}
 use Rattle.enumerations.specs.Standing.{InText, Named, Deep, Kept}
 use Rattle.members.specs.Held.{Apart}
@@ -39,18 +40,19 @@ FairNumber y = (decimalsOf (y .bytes) ≤ 17) × (natAbs (valueOf (y .bytes)) < 
 abbrev pub FairLength : Symbol → Type 0
 FairLength y = digits (y .bytes) 0 < 4294967296
 
+abbrev pub FairBounds : Bounds → Type 0
+FairBounds q = FairNumber (q .first) × FairNumber (q .second)
+
 abbrev pub FairType : List ℕ → WrittenType → Type 0
 FairType t (G.text m n) = AnyIs FairLength n
-FairType t (G.range x y) = FairNumber x × FairNumber y
-FairType t G.numeric = Unit {0}
+FairType t (G.numeric q r) = AnyIs FairBounds q × AnyIs (FairReference t) r
 FairType t (G.enum e) = Named t e × Deep 7 e
 FairType t (G.named r) = FairReference t r
 
 -- a range's first bound stands at the type's place
 abbrev pub Begins : ℕ → WrittenType → Type 0
 Begins p (G.text m n) = Unit {0}
-Begins p (G.range x y) = x .place ≡ p
-Begins p G.numeric = Unit {0}
+Begins p (G.numeric q r) = AnyIs (λ (b : Bounds). b .first .place ≡ p) q
 Begins p (G.enum e) = Unit {0}
 Begins p (G.named r) = Unit {0}
 
@@ -70,20 +72,23 @@ FairUnit t (U.model n q) = InText t n × FairSymbol t (q .address) × FairSymbol
 FairUnit t (U.topic n) = InText t n
 FairUnit t (U.class c n p b) = InText t n × AnyIs (FairReference t) b × ((k : Bool) × (c ≡ classSort k))
 FairUnit t (U.domain n p b w) =
-    InText t n × AnyIs (FairReference t) b × FairWritten t (isGiven b) w × (referenceIn (w .type) ≡ none)
+    InText t n × AnyIs (FairReference t) b × FairWritten t (isGiven b) w × (isNaming (w .type) ≡ false)
 FairUnit t (U.attribute n p w) = InText t n × FairWritten t (isExtended p) w
+FairUnit t (U.unit n p b) = InText t n × AnyIs (FairReference t) b
 FairUnit t (U.close n) = InText t n
 
 -- ---- as it is declared
 abbrev pub FairLimit : ℕ → Type 0
 FairLimit n = (0 < n) × (n < 4294967296)
 
+abbrev pub FairRange : Range → Type 0
+FairRange r =
+    (r .decimals ≤ 17) × (natAbs (r .low) < 10 ^ 18) × (natAbs (r .high) < 10 ^ 18) × (leZ (r .low) (r .high) ≡ true)
+
 -- a type that gives values
 abbrev pub Fair : List ℕ → Ty → Type 0
 Fair t (text m n) = AnyIs FairLimit n
-Fair t (range r) =
-    (r .decimals ≤ 17) × (natAbs (r .low) < 10 ^ 18) × (natAbs (r .high) < 10 ^ 18) × (leZ (r .low) (r .high) ≡ true)
-Fair t numeric = Unit {0}
+Fair t (numeric r u) = AnyIs FairRange r
 Fair t (enum e) = Kept t e
 Fair t structure = ⊥
 
@@ -127,15 +132,28 @@ pub record LeadsTo (K : List Def) (l : Link) (bs : List Link) (mandatory : Bool)
   pub bases : d .bases ≡ bs
   pub holds : (d .mandatory || mandatory) ≡ mandatory
 
+-- the unit of a type is declared in K
+abbrev pub UnitIn : List Def → Ty → Type 0
+UnitIn K x = AnyIs (λ (u : Measure). (d : Def) × In d K × (measureOf d ≡ u)) (unitOf x)
+
 -- a domain that is named is not ABSTRACT
 abbrev pub NamesDeclared : List Def → Use → Bool → Type 0
-NamesDeclared K (inline x) m = Unit {0}
+NamesDeclared K (inline x) m = UnitIn K x
 NamesDeclared K (ofDomain l bs) m =
     (d : Def) × LeadsTo K l bs m d × (isSort D.domain (d .sort) ≡ true) × (d .abstract ≡ false)
 NamesDeclared K (ofStructure l bs) m = (d : Def) × LeadsTo K l bs m d × (isSort D.struct (d .sort) ≡ true)
 
 abbrev pub NamesAll : List Def → Def → Type 0
-NamesAll K d = All (λ (a : Attribute). NamesDeclared K (a .use-of) (a .mandatory)) (attributesOf d)
+NamesAll K d =
+    UnitIn K (d .type) × All (λ (a : Attribute). NamesDeclared K (a .use-of) (a .mandatory)) (attributesOf d)
+
+-- record numbers grow along what is declared, and the open class stands behind it
+abbrev pub Rising : List Def → Type 0
+Rising [] = Unit {0}
+Rising (d ∷ l) = All (λ (e : Def). d .number < e .number) l × Rising l
+
+abbrev pub Behind : List Def → Def → Type 0
+Behind K c = All (λ (d : Def). d .number < c .number) K
 
 -- the names that declarations have besides those of definitions; m is the model's
 abbrev pub FairDecl : List ℕ → Name → Decl → Type 0
@@ -150,6 +168,8 @@ pub record FairState (t : List ℕ) (s : State) : Type 0 where
   pub open-names : AnyIs (NamesAll (known (s .decls))) (s .open-class)
   pub decls : All (FairDecl t (s .model)) (s .decls)
   pub topic : AnyIs (λ (d : Def). InText t (d .name)) (s .topic)
+  pub rising : Rising (known (s .decls))
+  pub open-behind : AnyIs (Behind (known (s .decls))) (s .open-class)
 
 -- ---- where units stand: a class is open exactly where its members are read, and nothing is declared before the model
 pub record Undeclared (s : State) : Type 0 where
@@ -171,4 +191,5 @@ MayStand s (U.topic n) = isFound (s .open-class) ≡ false
 MayStand s (U.class c n p b) = isFound (s .open-class) ≡ false
 MayStand s (U.domain n p b w) = isFound (s .open-class) ≡ false
 MayStand s (U.attribute n p w) = isFound (s .open-class) ≡ true
+MayStand s (U.unit n p b) = isFound (s .open-class) ≡ false
 MayStand s (U.close n) = Unit {0}

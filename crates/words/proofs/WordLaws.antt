@@ -88,7 +88,12 @@ no-word b p a h =
     at false true n q = never (sym q)
     at false false n q = refl
 
--- the byte above `Z` at its end tells a name
+-- a byte above `Z` in second place or at its end tells a name
+pub no-second : (t : List ℕ) (at n : ℕ) → 1 < n → 90 < getD t (at + 1) 0 → 1 ≡ wordCode (part t at n)
+no-second t at n z l =
+    let e : getD (part t at n) 1 0 ≡ getD t (at + 1) 0 = getD-take n (drop at t) 1 0 z ∙ getD-drop at t 1 0 in
+    no-word (part t at n) (λ w. leb (getD w 1 0) 90) refl (rw e (lt-leb _ _ l))
+
 pub no-last : (t : List ℕ) (at n : ℕ) → 0 < n → at + n ≤ length t
     → 90 < getD t (at + n - 1) 0 → 1 ≡ wordCode (part t at n)
 no-last t at n z h l =

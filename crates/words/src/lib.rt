@@ -49,8 +49,8 @@ const WORDS_2: [u8; 30] = *b"BAT.AS.BY.IN.NO.OF.ON.OR.PI.TO";
 const WORDS_3: [u8; 52] = *b"MEND.ALL.AND.ANY.BAG.FIX.I16.I32.NOT.OID.SET.TID.URI";
 
 const WORDS_4: [u8; 125] = *b"\
-    OTEXT.ARCS.AREA.BASE.CODE.DATE.DIM1.DIM2.FONT.FORM.FREE.FROM.JOIN.LAST.LINE.LIST.NAME.NULL.SIGN.THIS\
-    .TYPE.UNIT.VIEW.WHEN.WITH";
+    OTEXTRUNIT.ARCS.AREA.BASE.CODE.DATE.DIM1.DIM2.FONT.FORM.FREE.FROM.JOIN.LAST.LINE.LIST.NAME.NULL.SIGN.THIS\
+    .TYPE.VIEW.WHEN.WITH";
 
 const WORDS_5: [u8; 102] = *b"\
     AMODELDTOPICECLASSHFINALPMTEXT.BASED.BLANK.COORD.EQUAL.FIRST.GRADS.IDENT.LOCAL.TABLE.UNION.WHERE\
@@ -176,7 +176,7 @@ fn words_from_10(text: &[u8], at: usize, len: usize) -> u8
     }
 }
 
-// No reserved word ends with a byte above `Z`.
+// No reserved word has a byte above `Z`; most names have one as their second or last byte.
 pub fn word_code(text: &[u8], at: usize, len: usize) -> u8
     requires { ⌜ (0 < len) × (len < 256) × (at + len ≤ length (now text)) ⌝ }
     ensures { λ r. ⌜ r ≡ wordCode (part (now (text .entry)) at len) ⌝ }
@@ -187,6 +187,10 @@ pub fn word_code(text: &[u8], at: usize, len: usize) -> u8
     }
     if len < 4 {
         return words_to_3(text, at, len);
+    }
+    let second = text[at + 1];
+    if b'Z' < second {
+        return 1;
     }
     match len {
         4 => words_4(text, at),

@@ -1,5 +1,5 @@
-// A type that is written over a base's, of a domain or in place at an attribute: 14 to 17, its records, and room for
-// them.
+// A type that is written over a base's, of a domain or in place at an attribute: 14 to 17 and 22, its records, and room
+// for them.
 use enumerations::Size;
 use ground::Ruling;
 use merging::Laid;
@@ -7,15 +7,16 @@ use parts::types::Written;
 use types::Over;
 ghost use mathlib.Core.Path.{_≡_};
 ghost use mathlib.Core.Bool.{false};
-ghost use mathlib.Core.Option.{Option, none};
+ghost use mathlib.Core.Option.{Option};
 ghost use mathlib.Core.List.{List};
 ghost use Prim.Native.Nat.{ℕ, _+_, _≤_};
 ghost use lib.ListN.{length, take};
 ghost use lib.Dec.{leb, ltb};
 ghost use Rattle.rules.specs.Grammar.{WrittenType};
-ghost use Rattle.rules.specs.Types.{Ty, structure};
+ghost use Rattle.rules.specs.Types.{Ty, structure, unitsFit};
+ghost use Rattle.rules.specs.Declarations.{Def};
 ghost use Rattle.rules.specs.Book.{typeRecords};
-ghost use Rattle.rules.specs.Judge.{domainType, referenceIn};
+ghost use Rattle.rules.specs.Judge.{domainType, isNaming};
 ghost use Rattle.parts.specs.Forms.{anyOf};
 ghost use Rattle.rules.specs.All.{AnyIs};
 ghost use Rattle.wellformed.specs.Fairness.{Begins};
@@ -32,13 +33,14 @@ pub enum Laying {
     Broken(Ruling),
 }
 
-// 14 to 17, but 17 of a written enumeration.
+// 14 to 17 and 22, but 17 of a written enumeration, which has no unit.
 fn plain_ruling(w: Written, over: Over) -> Ruling
     requires { ⌜ Sized (over .own) × Sized (over .base) ⌝ }
-    ensures { λ r. ⌜ ((t : List ℕ) (v : Option WrittenType) (b : Ty) → w .meant ≡ anyOf v
+    ensures { λ r. ⌜ ((t : List ℕ) (v : Option WrittenType) (x : Option Def) (b : Ty) → w .meant ≡ anyOf v
         → AnyIs (Begins (w .place)) v → FairOrNone t b
-        → Valued (domainType v b) (over .own) → Valued b (over .base)
-        → r ≡ rulingOf (plainRules (over .based) (w .place) v b)) ⌝ }
+        → Valued (domainType v x b) (over .own) → Valued b (over .base)
+        → over .keeps ≡ unitsFit (domainType v x b) b
+        → r ≡ rulingOf (plainRules (over .based) (w .place) v x b)) ⌝ }
 {
     let m = w.meant;
     let place = w.place;
@@ -53,10 +55,13 @@ fn plain_ruling(w: Written, over: Over) -> Ruling
             return Ruling { number: 16, place };
         }
         if types::plain_fits(m, own, base) {
-            return Ruling {
-                number: 0,
-                place: 0,
-            };
+            if over.keeps {
+                return Ruling {
+                    number: 0,
+                    place: 0,
+                };
+            }
+            return Ruling { number: 22, place };
         }
         return Ruling { number: 17, place };
     }
@@ -66,7 +71,7 @@ fn plain_ruling(w: Written, over: Over) -> Ruling
     }
 }
 
-// 14 to 17 of a type over the base's, and its records, behind room for a head where the first `used` bytes end.
+// 14 to 17 and 22 of a type over the base's, and its records, behind room for a head where the first `used` bytes end.
 pub fn lay_written(
     text: &[u8],
     book: &mut [u8],
@@ -79,14 +84,15 @@ pub fn lay_written(
     requires { ⌜ Sized (over .own) × Sized (over .base) ⌝ }
     requires { ⌜ (used ≤ length (now book)) × (length (now book) ≤ 65535) × (length (now scratch) ≤ 262144) ⌝ }
     requires { ⌜ TablesFor (length (now scratch)) (length (now book)) (length (now tables)) ⌝ }
-    ensures { λ r. ⌜ ((v : Option WrittenType) (b : Ty) → w .meant ≡ anyOf v → referenceIn v ≡ none
+    ensures { λ r. ⌜ ((v : Option WrittenType) (x : Option Def) (b : Ty) → w .meant ≡ anyOf v → isNaming v ≡ false
         → AnyIs (Begins (w .place)) v
         → Scratched (now (text .entry)) (now (scratch .entry)) v → Once v → FairOrNone (now (text .entry)) b
-        → (over .based ≡ false → b ≡ structure) → Valued (domainType v b) (over .own)
+        → (over .based ≡ false → b ≡ structure) → Valued (domainType v x b) (over .own)
         → Typed (now (text .entry)) (take used (now (book .entry))) b (over .base)
-        → LaidWhen (ltb 0 (rulingOf (writtenRules (over .based) (w .place) v b) .number)) (rulingOf (writtenRules
-        (over .based) (w .place) v b))
-        (typeRecords (domainType v b)) (used + headSize) (now (book .entry)) (now (book .exit)) r) ⌝ }
+        → over .keeps ≡ unitsFit (domainType v x b) b
+        → LaidWhen (ltb 0 (rulingOf (writtenRules (over .based) (w .place) v x b) .number)) (rulingOf (writtenRules
+        (over .based) (w .place) v x b))
+        (typeRecords (domainType v x b)) (used + headSize) (now (book .entry)) (now (book .exit)) r) ⌝ }
 {
     let q = plain_ruling(w, over);
     if 0 < q.number {

@@ -29,7 +29,7 @@ unsafe extern "C" {
 pub enum Answer {
     /// The book's length, and how many definitions it has.
     Accepted { book_len: usize, definitions: usize },
-    /// One of the refusals 1 to 19, and its place in the text.
+    /// One of the refusals 1 to 19, or 22, and its place in the text.
     Refused { number: u8, place: usize },
 }
 

@@ -50,14 +50,20 @@ fn lists(length: usize) -> String {
     format!("DOMAIN L=({});K EXTENDS L=({});", list(1), list(2))
 }
 
-/// The cases with a word on each.
-pub fn chosen() -> Vec<(String, Case)> {
-    let mut cases = Vec::new();
-    let mut add = |word: String, units: String, buffer_len: usize| {
-        let text = model(&units);
-        cases.push((word, Case { text, buffer_len }));
-    };
-    for (inherited, own) in [
+/// A chain of units; a domain in the first, and one over it in each.
+fn units(length: usize) -> String {
+    let links: String = (1..length)
+        .map(|i| format!("u{i} EXTENDS u{};", i - 1))
+        .collect();
+    let domains: String = (1..length)
+        .map(|i| format!("D{i} EXTENDS D0=1..2[u{i}];"))
+        .collect();
+    format!("UNIT u0;{links}DOMAIN D0=0..9[u0];{domains}")
+}
+
+/// The larger units, each with a word on it.
+fn bodies() -> Vec<(String, String)> {
+    let crowds = [
         (20, 20),
         (0, 60),
         (60, 0),
@@ -67,36 +73,40 @@ pub fn chosen() -> Vec<(String, Case)> {
         (0, 256),
         (0, 257),
         (200, 57),
-    ] {
-        add(
-            format!("{inherited} attributes inherited, {own} own"),
-            attributes(inherited, own),
-            65_535,
-        );
-    }
-    for (depth, wide) in [(8, 1), (8, 4), (9, 1), (8, 12)] {
-        let units = format!(
-            "DOMAIN E={};F EXTENDS E={};",
-            nested(depth, wide, 0),
-            nested(depth.min(8), wide, 2)
-        );
-        add(format!("{depth} deep, {wide} wide, merged"), units, 65_535);
-    }
-    for length in [20, 60, 120] {
-        add(
-            format!("a chain of {length} domains"),
-            chain(length),
-            65_535,
-        );
-    }
-    for length in [50, 150, 300] {
-        add(
-            format!("two lists of {length} elements"),
-            lists(length),
-            65_535,
-        );
-    }
-    add("a book that ends the buffer".to_owned(), chain(20), 586);
-    add("a buffer of one byte less".to_owned(), chain(20), 585);
+    ];
+    let crowd = |(inherited, own)| {
+        let word = format!("{inherited} attributes inherited, {own} own");
+        (word, attributes(inherited, own))
+    };
+    let deep = |(depth, wide): (usize, usize)| {
+        let base = nested(depth, wide, 0);
+        let over = nested(depth.min(8), wide, 2);
+        let word = format!("{depth} deep, {wide} wide, merged");
+        (word, format!("DOMAIN E={base};F EXTENDS E={over};"))
+    };
+    let long = |length| (format!("a chain of {length} domains"), chain(length));
+    let two = |length| (format!("two lists of {length} elements"), lists(length));
+    let measured = |length| (format!("a chain of {length} units"), units(length));
+    let mut bodies: Vec<(String, String)> = crowds.map(crowd).to_vec();
+    bodies.extend([(8, 1), (8, 4), (9, 1), (8, 12)].map(deep));
+    bodies.extend([20, 60, 120].map(long));
+    bodies.extend([50, 150, 300].map(two));
+    bodies.extend([20, 60].map(measured));
+    bodies
+}
+
+/// The cases with a word on each.
+pub fn chosen() -> Vec<(String, Case)> {
+    let case = |(word, body): (String, String), buffer_len: usize| {
+        let text = model(&body);
+        (word, Case { text, buffer_len })
+    };
+    let on = |word: &str, buffer_len: usize| case((word.to_owned(), chain(20)), buffer_len);
+    let mut cases: Vec<_> = bodies()
+        .into_iter()
+        .map(|body| case(body, 65_535))
+        .collect();
+    cases.push(on("a book that ends the buffer", 586));
+    cases.push(on("a buffer of one byte less", 585));
     cases
 }

@@ -2,8 +2,9 @@
 
 use crate::random::Random;
 
-const MARKS: [&str; 12] = [
-    "(", ")", ",", ";", ":", "=", "*", ".", "..", "5", "x", "\"s\"",
+const MARKS: [&str; 17] = [
+    "(", ")", ",", ";", ":", "=", "*", ".", "..", "5", "x", "\"s\"", "[", "]", "UNIT", "UNIT",
+    "UNIT",
 ];
 
 /// Damages the symbols in one place.
@@ -130,7 +131,7 @@ pub fn bytes(random: &mut Random, text: &mut Vec<u8>) {
         return;
     }
     let at = random.below(text.len());
-    let likely = b" ();:,=*.\"\\/!+-059aAzZ_\n\0\x1F\x7F\x80\xFF";
+    let likely = b" ()[];:,=*.\"\\/!+-059aAzZ_\n\0\x1F\x7F\x80\xFF";
     let byte = match random.below(3) {
         0 => random.below(256) as u8,
         _ => likely[random.below(likely.len())],

@@ -4,6 +4,7 @@
 
 mod chosen;
 mod damage;
+mod flavours;
 mod layout;
 mod random;
 mod shapes;
@@ -12,6 +13,7 @@ pub mod stored;
 mod stretched;
 
 pub use chosen::chosen;
+pub use flavours::{flavours, FLAVOURS};
 use peer::Answer;
 pub use random::Random;
 use sketch::{Fault, Sketch, Style};

@@ -42,7 +42,8 @@ pub fn fresh(random: &mut Random, small: bool) -> Shape {
     }
 }
 
-fn fresh_range(random: &mut Random, small: bool) -> Shape {
+/// A range; small ones stay short when written.
+pub fn fresh_range(random: &mut Random, small: bool) -> Shape {
     let decimals = match random.below(if small { 12 } else { 6 }) {
         0 => 17,
         1 => 1 + random.below(17) as u32,
@@ -107,6 +108,10 @@ impl Shape {
             (Enumeration(_), Enumeration(_)) => true,
             _ => false,
         }
+    }
+
+    pub fn is_number(&self) -> bool {
+        matches!(self, Shape::Range { .. } | Shape::Numeric)
     }
 
     /// The symbols of the type.

@@ -1,7 +1,10 @@
 //! Draws up a model that passes, but for the faults that are planned.
 
+mod measures;
+
 use crate::random::Random;
-use crate::shapes::{extension, fresh, Shape};
+use crate::shapes::{extension, fresh, fresh_range, Shape};
+use measures::{Measure, Typed};
 
 #[derive(Clone, Copy, Debug, PartialEq, Eq)]
 pub enum Style {
@@ -31,47 +34,67 @@ pub enum Fault {
     Kind,
     Beyond,
     Astray,
+    /// A number of the base's measure without one.
+    Unmeasured,
+    /// A number with a measure over one without.
+    Measured,
+    /// A measure that does not descend from the base's.
+    Foreign,
+    /// A number beyond the base's, in a wrong measure.
+    BeyondForeign,
+    /// A measure after EXTENDS or in brackets that is unknown, or is none.
+    NoMeasure,
+    /// A definition that names a measure.
+    NotMeasured,
+    /// Two references at fault in one unit.
+    TwoReferences,
+    Brackets,
 }
 
 impl Fault {
-    /// Faults that seldom find an occasion stand here more than once.
-    const ALL: [Fault; 29] = {
+    /// Each fault with its weight, more where it seldom finds an occasion.
+    const ALL: [(Fault, usize); 26] = {
         use Fault::*;
         [
-            Large,
-            Version,
-            End,
-            Taken,
-            Doubled,
-            Inherited,
-            Inherited,
-            Unknown,
-            Unfounded,
-            WrongSort,
-            WrongSort,
-            WrongSort,
-            FinalBase,
-            FinalBase,
-            FinalBase,
-            Properties,
-            Numeric,
-            AbstractDomain,
-            AbstractDomain,
-            Unsound,
-            Rootless,
-            Kind,
-            Kind,
-            Beyond,
-            Beyond,
-            Beyond,
-            Astray,
-            Astray,
-            Astray,
+            (Large, 2),
+            (Version, 2),
+            (End, 2),
+            (Taken, 6),
+            (Doubled, 2),
+            (Inherited, 3),
+            (Unknown, 2),
+            (Unfounded, 2),
+            (WrongSort, 4),
+            (FinalBase, 4),
+            (Properties, 3),
+            (Numeric, 2),
+            (AbstractDomain, 3),
+            (Unsound, 2),
+            (Rootless, 2),
+            (Kind, 4),
+            (Beyond, 5),
+            (Astray, 13),
+            (Unmeasured, 9),
+            (Measured, 8),
+            (Foreign, 14),
+            (BeyondForeign, 5),
+            (NoMeasure, 10),
+            (NotMeasured, 5),
+            (TwoReferences, 14),
+            (Brackets, 2),
         ]
     };
 
     pub fn any(random: &mut Random) -> Fault {
-        Fault::ALL[random.below(Fault::ALL.len())]
+        let all = Fault::ALL.iter().map(|(_, weight)| weight).sum();
+        let mut left = random.below(all);
+        for (fault, weight) in Fault::ALL {
+            if left < weight {
+                return fault;
+            }
+            left -= weight;
+        }
+        unreachable!("below the sum of all")
     }
 }
 
@@ -81,7 +104,7 @@ struct Domain {
     base: Option<usize>,
     is_abstract: bool,
     is_final: bool,
-    shape: Shape,
+    held: Typed,
 }
 
 struct Class {
@@ -103,7 +126,7 @@ struct Attribute {
 /// What an attribute is typed by.
 #[derive(Clone)]
 enum Holds {
-    Shape(Shape),
+    Type(Typed),
     Domain(usize),
     Structure(usize),
 }
@@ -124,9 +147,9 @@ const NAMES: [&str; 12] = [
 ];
 
 /// What small models are made of.
-const PLANS: [&str; 16] = [
+const PLANS: [&str; 28] = [
     "D", "DD", "DD", "DDD", "DC", "CC", "CC", "DCC", "DCC", "DDC", "SC", "SS", "SCC", "T", "DT",
-    "TD",
+    "TD", "UD", "UU", "UDD", "UUDD", "UC", "UCC", "UT", "TU", "DUD", "UDCC", "UUDD", "UUCC",
 ];
 
 pub struct Sketch<'r> {
@@ -136,7 +159,9 @@ pub struct Sketch<'r> {
     symbols: Vec<String>,
     topics: Vec<String>,
     open: Option<usize>,
-    in_run: bool,
+    /// The letter of the definition before.
+    run: char,
+    measures: Vec<Measure>,
     domains: Vec<Domain>,
     classes: Vec<Class>,
 }
@@ -150,7 +175,8 @@ impl<'r> Sketch<'r> {
             symbols: Vec::new(),
             topics: Vec::new(),
             open: None,
-            in_run: false,
+            run: ' ',
+            measures: Vec::new(),
             domains: Vec::new(),
             classes: Vec::new(),
         }
@@ -164,6 +190,9 @@ impl<'r> Sketch<'r> {
     /// The symbols of a model with about so many definitions.
     pub fn model(&mut self, definitions: usize) -> Vec<String> {
         self.head();
+        if self.style == Style::Large && self.random.chance(1, 2) {
+            (0..1 + self.random.below(3)).for_each(|_| self.definition('U', 0));
+        }
         self.definitions(definitions);
         if self.style == Style::Large && self.random.chance(1, 150) {
             self.crowded_class();
@@ -242,7 +271,7 @@ impl<'r> Sketch<'r> {
         let mut left = count;
         while left > 0 {
             left -= 1;
-            let letter = char::from(b"DDDDDCCCST"[self.random.below(10)]);
+            let letter = char::from(b"UDDDDDCCCST"[self.random.below(11)]);
             self.definition(letter, left);
             if letter == 'T' {
                 left /= 2;
@@ -259,6 +288,14 @@ impl<'r> Sketch<'r> {
             Some(Fault::Kind | Fault::Beyond) => &["DD", "DDD", "CC", "DCC", "DD"],
             Some(Fault::Inherited) => &["CC", "SS"],
             Some(Fault::AbstractDomain) => &["DC", "DS"],
+            Some(Fault::Taken) => &["UU", "UD", "DU", "UC", "UT", "DD", "CD", "DC", "TD"],
+            Some(Fault::Unmeasured | Fault::BeyondForeign) => &["UDD", "UCC", "UCC", "UDCC", "UDD"],
+            Some(Fault::Measured) => &["UDD", "DUD", "UCC", "CUC", "UCC"],
+            Some(Fault::Foreign) => &["UUDD", "UUCC", "UUCC"],
+            Some(Fault::NoMeasure) => &["UU", "DUU", "UD", "CUD", "UC", "CUC", "DUC", "SUC"],
+            Some(Fault::NotMeasured) => &["UD", "UC", "US", "UDC"],
+            Some(Fault::TwoReferences) => &["CD", "UDD", "UCD", "DUD", "UC", "DD", "DD"],
+            Some(Fault::Brackets) => &["UD", "UC", "UDD"],
             _ => &PLANS,
         };
         self.random.pick(plans)
@@ -270,19 +307,35 @@ impl<'r> Sketch<'r> {
             'C' => self.class(false),
             'S' => self.class(true),
             'T' if self.open.is_none() => self.topic(left),
-            'T' => self.put("DOMAIN"),
+            'T' => {
+                let word = self.random.pick(&["DOMAIN", "UNIT"]);
+                self.put(word);
+            }
+            'U' => {
+                self.run("UNIT", letter);
+                self.measure();
+            }
             _ => {
-                // A run of domains goes on unless something stood between.
-                let run = self.symbols.last().is_some_and(|symbol| symbol == ";")
-                    && self.in_run
-                    && self.random.chance(4, 5);
-                if !run {
-                    self.put("DOMAIN");
-                }
+                self.run("DOMAIN", letter);
                 self.domain();
             }
         }
-        self.in_run = letter == 'D';
+        self.run = letter;
+    }
+
+    /// A run goes on unless something stood between; else the word opens one.
+    fn run(&mut self, word: &str, letter: char) {
+        let goes_on = self.symbols.last().is_some_and(|symbol| symbol == ";")
+            && self.run == letter
+            && self.random.chance(4, 5);
+        if goes_on {
+            return;
+        }
+        if self.random.chance(1, 15) {
+            let empty = self.random.pick(&["DOMAIN", "UNIT"]);
+            self.put(empty);
+        }
+        self.put(word);
     }
 
     fn topic(&mut self, inside: usize) {
@@ -290,10 +343,13 @@ impl<'r> Sketch<'r> {
         self.put(&format!("TOPIC {name} ="));
         self.topics.push(name.clone());
         self.open = Some(self.topics.len() - 1);
-        self.in_run = false;
+        self.run = ' ';
         if self.small() {
-            let letter = if self.random.chance(1, 2) { 'D' } else { 'C' };
+            let letter = char::from(b"DDCCUU"[self.random.below(6)]);
             self.definition(letter, 0);
+            if letter == 'U' && self.random.chance(1, 2) {
+                self.definition('D', 0);
+            }
         } else {
             let count = self.random.below(inside + 1);
             self.definitions(count);
@@ -320,7 +376,9 @@ impl<'r> Sketch<'r> {
         let here = |topic: Option<usize>| topic.is_none() || topic == self.open;
         let domains = self.domains.iter().filter(|domain| here(domain.topic));
         let classes = self.classes.iter().filter(|class| here(class.topic));
-        let names = domains.map(|domain| &domain.name);
+        let measures = self.measures.iter().filter(|measure| here(measure.topic));
+        let names = measures.map(|measure| &measure.name);
+        let names = names.chain(domains.map(|domain| &domain.name));
         let names = names.chain(classes.map(|class| &class.name));
         names.chain(&self.topics).cloned().collect()
     }
@@ -419,6 +477,11 @@ impl<'r> Sketch<'r> {
             _ => &[],
         };
         self.properties(chosen, "ABSTRACT");
+        let possible = !self.measures.is_empty() && self.random.chance(1, 2);
+        if possible && self.fault(Fault::NotMeasured) {
+            self.put("EXTENDS");
+            return self.any_measure();
+        }
         if let Some((name, topic)) = base {
             self.put("EXTENDS");
             self.reference(&name, topic);
@@ -427,9 +490,13 @@ impl<'r> Sketch<'r> {
 
     fn domain(&mut self) {
         let name = self.new_name();
+        let known = self.domains.len() + self.classes.len() > 0 || self.random.chance(1, 3);
+        if known && self.fault(Fault::TwoReferences) {
+            return self.two_references(&name);
+        }
         let base = self.domain_base();
         let is_abstract = self.rarely(Fault::AbstractDomain);
-        let is_final = !is_abstract && self.rarely(Fault::FinalBase);
+        let is_final = !is_abstract && self.domain_is_final();
         self.put(&name);
         let named = base.map(|number| {
             (
@@ -439,8 +506,8 @@ impl<'r> Sketch<'r> {
         });
         self.rest_of_head(is_abstract, is_final, named);
         self.put("=");
-        let over = base.map(|number| self.domains[number].shape.clone());
-        let shape = self.domain_type(over.as_ref(), is_abstract);
+        let over = base.map(|number| self.domains[number].held.clone());
+        let held = self.domain_type(over.as_ref(), is_abstract);
         self.put(";");
         self.domains.push(Domain {
             name,
@@ -448,26 +515,34 @@ impl<'r> Sketch<'r> {
             base,
             is_abstract,
             is_final,
-            shape,
+            held,
         });
     }
 
-    fn domain_type(&mut self, base: Option<&Shape>, is_abstract: bool) -> Shape {
+    fn domain_is_final(&mut self) -> bool {
+        let helpful = self.faults.contains(&Fault::TwoReferences) && self.random.chance(1, 2);
+        helpful || self.rarely(Fault::FinalBase)
+    }
+
+    fn domain_type(&mut self, base: Option<&Typed>, is_abstract: bool) -> Typed {
         let numeric = is_abstract || self.fault(Fault::Numeric);
         let mandatory = self.random.chance(1, 6);
         if mandatory {
             self.put("MANDATORY");
         }
+        let over_numeric = base.is_some_and(|base| matches!(base.shape, Shape::Numeric));
         match base {
-            Some(Shape::Numeric) if mandatory && numeric => Shape::Numeric,
-            Some(base)
-                if mandatory && !matches!(base, Shape::Numeric) && self.random.chance(1, 2) =>
-            {
-                base.clone()
-            }
-            None | Some(Shape::Numeric) if numeric && self.random.chance(2, 3) => {
+            Some(base) if over_numeric && mandatory && numeric => base.clone(),
+            Some(base) if !over_numeric && mandatory && self.random.chance(1, 2) => base.clone(),
+            _ if (base.is_none() || over_numeric) && numeric && self.random.chance(2, 3) => {
                 self.put("NUMERIC");
-                Shape::Numeric
+                let measure = match base {
+                    Some(base) => self.measure_over(base.measure),
+                    None => self.fresh_measure(),
+                };
+                self.in_brackets(measure);
+                let shape = Shape::Numeric;
+                Typed { shape, measure }
             }
             Some(base) => self.extended(base),
             None => self.first_type(),
@@ -475,14 +550,23 @@ impl<'r> Sketch<'r> {
     }
 
     /// A type without a base.
-    fn first_type(&mut self) -> Shape {
+    fn first_type(&mut self) -> Typed {
         let small = self.small();
-        let shape = fresh(self.random, small);
-        match self.faulty_type() {
-            Some(written) => self.put(&written),
+        let helpful = !self.measures.is_empty() && self.random.chance(1, 2);
+        let shape = if helpful || self.wants_measures() {
+            fresh_range(self.random, small)
+        } else {
+            fresh(self.random, small)
+        };
+        let faulty = self.faulty_type();
+        match &faulty {
+            Some(written) => self.put(written),
             None => shape.written(&mut self.symbols),
         }
-        shape
+        let number = faulty.map_or(shape.is_number(), |written| written.contains(".."));
+        let measure = if number { self.fresh_measure() } else { None };
+        self.in_brackets(measure);
+        Typed { shape, measure }
     }
 
     /// A type that is refused by itself.
@@ -522,25 +606,44 @@ impl<'r> Sketch<'r> {
     }
 
     /// A type written over a base.
-    fn extended(&mut self, base: &Shape) -> Shape {
-        let small = self.small();
+    fn extended(&mut self, base: &Typed) -> Typed {
         if self.fault(Fault::Kind) {
-            let other = (0..8)
-                .map(|_| fresh(self.random, small))
-                .find(|shape| !shape.same_kind(base));
-            let other = other.unwrap_or(Shape::Numeric);
-            other.written(&mut self.symbols);
+            self.other_kind(&base.shape);
             return base.clone();
         }
-        let beyond = self.fault(Fault::Beyond);
-        let written = extension(self.random, base, beyond);
+        let foreign = base.shape.is_number() && self.fault(Fault::BeyondForeign);
+        let beyond = foreign || self.fault(Fault::Beyond);
+        let written = extension(self.random, &base.shape, beyond);
         written.written(&mut self.symbols);
-        match (base, &written) {
+        let measure = match written.is_number() {
+            true if foreign => self.wrong_measure(base.measure),
+            true => self.measure_over(base.measure),
+            false => None,
+        };
+        self.in_brackets(measure);
+        let shape = match (&base.shape, &written) {
             (Shape::Enumeration(base), Shape::Enumeration(tree)) => {
                 Shape::Enumeration(base.merged(tree))
             }
             _ => written,
-        }
+        };
+        Typed { shape, measure }
+    }
+
+    /// Writes a type of another kind.
+    fn other_kind(&mut self, base: &Shape) {
+        let small = self.small();
+        let other = (0..8)
+            .map(|_| fresh(self.random, small))
+            .find(|shape| !shape.same_kind(base));
+        let other = other.unwrap_or(Shape::Numeric);
+        other.written(&mut self.symbols);
+        let measure = if other.is_number() {
+            self.fresh_measure()
+        } else {
+            None
+        };
+        self.in_brackets(measure);
     }
 
     fn class(&mut self, is_structure: bool) {
@@ -593,6 +696,7 @@ impl<'r> Sketch<'r> {
             }
         }
         let own = match (self.small(), inherited.is_empty()) {
+            (true, true) if self.wants_measures() => 1,
             (true, true) => usize::from(self.random.chance(3, 4)),
             (true, false) => usize::from(self.random.chance(1, 4)),
             (false, _) => self.random.below(4),
@@ -618,6 +722,23 @@ impl<'r> Sketch<'r> {
         }
         let is_final = self.rarely(Fault::FinalBase);
         self.put(&name);
+        let holds = if self.random.chance(1, 4) && self.fault(Fault::TwoReferences) {
+            self.put("( EXTENDED ) : 1 .. 2 [");
+            self.any_reference();
+            self.put("] ;");
+            Holds::Type(Typed::plain(Shape::Numeric))
+        } else {
+            self.rest_of_attribute(is_final)
+        };
+        Attribute {
+            name,
+            is_final,
+            holds,
+        }
+    }
+
+    /// Properties and type, behind the name of an attribute without a base.
+    fn rest_of_attribute(&mut self, is_final: bool) -> Holds {
         let chosen: &[&str] = if is_final { &["FINAL"] } else { &[] };
         if self.fault(Fault::Unfounded) {
             self.put("( EXTENDED )");
@@ -629,24 +750,27 @@ impl<'r> Sketch<'r> {
             self.put("MANDATORY");
         }
         let holds = match self.random.below(6) {
+            _ if self.wants_measures() && self.random.chance(2, 3) => None,
             0 | 1 => self.named_domain(None),
             2 | 3 => self.named_structure(),
             _ => None,
         };
-        let holds = holds.unwrap_or_else(|| Holds::Shape(self.attribute_type()));
+        let holds = holds.unwrap_or_else(|| Holds::Type(self.attribute_type()));
         self.put(";");
-        Attribute {
-            name,
-            is_final,
-            holds,
-        }
+        holds
     }
 
     /// A type written in place, often the same as some domain's.
-    fn attribute_type(&mut self) -> Shape {
+    fn attribute_type(&mut self) -> Typed {
+        if !self.measures.is_empty() && self.fault(Fault::NotMeasured) {
+            self.any_measure();
+            return Typed::plain(Shape::Numeric);
+        }
         if self.fault(Fault::Numeric) {
             self.put("NUMERIC");
-            return Shape::Numeric;
+            let measure = self.fresh_measure();
+            self.in_brackets(measure);
+            return Typed::plain(Shape::Numeric);
         }
         let part = if self.faults.contains(&Fault::Astray) {
             8
@@ -655,9 +779,10 @@ impl<'r> Sketch<'r> {
         };
         match self.random.any(&self.domains) {
             Some(domain) if !domain.is_abstract && self.random.chance(part, 9) => {
-                let shape = domain.shape.clone();
-                shape.written(&mut self.symbols);
-                shape
+                let held = domain.held.clone();
+                held.shape.written(&mut self.symbols);
+                self.in_brackets(held.measure);
+                held
             }
             _ => self.first_type(),
         }
@@ -669,7 +794,7 @@ impl<'r> Sketch<'r> {
         let of = |is_abstract: bool| -> Vec<usize> {
             let fits = |domain: &Domain| {
                 domain.is_abstract == is_abstract
-                    && base.is_none_or(|base| base.same_kind(&domain.shape))
+                    && base.is_none_or(|base| base.same_kind(&domain.held.shape))
             };
             let numbers = 0..self.domains.len();
             numbers
@@ -738,10 +863,10 @@ impl<'r> Sketch<'r> {
             }
         }
         match base {
-            Holds::Shape(shape) => Holds::Shape(self.extended(shape)),
+            Holds::Type(held) => Holds::Type(self.extended(held)),
             Holds::Domain(number) if self.random.chance(1, 3) => {
-                let shape = self.domains[*number].shape.clone();
-                Holds::Shape(self.extended(&shape))
+                let held = self.domains[*number].held.clone();
+                Holds::Type(self.extended(&held))
             }
             Holds::Domain(number) => self.descendant(*number),
             Holds::Structure(number) => self.descendant_structure(*number),
@@ -751,8 +876,8 @@ impl<'r> Sketch<'r> {
     /// Names a domain or structure of the base's kind, likely no descendant.
     fn astray(&mut self, base: &Holds) -> Option<Holds> {
         let shape = match base {
-            Holds::Shape(shape) => shape.clone(),
-            Holds::Domain(number) => self.domains[*number].shape.clone(),
+            Holds::Type(held) => held.shape.clone(),
+            Holds::Domain(number) => self.domains[*number].held.shape.clone(),
             Holds::Structure(_) => return self.named_structure(),
         };
         self.named_domain(Some(&shape))

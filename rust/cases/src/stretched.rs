@@ -220,6 +220,67 @@ fn names(limit: usize) -> Vec<(&'static str, Vec<u8>)> {
     ]
 }
 
+/// A model full of units of numbers, as an author lays it out.
+fn measured(limit: usize) -> Vec<u8> {
+    let topic = |n: usize| {
+        format!(
+            "\n  TOPIC Part{n} =\n    UNIT\n      Heat{n} (ABSTRACT);\n      Celsius{n} EXTENDS Heat{n};\n      \
+             Kelvin{n} EXTENDS Heat{n};\n      MilliKelvin{n} EXTENDS Kelvin{n};\n\n    DOMAIN\n      \
+             Any{n} (ABSTRACT) = NUMERIC [Heat{n}];\n      \
+             Housing{n} EXTENDS Any{n} = -10 .. 40 [Celsius{n}];\n      \
+             Cold{n} EXTENDS Any{n} = 0 .. 300 [M.Part{n}.Kelvin{n}];\n      \
+             Colder{n} EXTENDS Cold{n} = 0.000 .. 4.000 [MilliKelvin{n}];\n      \
+             Sure{n} EXTENDS Cold{n} = MANDATORY;\n\n    CLASS Probe{n} =\n      \
+             inside: Housing{n};\n      outside: -50 .. 85 [Celsius{n}];\n      \
+             drift: 0.00 .. 9.99 [Kelvin{n}];\n    END Probe{n};\n\n    \
+             CLASS FineProbe{n} EXTENDS Probe{n} =\n      \
+             inside (EXTENDED): -10.0 .. 40.0 [Celsius{n}];\n      \
+             drift (EXTENDED): 0.000 .. 0.999 [MilliKelvin{n}];\n    END FineProbe{n};\n  END Part{n};\n"
+        )
+    };
+    filled(limit, "\n", topic, "\nEND M.")
+}
+
+/// A chain of units, and numbers over a base in its first that are in its last:
+/// each of them walks the chain.
+fn measures(limit: usize) -> Vec<(&'static str, Vec<u8>)> {
+    let unit = |n: usize| format!("{} EXTENDS {};", short(n + 26), short(n + 25));
+    let length = limit / 34;
+    let chain = numbered(length, |n| unit(n + 1));
+    let last = short(length + 26);
+    let start = format!("UNIT aa;{chain}");
+    let domain = |n: usize| format!("{} EXTENDS b=00001..00002[{last}];", short(n + 20_000));
+    let class = |n: usize| {
+        let name = short(n + 20_000);
+        format!("CLASS {name} EXTENDS b=x(EXTENDED):1..2[{last}];END {name};")
+    };
+    vec![
+        ("units, and numbers in them", measured(limit)),
+        (
+            "a chain of units",
+            filled(limit, "UNIT aa;", unit, "END M."),
+        ),
+        (
+            "domains in the end of a long chain of units",
+            filled(
+                limit,
+                &format!("{start}DOMAIN b=1..2[aa];"),
+                domain,
+                "END M.",
+            ),
+        ),
+        (
+            "attributes in the end of a long chain of units",
+            filled(
+                limit,
+                &format!("{start}CLASS b=x:1..2[aa];END b;"),
+                class,
+                "END M.",
+            ),
+        ),
+    ]
+}
+
 fn topics(limit: usize) -> Vec<(&'static str, Vec<u8>)> {
     let topic = |n: usize, inside: &str| format!("TOPIC {0}={inside}END {0};", short(n));
     let referring = |n: usize| {
@@ -265,6 +326,10 @@ fn separators(limit: usize) -> Vec<(&'static str, Vec<u8>)> {
             "empty runs of domains",
             filled(limit, "", |_| "DOMAIN ".to_owned(), "END M."),
         ),
+        (
+            "empty runs of units and of domains",
+            filled(limit, "", |_| "UNIT DOMAIN ".to_owned(), "END M."),
+        ),
     ]
 }
 
@@ -275,6 +340,7 @@ pub fn stretched(limit: usize) -> Vec<(&'static str, Vec<u8>)> {
     texts.extend(other_chains(limit));
     texts.extend(names(limit));
     texts.extend(topics(limit));
+    texts.extend(measures(limit));
     texts.extend(separators(limit));
     texts
 }

@@ -1,6 +1,8 @@
 //! What holds for every case, and how often each answer comes.
 
-use cases::{gen, gen_small, Case, SMALL};
+use std::collections::HashMap;
+
+use cases::{flavours, gen, gen_small, Case, FLAVOURS, SMALL};
 use peer::{check, name_part, show_name, units, Answer};
 
 /// Checks with a buffer of this length, full of other bytes before.
@@ -75,11 +77,13 @@ fn a_buffer_of_the_books_length_is_enough_and_one_less_is_not() {
 
 /// Kinds of records that have a name, and the definitions among them.
 fn counted(text: &[u8], book: &[u8]) -> (usize, usize) {
-    let lengths = [0, 6, 6, 1, 11, 11, 11, 11, 5, 5, 18, 1, 5, 2, 6, 1, 1, 5];
+    let lengths = [
+        0, 6, 6, 1, 11, 11, 11, 11, 5, 5, 18, 1, 5, 2, 6, 1, 1, 5, 11, 5,
+    ];
     let (mut at, mut record, mut names, mut definitions) = (0, 0, 0, 0);
     while at < book.len() {
         let kind = usize::from(book[at]);
-        let has_name = matches!(kind, 1 | 2 | 4..=7 | 14);
+        let has_name = matches!(kind, 1 | 2 | 4..=7 | 14 | 18);
         let (_, length) = name_part(text, book, record);
         assert_eq!(has_name, length > 0);
         if has_name {
@@ -135,8 +139,8 @@ fn units_agree_with_the_check() {
 }
 
 /// How often each answer comes: 0 is acceptance.
-fn tally(case: impl Fn(u64) -> Case, count: u64) -> [usize; 20] {
-    let mut tally = [0; 20];
+fn tally(case: impl Fn(u64) -> Case, count: u64) -> [usize; 23] {
+    let mut tally = [0; 23];
     for seed in 0..count {
         let case = case(seed);
         match checked(&case.text, case.buffer_len).0 {
@@ -147,22 +151,54 @@ fn tally(case: impl Fn(u64) -> Case, count: u64) -> [usize; 20] {
     tally
 }
 
+/// 1 needs a text longer than these; 20 and 21 are of reading a number.
+fn reaches_every_refusal(tally: &[usize; 23]) {
+    for number in (2..=19).chain([22]) {
+        let count = tally[number];
+        assert!(count >= 20, "refusal {number}: {count}");
+    }
+}
+
+/// Each flavour of units of numbers comes in one of a thousand cases.
+fn reaches_every_flavour(case: impl Fn(u64) -> Case) {
+    const CASES: u64 = 100_000;
+    let mut found: HashMap<&str, u64> = HashMap::new();
+    for flavour in (0..CASES).flat_map(|seed| flavours(&case(seed))) {
+        *found.entry(flavour).or_default() += 1;
+    }
+    let count = |flavour| found.remove(flavour).unwrap_or(0);
+    let counts = FLAVOURS.map(count);
+    let few = FLAVOURS
+        .iter()
+        .zip(counts)
+        .filter(|(_, count)| *count < CASES / 1_000);
+    let few: Vec<_> = few.collect();
+    assert!(few.is_empty(), "{few:?}");
+    assert!(found.is_empty(), "not listed: {found:?}");
+}
+
+#[test]
+fn large_cases_reach_every_flavour() {
+    reaches_every_flavour(gen);
+}
+
+#[test]
+fn small_cases_reach_every_flavour() {
+    reaches_every_flavour(gen_small);
+}
+
 #[test]
 fn large_cases_reach_every_answer() {
     let tally = tally(gen, 20_000);
     assert!(tally[0] >= 4_000, "accepted {}", tally[0]);
-    for (number, &count) in tally.iter().enumerate().skip(2) {
-        assert!(count >= 20, "refusal {number}: {count}");
-    }
+    reaches_every_refusal(&tally);
 }
 
 #[test]
 fn small_cases_reach_every_answer() {
     let tally = tally(gen_small, 20_000);
     assert!(tally[0] >= 4_000, "accepted {}", tally[0]);
-    for (number, &count) in tally.iter().enumerate().skip(2) {
-        assert!(count >= 20, "refusal {number}: {count}");
-    }
+    reaches_every_refusal(&tally);
 }
 
 #[test]

@@ -6,7 +6,7 @@ use crate::units::Name;
 pub const LONGEST_BOOK: usize = 65_535;
 pub const NO_BASE: u32 = u32::MAX;
 
-/// The kinds of records, as document 01 numbers them.
+/// The kinds of records, as document 01 and the requests number them.
 pub mod kind {
     pub const MODEL: u8 = 1;
     pub const TOPIC: u8 = 2;
@@ -25,6 +25,8 @@ pub mod kind {
     pub const CLOSE: u8 = 15;
     pub const END_OF_CLASS: u8 = 16;
     pub const TYPED_BY_DOMAIN: u8 = 17;
+    pub const MEASURE: u8 = 18;
+    pub const IN_MEASURE: u8 = 19;
 }
 
 /// The bits of a definition's flags.
@@ -91,7 +93,7 @@ impl<'b> Book<'b> {
         self.put([kind, a, b, c, d, name.length])
     }
 
-    /// A record of kind 4 to 7.
+    /// A record of kind 4 to 7, which is counted, or 18, which is not.
     pub fn definition(&mut self, kind: u8, name: Name, flags: u8, base: u32) -> Result<(), Full> {
         let mut record = [0; 11];
         record[0] = kind;
@@ -100,7 +102,7 @@ impl<'b> Book<'b> {
         record[6] = flags;
         record[7..].copy_from_slice(&base.to_le_bytes());
         self.put(record)?;
-        self.definitions += 1;
+        self.definitions += usize::from(is_definition(kind));
         Ok(())
     }
 
@@ -128,13 +130,18 @@ impl<'b> Book<'b> {
     }
 }
 
+fn is_definition(record_kind: u8) -> bool {
+    (kind::CLASS..=kind::DOMAIN).contains(&record_kind)
+}
+
 /// The whole length of a record of this kind, if there is such a kind.
 fn record_length(record_kind: u8) -> Option<usize> {
     Some(match record_kind {
         kind::MODEL | kind::TOPIC | kind::ELEMENT => 6,
         kind::END_OF_TOPIC | kind::END_OF_CLASS | kind::NUMERIC | kind::CLOSE => 1,
-        kind::CLASS..=kind::DOMAIN => 11,
-        kind::TEXT | kind::MTEXT | kind::TYPED_BY_STRUCTURE | kind::TYPED_BY_DOMAIN => 5,
+        kind::CLASS..=kind::DOMAIN | kind::MEASURE => 11,
+        kind::TEXT | kind::MTEXT | kind::TYPED_BY_STRUCTURE => 5,
+        kind::TYPED_BY_DOMAIN | kind::IN_MEASURE => 5,
         kind::RANGE => 18,
         kind::OPEN => 2,
         _ => return None,
@@ -142,8 +149,8 @@ fn record_length(record_kind: u8) -> Option<usize> {
 }
 
 fn has_name(record_kind: u8) -> bool {
-    let named = [kind::MODEL, kind::TOPIC, kind::ELEMENT];
-    named.contains(&record_kind) || (kind::CLASS..=kind::DOMAIN).contains(&record_kind)
+    let named = [kind::MODEL, kind::TOPIC, kind::ELEMENT, kind::MEASURE];
+    named.contains(&record_kind) || is_definition(record_kind)
 }
 
 /// The record with this number, if it and all before it are whole.

@@ -13,15 +13,21 @@ use crate::Refusal;
 const DEEPEST: usize = 8;
 const LONGEST_TEXT_LENGTH: i64 = 4_294_967_295;
 
+/// The run that is open in the model or a topic.
+#[derive(Clone, Copy)]
+enum Run {
+    None,
+    Measures,
+    Domains,
+}
+
 /// What may come next.
 #[derive(Clone, Copy)]
 enum Stage {
     Header,
     Model,
-    /// In the model or a topic; in a run of domains or not.
-    Definitions {
-        run: bool,
-    },
+    /// In the model or a topic.
+    Definitions(Run),
     /// In a class or structure; ATTRIBUTE may stand right after the head.
     Attributes {
         fresh: bool,
@@ -62,7 +68,7 @@ impl<'t> Reader<'t> {
         match self.stage {
             Stage::Header => self.header().map(Some),
             Stage::Model => self.model().map(Some),
-            Stage::Definitions { run } => self.definition(run).map(Some),
+            Stage::Definitions(run) => self.definition(run).map(Some),
             Stage::Attributes { fresh } => self.in_class(fresh).map(Some),
             Stage::Tail if self.symbol.kind == Kind::End => Ok(None),
             Stage::Tail => Err(self.impossible()),
@@ -93,17 +99,35 @@ impl<'t> Reader<'t> {
         self.pass(Kind::Form(Form::Version))?;
         self.pass(Kind::String)?;
         self.last(Kind::Equals)?;
-        self.stage = Stage::Definitions { run: false };
+        self.stage = Stage::Definitions(Run::None);
         Ok(Unit::Model { name })
     }
 
-    fn definition(&mut self, mut run: bool) -> Result<Unit, Refusal> {
-        while self.take(Kind::Form(Form::Domain))? {
-            run = true;
+    fn definition(&mut self, open: Run) -> Result<Unit, Refusal> {
+        let run = self.runs(open)?;
+        self.stage = Stage::Definitions(run);
+        match (self.symbol.kind, run) {
+            (Kind::Name, Run::Domains) => self.domain(),
+            (Kind::Name, Run::Measures) => self.measure(),
+            (kind, _) => self.outside_runs(kind),
         }
-        self.stage = Stage::Definitions { run };
-        match self.symbol.kind {
-            Kind::Name if run => self.domain(),
+    }
+
+    /// Passes DOMAIN and UNIT, as often as they stand; the last opens the run.
+    fn runs(&mut self, open: Run) -> Result<Run, Refusal> {
+        let mut run = open;
+        loop {
+            run = match self.symbol.kind {
+                Kind::Form(Form::Domain) => Run::Domains,
+                Kind::Form(Form::Unit) => Run::Measures,
+                _ => return Ok(run),
+            };
+            self.step()?;
+        }
+    }
+
+    fn outside_runs(&mut self, kind: Kind) -> Result<Unit, Refusal> {
+        match kind {
             Kind::Form(Form::Class) => self.class_head(false),
             Kind::Form(Form::Structure) => self.class_head(true),
             Kind::Form(Form::Topic) if !self.in_topic => self.topic(),
@@ -130,14 +154,14 @@ impl<'t> Reader<'t> {
         let name = self.name()?;
         self.last(Kind::Equals)?;
         self.in_topic = true;
-        self.stage = Stage::Definitions { run: false };
+        self.stage = Stage::Definitions(Run::None);
         Ok(Unit::Topic { name })
     }
 
     fn end(&mut self, closed: Closed) -> Result<Unit, Refusal> {
         self.step()?;
         let name = self.name()?;
-        self.stage = Stage::Definitions { run: false };
+        self.stage = Stage::Definitions(Run::None);
         match closed {
             Closed::Class => self.last(Kind::Semicolon)?,
             Closed::Topic => {
@@ -155,7 +179,7 @@ impl<'t> Reader<'t> {
     fn class_head(&mut self, is_structure: bool) -> Result<Unit, Refusal> {
         self.step()?;
         let name = self.name()?;
-        let properties = self.properties(Form::Abstract)?;
+        let properties = self.properties(&[Form::Abstract, Form::Final])?;
         let base = self.extends()?;
         self.last(Kind::Equals)?;
         self.stage = Stage::Attributes { fresh: true };
@@ -167,9 +191,21 @@ impl<'t> Reader<'t> {
         }))
     }
 
+    fn measure(&mut self) -> Result<Unit, Refusal> {
+        let name = self.name()?;
+        let properties = self.properties(&[Form::Abstract])?;
+        let base = self.extends()?;
+        self.last(Kind::Semicolon)?;
+        Ok(Unit::Measure(Measure {
+            name,
+            properties,
+            base,
+        }))
+    }
+
     fn domain(&mut self) -> Result<Unit, Refusal> {
         let name = self.name()?;
-        let properties = self.properties(Form::Abstract)?;
+        let properties = self.properties(&[Form::Abstract, Form::Final])?;
         let base = self.extends()?;
         self.pass(Kind::Equals)?;
         let mandatory = self.take(Kind::Form(Form::Mandatory))?;
@@ -186,7 +222,7 @@ impl<'t> Reader<'t> {
 
     fn attribute(&mut self) -> Result<Unit, Refusal> {
         let name = self.name()?;
-        let properties = self.properties(Form::Extended)?;
+        let properties = self.properties(&[Form::Extended, Form::Final])?;
         self.pass(Kind::Colon)?;
         let mandatory = self.take(Kind::Form(Form::Mandatory))?;
         let written = self.written(mandatory && properties.is_extended, true)?;
@@ -199,8 +235,8 @@ impl<'t> Reader<'t> {
         }))
     }
 
-    /// Optional properties: FINAL and the other one given.
-    fn properties(&mut self, other: Form) -> Result<Properties, Refusal> {
+    /// Optional properties, from those given.
+    fn properties(&mut self, possible: &[Form]) -> Result<Properties, Refusal> {
         let mut properties = Properties::default();
         if !self.take(Kind::Open)? {
             return Ok(properties);
@@ -209,7 +245,7 @@ impl<'t> Reader<'t> {
             let Kind::Form(form) = self.symbol.kind else {
                 return Err(self.impossible());
             };
-            if form != Form::Final && form != other {
+            if !possible.contains(&form) {
                 return Err(self.impossible());
             }
             let set = match form {
@@ -274,7 +310,25 @@ impl<'t> Reader<'t> {
             Kind::Open => InPlace::Enumeration(self.enumeration(1)?),
             _ => return Err(self.impossible()),
         };
-        Ok(Written::Type { place, form })
+        let measure = match form {
+            InPlace::Range { .. } | InPlace::Numeric => self.bracketed()?,
+            _ => None,
+        };
+        Ok(Written::Type {
+            place,
+            form,
+            measure,
+        })
+    }
+
+    /// Optionally a reference in brackets.
+    fn bracketed(&mut self) -> Result<Option<Reference>, Refusal> {
+        if !self.take(Kind::OpenBracket)? {
+            return Ok(None);
+        }
+        let reference = self.reference()?;
+        self.pass(Kind::CloseBracket)?;
+        Ok(Some(reference))
     }
 
     fn text_length(&mut self) -> Result<Length, Refusal> {

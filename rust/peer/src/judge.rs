@@ -1,5 +1,5 @@
-//! The judge of units: the attribute count of 4, then refusals 7 to 19 in
-//! their order, then the unit's records.
+//! The judge of units: the attribute count of 4, then refusals 7 to 18, 22 and
+//! 19 in their order, then the unit's records.
 
 use crate::book::{flag, kind, Book, Full, NO_BASE};
 use crate::chains::Chains;
@@ -8,7 +8,7 @@ use crate::enumerations::{index_lists, is_empty, list, merge, reads, Piece};
 use crate::grammar::Reader;
 use crate::scope::{Known, Scope};
 use crate::tables::Pairs;
-use crate::types::{self, Type};
+use crate::types::{self, Measured, Type};
 use crate::units::*;
 use crate::Refusal;
 
@@ -42,6 +42,9 @@ struct Judge<'t, 'j, 'b> {
     class_chains: Chains,
     domains: Vec<types::Domain>,
     domain_chains: Chains,
+    /// The records of the measures.
+    measures: Vec<u32>,
+    measure_chains: Chains,
     /// The elements of the enumerations written so far.
     elements: Pairs,
 }
@@ -65,7 +68,7 @@ fn fitting(written: Result<(), Full>, name: Name) -> Result<(), Refusal> {
 
 /// Refusal 14.
 fn sound(written: &Written) -> Result<(), Refusal> {
-    let Written::Type { place, form } = *written else {
+    let Written::Type { place, form, .. } = *written else {
         return Ok(());
     };
     match form {
@@ -87,8 +90,40 @@ fn rooted(written: &Written, pieces: &[Piece]) -> Result<(), Refusal> {
         Written::Type {
             place,
             form: InPlace::Enumeration(open),
+            ..
         } => refuse_if(is_empty(pieces, open), 15, place),
         _ => Ok(()),
+    }
+}
+
+/// A reference, if there is one, and whether it may stand for something.
+type Expected<'u> = (Option<&'u Reference>, fn(Known) -> bool);
+
+/// The reference in a type, or instead of one.
+fn within(written: &Written) -> Expected<'_> {
+    match written {
+        Written::Nothing => (None, Known::is_type),
+        Written::Type { measure, .. } => (measure.as_ref(), Known::is_measure),
+        Written::Named(reference) => (Some(reference), Known::is_type),
+    }
+}
+
+/// The type written or, with MANDATORY alone, the base's; `found` is what the
+/// reference in it stands for, of a right sort by 10 and 11.
+fn meant(written: &Written, found: Option<Known>, base: Option<Measured>) -> Measured {
+    match (written, found, base) {
+        (Written::Type { form, .. }, measure, _) => Measured {
+            written: Type::of(*form),
+            measure: measure.map(Known::number),
+        },
+        (Written::Named(_), Some(Known::Domain(number)), _) => {
+            Measured::plain(Type::Domain(number))
+        }
+        (Written::Named(_), Some(Known::Structure(number)), _) => {
+            Measured::plain(Type::Structure(number))
+        }
+        (Written::Nothing, _, Some(base)) => base,
+        _ => unreachable!("judged by the grammar, 10 and 11"),
     }
 }
 
@@ -113,6 +148,8 @@ impl<'t, 'j, 'b> Judge<'t, 'j, 'b> {
             class_chains: Chains::default(),
             domains: Vec::new(),
             domain_chains: Chains::default(),
+            measures: Vec::new(),
+            measure_chains: Chains::default(),
             elements: Pairs::new(),
         }
     }
@@ -123,6 +160,7 @@ impl<'t, 'j, 'b> Judge<'t, 'j, 'b> {
             Unit::Model { name } => self.model(*name),
             Unit::Topic { name } => self.topic(*name),
             Unit::Class(head) => self.class_head(head),
+            Unit::Measure(measure) => self.measure(measure),
             Unit::Domain(domain) => self.domain(domain, pieces),
             Unit::Attribute(attribute) => self.attribute(attribute, pieces),
             Unit::End { name, closed } => match closed {
@@ -192,12 +230,27 @@ impl<'t, 'j, 'b> Judge<'t, 'j, 'b> {
         self.scope.find(&reference.parts).ok_or(unknown)
     }
 
+    /// Refusals 10 and 11 for a unit's references, in text order: by number
+    /// first. Gives what they stand for.
+    fn sorts<const COUNT: usize>(
+        &self,
+        expected: [Expected; COUNT],
+    ) -> Result<[Option<Known>; COUNT], Refusal> {
+        let mut found = [None; COUNT];
+        for (known, (reference, _)) in found.iter_mut().zip(expected) {
+            *known = reference.map(|it| self.find(it)).transpose()?;
+        }
+        for (known, (reference, fits)) in found.iter().zip(expected) {
+            if let (Some(known), Some(reference)) = (*known, reference) {
+                refuse_if(!fits(known), 11, reference.place)?;
+            }
+        }
+        Ok(found)
+    }
+
     fn class_head(&mut self, head: &ClassHead) -> Result<(), Refusal> {
         self.free(head.name)?;
-        let base = match &head.base {
-            Some(reference) => Some(self.class_base(reference, head.is_structure)?),
-            None => None,
-        };
+        let base = self.class_base(head)?;
         let properties = head.properties;
         let contrary = properties.is_abstract && properties.is_final;
         refuse_if(properties.doubled || contrary, 13, head.name.place())?;
@@ -223,13 +276,19 @@ impl<'t, 'j, 'b> Judge<'t, 'j, 'b> {
     }
 
     /// Refusals 10 to 12 for the base of a class or structure.
-    fn class_base(&self, reference: &Reference, is_structure: bool) -> Result<u32, Refusal> {
-        let number = match self.find(reference)? {
-            Known::Class(number) if !is_structure => number,
-            Known::Structure(number) if is_structure => number,
-            _ => return refuse(11, reference.place),
+    fn class_base(&self, head: &ClassHead) -> Result<Option<u32>, Refusal> {
+        let Some(reference) = &head.base else {
+            return Ok(None);
         };
-        refuse_if(self.classes.get(number).is_final, 12, reference.place)?;
+        let fits = if head.is_structure {
+            Known::is_structure
+        } else {
+            Known::is_class
+        };
+        let [base] = self.sorts([(Some(reference), fits)])?;
+        let number = base.map(Known::number);
+        let is_final = number.is_some_and(|number| self.classes.get(number).is_final);
+        refuse_if(is_final, 12, reference.place)?;
         Ok(number)
     }
 
@@ -252,29 +311,29 @@ impl<'t, 'j, 'b> Judge<'t, 'j, 'b> {
     fn domain(&mut self, unit: &Domain, pieces: &mut Vec<Piece>) -> Result<(), Refusal> {
         self.free(unit.name)?;
         self.undoubled(&unit.written, pieces)?;
-        let number = match &unit.base {
-            Some(reference) => Some(self.domain_base(reference)?),
-            None => None,
-        };
-        let base = number.map(|number| self.domains[number as usize]);
-        let meant = self.meant(&unit.written, base.map(|base| base.written));
+        let based: Expected = (unit.base.as_ref(), Known::is_domain);
+        let [named, found] = self.sorts([based, within(&unit.written)])?;
+        let number = named.map(Known::number);
+        let base = self.domain_base(unit.base.as_ref(), number)?;
+        let over = base.map(|base| base.held);
+        let meant = meant(&unit.written, found, over);
         let properties = unit.properties;
         let contrary = properties.is_abstract && properties.is_final;
-        let open = meant == Type::Numeric && !properties.is_abstract;
+        let open = meant.written == Type::Numeric && !properties.is_abstract;
         refuse_if(
             properties.doubled || contrary || open,
             13,
             unit.name.place(),
         )?;
         sound(&unit.written)?;
-        let whole = self.whole(&unit.written, meant, base.map(|base| base.written), pieces)?;
+        let whole = self.whole(&unit.written, meant, over, pieces)?;
         let mandatory = unit.mandatory || base.is_some_and(|base| base.mandatory);
         let known = types::Domain {
             record: self.book.next_record(),
             is_abstract: properties.is_abstract,
             is_final: properties.is_final,
             mandatory,
-            written: whole,
+            held: whole,
         };
         let base_record = base.map_or(NO_BASE, |base| base.record);
         let bits = flags(properties, mandatory);
@@ -288,38 +347,45 @@ impl<'t, 'j, 'b> Judge<'t, 'j, 'b> {
         Ok(())
     }
 
-    /// Refusals 10 to 12 for the base of a domain.
-    fn domain_base(&self, reference: &Reference) -> Result<u32, Refusal> {
-        let Known::Domain(number) = self.find(reference)? else {
-            return refuse(11, reference.place);
+    /// Refusal 12 for a domain; gives its base.
+    fn domain_base(
+        &self,
+        reference: Option<&Reference>,
+        number: Option<u32>,
+    ) -> Result<Option<types::Domain>, Refusal> {
+        let (Some(reference), Some(number)) = (reference, number) else {
+            return Ok(None);
         };
-        refuse_if(self.domains[number as usize].is_final, 12, reference.place)?;
-        Ok(number)
+        let base = self.domains[number as usize];
+        refuse_if(base.is_final, 12, reference.place)?;
+        Ok(Some(base))
     }
 
-    /// The type written or, with MANDATORY alone, the base's. References are
-    /// known by now to be of a right sort.
-    fn meant(&self, written: &Written, base: Option<Type>) -> Type {
-        match (written, base) {
-            (Written::Type { form, .. }, _) => Type::of(*form),
-            (Written::Named(reference), _) => match self.scope.find(&reference.parts) {
-                Some(Known::Domain(number)) => Type::Domain(number),
-                Some(Known::Structure(number)) => Type::Structure(number),
-                _ => unreachable!("judged by 10 and 11"),
-            },
-            (Written::Nothing, Some(base)) => base,
-            (Written::Nothing, None) => unreachable!("MANDATORY alone has a base"),
-        }
+    fn measure(&mut self, unit: &Measure) -> Result<(), Refusal> {
+        self.free(unit.name)?;
+        let [base] = self.sorts([(unit.base.as_ref(), Known::is_measure)])?;
+        refuse_if(unit.properties.doubled, 13, unit.name.place())?;
+        let number = base.map(Known::number);
+        let record = self.book.next_record();
+        let base_record = number.map_or(NO_BASE, |number| self.measures[number as usize]);
+        let bits = flags(unit.properties, false);
+        let head = (self.book).definition(kind::MEASURE, unit.name, bits, base_record);
+        fitting(head, unit.name)?;
+        self.scope
+            .define(unit.name, Known::Measure(self.measures.len() as u32));
+        self.measures.push(record);
+        self.measure_chains.add(number);
+        Ok(())
     }
 
-    /// Refusals 15 to 18; gives the type, an enumeration merged.
+    /// Refusals 15 to 18, and 22; gives the type, an enumeration merged.
     fn whole(
         &self,
         written: &Written,
-        meant: Type,
-        base: Option<Type>,
+        meant: Measured,
+        base: Option<Measured>,
         pieces: &mut Vec<Piece>,
-    ) -> Result<Type, Refusal> {
+    ) -> Result<Measured, Refusal> {
         let Some(base) = base else {
             rooted(written, pieces)?;
             return Ok(meant);
@@ -328,37 +394,46 @@ impl<'t, 'j, 'b> Judge<'t, 'j, 'b> {
             Written::Nothing => Ok(meant),
             Written::Type { place, .. } => self.extended(*place, meant, base, pieces),
             Written::Named(reference) => {
-                self.named(reference.place, meant, base, pieces)?;
+                self.named(reference.place, meant.written, base.written, pieces)?;
                 Ok(meant)
             }
         }
     }
 
     /// The type itself, or that of the domain it names.
-    fn resolved(&self, named: Type) -> Type {
-        match named {
-            Type::Domain(number) => self.domains[number as usize].written,
-            other => other,
+    fn resolved(&self, named: Measured) -> Measured {
+        match named.written {
+            Type::Domain(number) => self.domains[number as usize].held,
+            _ => named,
         }
     }
 
-    /// Refusals 16 and 17 for a type written in place over a base.
+    /// Refusals 16, 17 and 22 for a type written in place over a base.
     fn extended(
         &self,
         place: usize,
-        own: Type,
-        base: Type,
+        own: Measured,
+        base: Measured,
         pieces: &mut Vec<Piece>,
-    ) -> Result<Type, Refusal> {
+    ) -> Result<Measured, Refusal> {
         let base = self.resolved(base);
-        refuse_if(!own.same_kind(base), 16, place)?;
-        if let (Type::Enumeration(written), Type::Enumeration(base)) = (own, base) {
+        refuse_if(!own.written.same_kind(base.written), 16, place)?;
+        if let (Type::Enumeration(written), Type::Enumeration(base)) = (own.written, base.written) {
             let merged = merge(pieces, &self.elements, base, written);
             let merged = merged.map_err(|_| Refusal::new(17, place))?;
-            return Ok(Type::Enumeration(merged));
+            return Ok(Measured::plain(Type::Enumeration(merged)));
         }
-        refuse_if(!own.reads(base), 17, place)?;
+        refuse_if(!own.written.reads(base.written), 17, place)?;
+        refuse_if(!self.measure_fits(own.measure, base.measure), 22, place)?;
         Ok(own)
+    }
+
+    /// Whether a measure is the base's or descends from it, or both have none.
+    fn measure_fits(&self, own: Option<u32>, base: Option<u32>) -> bool {
+        match (own, base) {
+            (Some(own), Some(base)) => self.measure_chains.descends(own, base),
+            (own, base) => own == base,
+        }
     }
 
     /// Refusals 16 to 18 for a domain or structure named over a base.
@@ -371,7 +446,8 @@ impl<'t, 'j, 'b> Judge<'t, 'j, 'b> {
         if descends {
             return Ok(());
         }
-        let (own, base) = (self.resolved(own), self.resolved(base));
+        let resolved = |named| self.resolved(Measured::plain(named)).written;
+        let (own, base) = (resolved(own), resolved(base));
         refuse_if(!own.same_kind(base), 16, place)?;
         let legal = match (own, base) {
             (Type::Enumeration(own), Type::Enumeration(base)) => {
@@ -389,18 +465,19 @@ impl<'t, 'j, 'b> Judge<'t, 'j, 'b> {
     fn attribute(&mut self, unit: &Attribute, pieces: &mut Vec<Piece>) -> Result<(), Refusal> {
         let base = self.inherited(unit)?;
         self.undoubled(&unit.written, pieces)?;
-        self.attribute_sorts(unit, base.is_some())?;
+        let found = self.attribute_sorts(unit, base.is_some())?;
         let name = unit.name.place();
         refuse_if(base.is_some_and(|base| base.is_final), 12, name)?;
-        let meant = self.meant(&unit.written, base.map(|base| base.written));
-        let named = match meant {
+        let over = base.map(|base| base.held);
+        let meant = meant(&unit.written, found, over);
+        let named = match meant.written {
             Type::Domain(number) => Some(self.domains[number as usize]),
             _ => None,
         };
-        let open = meant == Type::Numeric || named.is_some_and(|domain| domain.is_abstract);
+        let open = meant.written == Type::Numeric || named.is_some_and(|domain| domain.is_abstract);
         refuse_if(unit.properties.doubled || open, 13, name)?;
         sound(&unit.written)?;
-        let whole = self.whole(&unit.written, meant, base.map(|base| base.written), pieces)?;
+        let whole = self.whole(&unit.written, meant, over, pieces)?;
         let mandatory = unit.mandatory
             || named.is_some_and(|domain| domain.mandatory)
             || base.is_some_and(|base| base.mandatory);
@@ -415,7 +492,7 @@ impl<'t, 'j, 'b> Judge<'t, 'j, 'b> {
             record,
             is_final: unit.properties.is_final,
             mandatory,
-            written: whole,
+            held: whole,
         });
         Ok(())
     }
@@ -431,20 +508,24 @@ impl<'t, 'j, 'b> Judge<'t, 'j, 'b> {
         }
     }
 
-    /// Refusals 10 and 11.
-    fn attribute_sorts(&self, unit: &Attribute, has_base: bool) -> Result<(), Refusal> {
-        let unfounded = unit.properties.is_extended && !has_base;
+    /// Refusals 10 and 11; gives what the reference stands for.
+    fn attribute_sorts(&self, unit: &Attribute, based: bool) -> Result<Option<Known>, Refusal> {
+        let unfounded = unit.properties.is_extended && !based;
         refuse_if(unfounded, 10, unit.name.place())?;
-        let Written::Named(reference) = &unit.written else {
-            return Ok(());
-        };
-        match self.find(reference)? {
-            Known::Domain(_) | Known::Structure(_) => Ok(()),
-            Known::Class(_) | Known::Topic(_) => refuse(11, reference.place),
+        let [found] = self.sorts([within(&unit.written)])?;
+        Ok(found)
+    }
+
+    /// The records of a type, that of its measure last.
+    fn put_type(&mut self, held: Measured, pieces: &[Piece]) -> Result<(), Full> {
+        self.put_form(held.written, pieces)?;
+        match held.measure {
+            Some(number) => (self.book).number(kind::IN_MEASURE, self.measures[number as usize]),
+            None => Ok(()),
         }
     }
 
-    fn put_type(&mut self, written: Type, pieces: &[Piece]) -> Result<(), Full> {
+    fn put_form(&mut self, written: Type, pieces: &[Piece]) -> Result<(), Full> {
         match written {
             Type::Text(length) => self.book.number(kind::TEXT, length),
             Type::Mtext(length) => self.book.number(kind::MTEXT, length),

@@ -1,5 +1,5 @@
 //! A checker for model texts in a part of INTERLIS 2.4, after the rules of
-//! document 01. It is read and written independently of the proved checker,
+//! document 01 and of request No. 1 in document 02. It is read and written independently of the proved checker,
 //! to be compared with it and to be the baseline of its speed.
 #![forbid(unsafe_code)]
 
@@ -30,7 +30,7 @@ pub enum Answer {
     Refused { number: u8, place: usize },
 }
 
-/// One of the refusals 1 to 19.
+/// One of the refusals 1 to 19, or 22.
 #[derive(Clone, Copy, Debug, PartialEq, Eq)]
 pub struct Refusal {
     pub number: u8,
@@ -65,6 +65,20 @@ pub fn check(text: &[u8], buffer: &mut [u8]) -> Answer {
             Answer::Refused { number, place }
         }
     }
+}
+
+/// The symbols of a text, each with its place and length, up to its end or to a
+/// refusal among 2, 3, 4 and 6.
+pub fn symbols(text: &[u8]) -> Vec<(usize, usize)> {
+    let mut cursor = symbols::Cursor::new(text);
+    let mut found = Vec::new();
+    while let Ok(symbol) = cursor.next() {
+        if symbol.kind == symbols::Kind::End {
+            break;
+        }
+        found.push((symbol.place as usize, symbol.length as usize));
+    }
+    found
 }
 
 /// A unit's kind, and the place of its name (of the header's number).

@@ -21,6 +21,7 @@ pub enum Form {
     Structure,
     Text,
     Topic,
+    Unit,
     Version,
 }
 
@@ -190,7 +191,7 @@ pub const WORDS: [(&str, Option<Form>); 168] = [
     ("UNDEFINED", None),
     ("UNION", None),
     ("UNIQUE", None),
-    ("UNIT", None),
+    ("UNIT", Some(Form::Unit)),
     ("UNQUALIFIED", None),
     ("URI", None),
     ("VALIGNMENT", None),
@@ -263,8 +264,8 @@ mod tests {
     }
 
     #[test]
-    fn eighteen_words_stand_in_forms() {
+    fn nineteen_words_stand_in_forms() {
         let forms = WORDS.iter().filter(|(_, form)| form.is_some()).count();
-        assert_eq!(forms, 18);
+        assert_eq!(forms, 19);
     }
 }

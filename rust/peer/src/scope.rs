@@ -1,16 +1,47 @@
-//! The name space that topics, domains, structures and classes share.
+//! The name space that topics, measures, domains, structures and classes share.
 
 use crate::tables::Pairs;
 use crate::units::{Name, Parts};
 
-/// What a name stands for; the number counts topics from 1, domains from 0,
-/// and classes and structures together from 0.
+/// What a name stands for; the number counts topics from 1, measures and
+/// domains from 0, and classes and structures together from 0.
 #[derive(Clone, Copy, Debug, PartialEq, Eq)]
 pub enum Known {
     Topic(u32),
+    Measure(u32),
     Domain(u32),
     Structure(u32),
     Class(u32),
+}
+
+impl Known {
+    pub fn number(self) -> u32 {
+        match self {
+            Known::Topic(number) | Known::Measure(number) | Known::Domain(number) => number,
+            Known::Structure(number) | Known::Class(number) => number,
+        }
+    }
+
+    pub fn is_measure(self) -> bool {
+        matches!(self, Known::Measure(_))
+    }
+
+    pub fn is_domain(self) -> bool {
+        matches!(self, Known::Domain(_))
+    }
+
+    pub fn is_structure(self) -> bool {
+        matches!(self, Known::Structure(_))
+    }
+
+    pub fn is_class(self) -> bool {
+        matches!(self, Known::Class(_))
+    }
+
+    /// Whether an attribute may name it.
+    pub fn is_type(self) -> bool {
+        self.is_domain() || self.is_structure()
+    }
 }
 
 const MODEL_LEVEL: u32 = 0;

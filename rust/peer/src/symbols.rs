@@ -42,6 +42,8 @@ pub enum Kind {
     String,
     Open,
     Close,
+    OpenBracket,
+    CloseBracket,
     Comma,
     Semicolon,
     Colon,
@@ -227,6 +229,8 @@ impl<'t> Cursor<'t> {
         let kind = match byte {
             b'(' => Kind::Open,
             b')' => Kind::Close,
+            b'[' => Kind::OpenBracket,
+            b']' => Kind::CloseBracket,
             b',' => Kind::Comma,
             b';' => Kind::Semicolon,
             b':' => Kind::Colon,

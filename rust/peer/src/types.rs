@@ -101,6 +101,21 @@ pub fn read_number(value: i64, decimals: u64, base_decimals: u64) -> Result<i64,
     Ok(reading as i64)
 }
 
+/// A type with its measure, the measure's number among its like.
+#[derive(Clone, Copy, Debug, PartialEq, Eq)]
+pub struct Measured {
+    pub written: Type,
+    /// For numbers only; the measure of a named domain is the domain's.
+    pub measure: Option<u32>,
+}
+
+impl Measured {
+    pub fn plain(written: Type) -> Self {
+        let measure = None;
+        Measured { written, measure }
+    }
+}
+
 /// An attribute known in a class.
 #[derive(Clone, Copy, Debug)]
 pub struct Attribute {
@@ -108,7 +123,7 @@ pub struct Attribute {
     pub record: u32,
     pub is_final: bool,
     pub mandatory: bool,
-    pub written: Type,
+    pub held: Measured,
 }
 
 /// A known domain; its number is its position among the domains.
@@ -118,5 +133,5 @@ pub struct Domain {
     pub is_abstract: bool,
     pub is_final: bool,
     pub mandatory: bool,
-    pub written: Type,
+    pub held: Measured,
 }

@@ -1,4 +1,5 @@
-//! What the grammar hands to the judge: a text cut into units.
+//! What the grammar hands to the judge: a text cut into units. Since a unit
+//! here is a part of the text, a unit of numbers is called a measure.
 
 use crate::symbols::Number;
 
@@ -70,6 +71,8 @@ pub enum Written {
     Type {
         place: usize,
         form: InPlace,
+        /// In brackets behind a range or NUMERIC.
+        measure: Option<Reference>,
     },
     Named(Reference),
 }
@@ -78,6 +81,13 @@ pub enum Written {
 pub struct ClassHead {
     pub name: Name,
     pub is_structure: bool,
+    pub properties: Properties,
+    pub base: Option<Reference>,
+}
+
+#[derive(Clone, Copy, Debug, PartialEq, Eq)]
+pub struct Measure {
+    pub name: Name,
     pub properties: Properties,
     pub base: Option<Reference>,
 }
@@ -113,6 +123,7 @@ pub enum Unit {
     Model { name: Name },
     Topic { name: Name },
     Class(ClassHead),
+    Measure(Measure),
     Domain(Domain),
     Attribute(Attribute),
     End { name: Name, closed: Closed },
@@ -127,6 +138,7 @@ impl Unit {
             Unit::Topic { .. } => "topic",
             Unit::Class(head) if head.is_structure => "structure",
             Unit::Class(_) => "class",
+            Unit::Measure(_) => "unit",
             Unit::Domain(_) => "domain",
             Unit::Attribute(_) => "attribute",
             Unit::End { closed, .. } => match closed {
@@ -143,6 +155,7 @@ impl Unit {
             Unit::Header { version, .. } => return *version,
             Unit::Model { name } | Unit::Topic { name } | Unit::End { name, .. } => name,
             Unit::Class(head) => &head.name,
+            Unit::Measure(measure) => &measure.name,
             Unit::Domain(domain) => &domain.name,
             Unit::Attribute(attribute) => &attribute.name,
         };

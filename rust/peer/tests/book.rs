@@ -19,11 +19,11 @@ fn rendered(text: &str, book: &[u8]) -> String {
         let (record, length) = match kind {
             1 | 2 | 14 => (format!("{kind}:{}", name()), 6),
             3 | 11 | 15 | 16 => (kind.to_string(), 1),
-            4..=7 => {
+            4..=7 | 18 => {
                 let base = number(at + 7) as i32;
                 (format!("{kind}:{}/{}/{base}", name(), book[at + 6]), 11)
             }
-            8 | 9 | 12 | 17 => (format!("{kind}:{}", number(at + 1)), 5),
+            8 | 9 | 12 | 17 | 19 => (format!("{kind}:{}", number(at + 1)), 5),
             10 => (
                 format!("10:{}/{}/{}", book[at + 1], long(at + 2), long(at + 10)),
                 18,
@@ -75,6 +75,72 @@ fn definitions_are_counted() {
     let text = model("TOPIC T=DOMAIN D=(a,b);CLASS C=a:D;b:TEXT;END C;STRUCTURE S=END S;END T;");
     let (found, _) = answer(text.as_bytes());
     assert!(matches!(found, Answer::Accepted { definitions: 5, .. }));
+}
+
+#[test]
+fn units_and_what_is_measured_in_them() {
+    holds(
+        "UNIT a;b(ABSTRACT)EXTENDS a;TOPIC T=UNIT c EXTENDS M.b;END T;",
+        "1:M 18:a/0/-1 18:b/1/1 2:T 18:c/0/2 3",
+    );
+    holds(
+        "UNIT a;DOMAIN D=1..2[a];N(ABSTRACT)=NUMERIC[a];CLASS C=x:D;y:1..2[M.a];END C;",
+        "1:M 18:a/0/-1 7:D/0/-1 10:0/1/2 19:1 7:N/1/-1 11 19:1 \
+         4:C/0/-1 6:x/0/-1 17:2 6:y/0/-1 10:0/1/2 19:1 16",
+    );
+    holds(
+        "UNIT a;b EXTENDS a;DOMAIN D=1..2[a];E EXTENDS D=MANDATORY;F EXTENDS E=1..1[b];",
+        "1:M 18:a/0/-1 18:b/0/1 7:D/0/-1 10:0/1/2 19:1 7:E/8/3 10:0/1/2 19:1 7:F/8/6 10:0/1/1 19:2",
+    );
+    holds(
+        "UNIT a;DOMAIN D=1..2[a];CLASS C=x:D;y:1..2[a];END C;\
+         CLASS E EXTENDS C=x(EXTENDED):MANDATORY;y(EXTENDED):MANDATORY;END E;",
+        "1:M 18:a/0/-1 7:D/0/-1 10:0/1/2 19:1 4:C/0/-1 6:x/0/-1 17:2 6:y/0/-1 10:0/1/2 19:1 16 \
+         4:E/0/5 6:x/12/6 17:2 6:y/12/8 10:0/1/2 19:1 16",
+    );
+    holds(
+        "UNIT a;DOMAIN N(ABSTRACT)=NUMERIC[a];O(ABSTRACT)EXTENDS N=MANDATORY;",
+        "1:M 18:a/0/-1 7:N/1/-1 11 19:1 7:O/9/2 11 19:1",
+    );
+}
+
+#[test]
+fn units_byte_for_byte() {
+    let text = model("UNIT u;v(ABSTRACT)EXTENDS u;DOMAIN T=-1..4[v];");
+    let (found, book) = answer(text.as_bytes());
+    // Only the domain is a definition.
+    let expected = Answer::Accepted {
+        book_len: 62,
+        definitions: 1,
+    };
+    assert_eq!(found, expected);
+    let records = "01 13000000 01  12 2D000000 01 00 FFFFFFFF  12 2F000000 01 01 01000000
+                   07 4B000000 01 00 FFFFFFFF  0A 00 FFFFFFFFFFFFFFFF 0400000000000000
+                   13 02000000";
+    assert_eq!(book, bytes(records));
+    for (record, name) in ["M", "u", "v", "T", "", ""].iter().enumerate() {
+        let shown = show_name(text.as_bytes(), &book, record as u64);
+        assert_eq!(shown, name.as_bytes());
+    }
+}
+
+#[test]
+fn buffers_for_units() {
+    let text = model("UNIT u;DOMAIN T=1..2[u];");
+    let place = |before: &str| text.find(before).unwrap() + before.len();
+    for room in 0..60 {
+        let expected = match room {
+            0..6 => Some(place("MODEL ")),
+            6..17 => Some(place("UNIT ")),
+            17..51 => Some(place("DOMAIN ")),
+            _ => None,
+        };
+        let (found, book) = answer_in(text.as_bytes(), room);
+        match expected {
+            Some(place) => assert_eq!(found, Answer::Refused { number: 19, place }),
+            None => assert_eq!(book.len(), 51),
+        }
+    }
 }
 
 #[test]
@@ -234,7 +300,7 @@ fn names_of_cut_off_records() {
 fn names_of_no_kind() {
     let text = b"abcdef";
     let name = "01 01000000 02";
-    for kind in [0u8, 18, 19, 64, 128, 255] {
+    for kind in [0u8, 20, 21, 64, 128, 255] {
         let mut book = vec![kind];
         book.extend(bytes(name));
         book.extend([0; 20]);
@@ -270,6 +336,8 @@ fn names_behind_every_kind() {
         (15, 0),
         (16, 0),
         (17, 4),
+        (18, 10),
+        (19, 4),
     ];
     for (kind, body) in bodies {
         let mut book = vec![kind];

@@ -58,6 +58,18 @@ fn descendants_far_down_a_chain() {
 }
 
 #[test]
+fn units_far_down_a_chain() {
+    let chain: String = (1..1200)
+        .map(|n| format!("u{n} EXTENDS u{};", n - 1))
+        .collect();
+    let start = format!("UNIT u0;{chain}DOMAIN d=1..2[u0];");
+    let domain = |n: usize| format!("d{n} EXTENDS d=000000000000000001..2[u1199];");
+    in_time(&filled(&start, domain, "END M."), "ok");
+    let unit = |n: usize| format!("u{n} EXTENDS u{};", n - 1);
+    in_time(&filled("UNIT u0;", unit, "END M."), "ok");
+}
+
+#[test]
 fn many_elements() {
     let element = |n: usize| format!("e{n},");
     in_time(&filled("DOMAIN A=(", element, "x);END M."), "19");

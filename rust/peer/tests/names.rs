@@ -25,6 +25,7 @@ fn names_are_taken_in_one_space() {
         "CLASS x=END x;",
         "STRUCTURE x=END x;",
         "DOMAIN x=TEXT;",
+        "UNIT x;",
     ];
     for first in kinds {
         for second in kinds {

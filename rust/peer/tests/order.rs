@@ -1,5 +1,5 @@
-//! The order of refusals: of two faults in one unit the lower number, but 2
-//! to 6 by their place, then the attribute count of 4, then 7 to 19.
+//! The order of refusals: of two faults in one unit the first of 2 to 6 by
+//! their place, the attribute count of 4, 7 to 18, 22, 19.
 
 mod common;
 use common::*;

@@ -225,3 +225,61 @@ fn domains_named_value_by_value() {
     }
     assert!(fitting > 300, "{fitting}");
 }
+
+/// Whether a unit is the other one, or descends from it.
+fn descends(bases: &[Option<usize>], unit: usize, ancestor: usize) -> bool {
+    unit == ancestor || bases[unit].is_some_and(|base| descends(bases, base, ancestor))
+}
+
+/// The base of each of some units, and their declarations.
+fn units(random: &mut Random) -> (Vec<Option<usize>>, String) {
+    let mut bases = Vec::new();
+    let mut text = String::from("UNIT ");
+    for number in 0..1 + random.below(5) {
+        let base = (number > 0 && random.below(3) > 0).then(|| random.below(number) as usize);
+        let extends = base.map_or(String::new(), |base| format!(" EXTENDS u{base}"));
+        text += &format!("u{number}{extends};");
+        bases.push(base);
+    }
+    (bases, text)
+}
+
+/// Whether a type in this unit, or without one, allows a number in that one.
+fn allows(bases: &[Option<usize>], written: Option<usize>, unit: Option<usize>) -> bool {
+    match (written, unit) {
+        (Some(written), Some(unit)) => descends(bases, unit, written),
+        (written, unit) => written == unit,
+    }
+}
+
+#[test]
+fn numbers_and_units_together() {
+    let mut random = Random(11);
+    let mut found = [0; 3];
+    for _ in 0..6_000 {
+        let (bases, known) = units(&mut random);
+        let count = bases.len();
+        let mut any = || (random.below(5) > 0).then(|| random.below(count as u64) as usize);
+        let (base, own) = (any(), any());
+        let every = (0..count).map(Some).chain([None]);
+        let mut allowed = every.filter(|&unit| allows(&bases, own, unit));
+        let legal = allowed.all(|unit| allows(&bases, base, unit));
+        let last = 9 + random.below(4) / 3;
+        let place = match (last, legal) {
+            (10, _) => 1,
+            (_, false) => 2,
+            _ => 0,
+        };
+        found[place] += 1;
+        let brackets = |unit: Option<usize>| unit.map_or(String::new(), |u| format!("[u{u}]"));
+        let (base, over) = (brackets(base), format!("1..{last}{}", brackets(own)));
+        let class = "END A;CLASS B EXTENDS A=x(EXTENDED)";
+        for body in [
+            format!("{known}DOMAIN A=1..9{base};B EXTENDS A={over};"),
+            format!("{known}CLASS A=x:1..9{base};{class}:{over};END B;"),
+        ] {
+            assert_eq!(refusal(&body), [0, 17, 22][place], "{body}");
+        }
+    }
+    assert!(found.iter().all(|&times| times > 1_000), "{found:?}");
+}

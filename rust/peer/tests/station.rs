@@ -59,6 +59,8 @@ fn refusals_stand_where_the_comments_say() {
         ("longer-serial.ili", "TEXT*24"),
         ("words.ili", "(cold, mild, hot)"),
         ("unrelated.ili", "OwnTemperature;\n  END"),
+        ("kelvin.ili", "0 .. 40 [Kelvin]"),
+        ("no-unit.ili", "5 .. 30;"),
         ("unknown.ili", "HousingTemperatur ="),
         ("unfinished.ili", "END TimeServers."),
     ];

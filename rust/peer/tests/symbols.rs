@@ -17,7 +17,7 @@ fn refused_bytes(number: u8, place: usize, text: &[u8]) {
 #[test]
 fn bytes_that_begin_no_symbol() {
     for byte in [
-        "#", "!", "/", "+", "-", "\\", "'", "[", "_", "\u{7F}", "\0", "\u{B}",
+        "#", "!", "/", "+", "-", "\\", "'", "{", "}", "_", "\u{7F}", "\0", "\u{B}",
     ] {
         refused_text(2, &format!("^{byte}"));
         refused(2, &format!("DOMAIN A=^{byte}"));
@@ -50,7 +50,7 @@ fn separators_and_comments() {
 
 #[test]
 fn open_comment_belongs_to_the_next_symbol() {
-    // Within the unit it comes before 7 to 19, behind it after them.
+    // Within the unit it comes before 7 to 19 and 22, behind it after them.
     refused_text(3, "INTERLIS 2.3 ^/* ;");
     refused_text(7, "INTERLIS ^2.3; /*");
     refused(14, "DOMAIN A=^5..4; /*");
@@ -137,7 +137,6 @@ fn reserved_words() {
     refused(6, "DOMAIN ^SYMBOLGY=TEXT;");
     refused(6, "DOMAIN A=(^OTHERS);");
     refused(6, "CLASS C=a:^BAG");
-    refused(6, "^UNIT");
     refused(6, "^IMPORTS");
     refused(5, "DOMAIN ^TEXT=TEXT;");
 }

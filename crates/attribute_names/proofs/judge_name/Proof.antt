@@ -65,7 +65,7 @@ returns-3 c =
       record {
         slot = omega (arith, slot-of .ensures .0, r .ensures .0);
         base = r .ensures .1;
-        named = r .ensures .2;
+        target = r .ensures .2;
         few = λ z y. slot-of .ensures .1 (omega (arith, if1 .left)) (omega (arith, y, r .ensures .0));
       },
       λ q d n p w o k ec g.

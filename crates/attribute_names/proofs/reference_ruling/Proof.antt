@@ -1,4 +1,3 @@
-use Rattle.rules.specs.Judge.{referenceIn}
 use Rattle.names.specs.Index.{entry}
 use mathlib.Core.Path.{_∙_}
 use Rattle.attribute_names.proofs.NameLaws.{is-lost, not-lost}
@@ -10,17 +9,17 @@ returns : tie.Need-returns
 returns c =
     let s = c .before .before .before .before in
     let the-is-lost = c .before .before .is-lost in
-    λ t ks n ms w k v b e g. c .broken .ensures
-    ∙ is-lost ms (s .args .base) b (s .args .extended) (s .args .place) (referenceIn w) (entry ks (s .args .named)) _
+    λ t ks n ms w k v b e f g. c .broken .ensures
+    ∙ is-lost ms (s .args .base) b (s .args .extended) (s .args .place) w (entry ks (s .args .target)) _
     (the-is-lost .ensures) (c .before .if1 .taken)
 
 returns-2 : tie.Need-returns-2
 returns-2 c =
     let s = c .before .before .before .before in
     let is-lost = c .before .before .is-lost in
-    λ t ks n ms w k v b e g. not-lost ms (s .args .base) b (s .args .extended) (s .args .place) (referenceIn w)
-    (entry ks (s .args .named)) _ (is-lost .ensures) (c .before .if1 .left) _
-    (c .target-ruling .ensures t ks n w k v e g)
+    λ t ks n ms w k v b e f g. not-lost ms (s .args .base) b (s .args .extended) (s .args .place) w
+    (entry ks (s .args .target)) _ (is-lost .ensures) (c .before .if1 .left) _
+    (c .target-ruling .ensures t ks n w k v e f g)
 
 pub reference-ruling-spec : {M : Type 1} → statement M
 reference-ruling-spec =

@@ -7,9 +7,9 @@ use Rattle.book.specs.Sizes.{headSize}
 use Rattle.names.specs.Index.{entry}
 use Rattle.state.specs.Parts.{indexIn}
 use Rattle.state.proofs.RoomLaws.{definition-rows}
-use Rattle.attribute_records.proofs.LayLaws.{lays-there, based-is, base-fair, any-base, may-name, typed-naming}
-use Rattle.attribute_records.proofs.LayLaws.{lay-broken, lay-reference, no-reference, kept-there, lay-kept}
-use Rattle.attribute_records.proofs.LayLaws.{based-none, valued-own, lay-in-place}
+use Rattle.attribute_records.proofs.LayLaws.{lays-there, based-is, base-fair, any-base, typed-naming}
+use Rattle.attribute_records.proofs.LayLaws.{lay-broken, lay-reference, in-place-here, kept-there, lay-kept}
+use Rattle.attribute_records.proofs.LayLaws.{based-none, valued-own, keeps-own, lay-in-place}
 use native.Mathlib.Omega.{arith}
 use borrow.Author.Needs.{needs}
 use Rattle.attribute_records.proofs.lay_use.Statement.{statement}
@@ -40,12 +40,12 @@ returns c =
     let s = back .before .before .before .before .before .before .before in
     let descent-ruling = c .before .before .before .before .descent-ruling in
     let z = c .before .before .before .before .before .before .before .before .if1 .taken in
-    λ ks ms y total v l.
-    let (d, e) = lays-there l z (s .pre .0 .2) in
+    λ ks ms y total p v l.
+    let (d, e, m) = lays-there l z in
     let eq = descent-ruling .ensures ks ms y total d (entry ms (s .args .u .base)) (l .ready) e
-    (may-name l d e) (based-is l) (any-base l)
-    (l .used) (typed-naming l d e z) (l .typed) in
-    lay-broken l d e (descent-ruling .result) eq (s .args .st .extent .used + headSize) (s .args .book .now)
+    m (based-is l) (any-base l)
+    (l .used) (typed-naming l z d e) (l .typed) in
+    lay-broken l z d e (descent-ruling .result) eq (s .args .st .extent .used + headSize) (s .args .book .now)
     (s .args .book .now) (c .if2 .taken)
 
 lay-named-requires : tie.Need-lay-named-requires
@@ -67,12 +67,12 @@ returns-2 c =
     let if2 = c .before .before .before .before .before .if2 in
     let lay-named = c .before .before .lay-named in
     let z = back .before .before .before .if1 .taken in
-    λ ks ms y total v l.
-    let (d, e) = lays-there l z (s .pre .0 .2) in
+    λ ks ms y total p v l.
+    let (d, e, m) = lays-there l z in
     let eq = descent-ruling .ensures ks ms y total d (entry ms (s .args .u .base)) (l .ready) e
-    (may-name l d e) (based-is l) (any-base l)
-    (l .used) (typed-naming l d e z) (l .typed) in
-    lay-reference l d e (descent-ruling .result) eq (s .args .st .extent .used + headSize)
+    m (based-is l) (any-base l)
+    (l .used) (typed-naming l z d e) (l .typed) in
+    lay-reference l z d e (descent-ruling .result) eq (s .args .st .extent .used + headSize)
     (s .args .book .now) _ (if2 .left)
     (lay-named .result) (lay-named .ensures _ _ ks ms (s .args .st .listing .count) y total d (l .ready .held) e)
 
@@ -95,10 +95,9 @@ returns-3 c =
     let if3 = c .before .before .before .before .before .if3 in
     let lay-named2 = c .before .before .lay-named2 in
     let z = c .before .before .before .before .before .before .before .if1 .left in
-    λ ks ms y total v l.
-    let b = l .ready .held .all-defs in
-    let eu = use-at .ensures .0 ks v (orNoAttribute (entry ms (s .args .u .base)) .use-of) (l .meant)
-    (omega (arith, b, s .pre .0 .2)) (l .refers) (l .used) in
+    λ ks ms y total p v l.
+    let eu = use-at .ensures .0 ks v (orNoAttribute (entry ms (s .args .u .base)) .use-of) p (l .meant)
+    (l .names) (l .refers) (l .used) in
     let (d, e) = kept-there l z (use-at .result) eu (if3 .taken)
     (use-at .ensures .1 (s .args .st .listing .count) (s .pre .0 .2) (s .pre .0 .3)) in
     lay-kept l z (use-at .result) eu d e (s .args .st .extent .used + headSize)
@@ -118,15 +117,14 @@ returns-4 c =
     let if3 = c .before .before .before .before .before .before .before .if3 in
     let lay-written = c .before .before .before .before .lay-written in
     let z = c .before .before .before .before .before .before .before .before .before .if1 .left in
-    λ ks ms y total v l.
-    let b = l .ready .held .all-defs in
+    λ ks ms y total p v l.
     let base = orNoAttribute (entry ms (s .args .u .base)) .use-of in
-    let eu = use-at .ensures .0 ks v base (l .meant) (omega (arith, b, s .pre .0 .2)) (l .refers) (l .used) in
+    let eu = use-at .ensures .0 ks v base p (l .meant) (l .names) (l .refers) (l .used) in
     lay-in-place l z (use-at .result) eu (if3 .left) (s .args .st .extent .used + headSize)
     (s .args .book .now) _ (lay-written .result)
-    (lay-written .ensures v (tyOf base) (l .meant) (no-reference l z (use-at .result) eu)
-    (l .begins) (l .scratched) (l .once)
-    (base-fair l) (based-none l z (use-at .result) eu) (valued-own l z (use-at .result) eu) (l .typed))
+    (lay-written .ensures v (entry ks p) (tyOf base) (l .meant) (in-place-here l z (use-at .result) eu)
+    (l .begins) (l .scratched) (l .once) (base-fair l) (based-none l z (use-at .result) eu)
+    (valued-own l z (use-at .result) eu) (l .typed) (keeps-own l z (use-at .result) eu))
 
 pub lay-use-spec : {M : Type 1} → statement M
 lay-use-spec =

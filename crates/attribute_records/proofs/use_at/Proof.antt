@@ -7,7 +7,7 @@ use Rattle.attribute_records.proofs.use_at.Tie as tie
 returns : tie.Need-returns
 returns c =
     let s = c .before .before .before in (
-      λ ks w v e l r h. alone-use ks (s .args .kept) (entry ks (s .args .named)) w v
+      λ ks w v p e q r h. alone-use ks (s .args .kept) (entry ks p) w v
           (alone-is (s .args .a .written .meant) (c .enum-told .given .1) w e) h,
       λ n a b. b,
     )
@@ -15,8 +15,8 @@ returns c =
 returns-2 : tie.Need-returns-2
 returns-2 c =
     let s = c .before .before in (
-      λ ks w v e l r h.
-          written-use (entry ks (s .args .named)) (s .args .a .written .meant) (c .match .keys2) w e r v,
+      λ ks w v p e q r h.
+          written-use ks p (s .args .named) (s .args .a .written .meant) (c .match .keys2) w e q r v,
       λ n a b. a,
     )
 

@@ -1,3 +1,4 @@
+use Rattle.fitting.proofs.ValueLaws.{numeric-valued}
 use Rattle.rules.specs.Declarations.{tyOf}
 use mathlib.Core.Path.{_∙_}
 use Rattle.names.specs.Index.{entry}
@@ -13,7 +14,7 @@ returns c =
     let is-last = c .before .before .is-last in
     λ t b ks ms n total w h l m r v. c .broken .ensures
     ∙ head-final (s .args .place) (orNoAttribute (entry ms (s .args .q)) .final)
-    (s .args .twice) w (entry ks (s .args .named))
+    (s .args .twice) w (entry ks (s .args .target))
     (orNoAttribute (entry ms (s .args .q)) .use-of) r _
     (is-last .ensures t b ks ms _ n total h l) (c .before .if1 .taken)
 
@@ -24,7 +25,7 @@ returns-2 c =
     let if1 = c .before .before .if1 in
     λ t b ks ms n total w h l m r v. c .broken2 .ensures
     ∙ head-twice (s .args .place) (orNoAttribute (entry ms (s .args .q)) .final)
-    (s .args .twice) w (entry ks (s .args .named))
+    (s .args .twice) w (entry ks (s .args .target))
     (orNoAttribute (entry ms (s .args .q)) .use-of) r _ (is-last .ensures t b ks ms _ n total h l)
     (if1 .left) (c .before .if2 .taken)
 
@@ -37,11 +38,11 @@ returns-3 c =
     let is-numeric = c .before .before .is-numeric in
     λ t b ks ms n total w h l m r v. c .broken3 .ensures
     ∙ head-numeric (s .args .place) (orNoAttribute (entry ms (s .args .q)) .final)
-    (s .args .twice) w (entry ks (s .args .named))
+    (s .args .twice) w (entry ks (s .args .target))
     (orNoAttribute (entry ms (s .args .q)) .use-of) r _
     (is-last .ensures t b ks ms _ n total h l) (if1 .left) (if2 .left) _
-    (is-numeric .ensures
-    (tyOf (attributeUse w (entry ks (s .args .named)) (orNoAttribute (entry ms (s .args .q)) .use-of))) v)
+    (is-numeric .ensures ∙ numeric-valued
+    (tyOf (attributeUse w (entry ks (s .args .target)) (orNoAttribute (entry ms (s .args .q)) .use-of))) _ v)
     (c .before .if3 .taken)
 
 returns-4 : tie.Need-returns-4
@@ -55,11 +56,11 @@ returns-4 c =
     let is-abstract-domain = c .before .before .is-abstract-domain in
     λ t b ks ms n total w h l m r v. c .broken4 .ensures
     ∙ head-abstract (s .args .place) (orNoAttribute (entry ms (s .args .q)) .final)
-    (s .args .twice) w (entry ks (s .args .named))
+    (s .args .twice) w (entry ks (s .args .target))
     (orNoAttribute (entry ms (s .args .q)) .use-of) r _
     (is-last .ensures t b ks ms _ n total h l) (if1 .left) (if2 .left) _
-    (is-numeric .ensures
-    (tyOf (attributeUse w (entry ks (s .args .named)) (orNoAttribute (entry ms (s .args .q)) .use-of))) v)
+    (is-numeric .ensures ∙ numeric-valued
+    (tyOf (attributeUse w (entry ks (s .args .target)) (orNoAttribute (entry ms (s .args .q)) .use-of))) _ v)
     (if3 .left) _ (is-abstract-domain .ensures t b ks ms n _ total h m) (c .before .if4 .taken)
 
 returns-5 : tie.Need-returns-5
@@ -73,11 +74,11 @@ returns-5 c =
     let is-abstract-domain = c .before .before .is-abstract-domain in
     λ t b ks ms n total w h l m r v. c .fine .ensures
     ∙ head-fine (s .args .place) (orNoAttribute (entry ms (s .args .q)) .final)
-    (s .args .twice) w (entry ks (s .args .named))
+    (s .args .twice) w (entry ks (s .args .target))
     (orNoAttribute (entry ms (s .args .q)) .use-of) r _
     (is-last .ensures t b ks ms _ n total h l) (if1 .left) (if2 .left) _
-    (is-numeric .ensures
-    (tyOf (attributeUse w (entry ks (s .args .named)) (orNoAttribute (entry ms (s .args .q)) .use-of))) v)
+    (is-numeric .ensures ∙ numeric-valued
+    (tyOf (attributeUse w (entry ks (s .args .target)) (orNoAttribute (entry ms (s .args .q)) .use-of))) _ v)
     (if3 .left) _ (is-abstract-domain .ensures t b ks ms n _ total h m) (c .before .if4 .left)
 
 pub head-ruling-spec : {M : Type 1} → statement M

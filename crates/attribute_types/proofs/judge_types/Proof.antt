@@ -17,7 +17,7 @@ unfolding indexIn rowsIn
 types-of-requires c κs =
     let s = c .before .before .before .before .before in (
       attribute-rows (s .args .st) (s .args .work .now) (s .pre .1) (s .args .b .base) (omega (arith, s .pre .2 .base)),
-      s .pre .2 .named,
+      s .pre .2 .target,
       definition-rows (s .args .st) (s .args .work .now) (s .pre .1) (s .args .st .listing .count) (omega arith),
     )
 

@@ -1,11 +1,12 @@
 use mathlib.Core.Path.{sym, _∙_}
 use Rattle.rules.specs.Units as U
 use Rattle.rules.specs.Declarations.{known}
-use Rattle.rules.specs.Judge.{orNoAttribute}
+use Rattle.rules.specs.Judge.{orNoAttribute, referenceIn}
 use Rattle.names.specs.Index.{entry}
 use Rattle.members.specs.Held.{attributesIn}
 use Rattle.state.proofs.JudgeLaws.{small, judged-refused}
-use Rattle.attribute_names.proofs.GivenLaws.{is-meant, name-inside}
+use Rattle.state.proofs.TargetLaws.{reference-fair}
+use Rattle.attribute_names.proofs.GivenLaws.{is-meant, is-reference, name-inside}
 use Rattle.attribute_types.proofs.UseLaws.{ready}
 use Rattle.attributes.proofs.WholeLaws.{unit-is, class-is, judged-first, refers-to, judged-second, lays}
 use Rattle.attributes.proofs.WholeLaws.{judged-third, size-solid, passes, judged-end}
@@ -24,7 +25,11 @@ judge-name-requires c κs =
         (k .hand, s .pre .0 .4),
         (
           (s .pre .0 .2, omega (arith, s .pre .1 .0)),
-          (w .type, is-meant (s .args .text .now) n p w (s .args .scratch .now) (s .args .a) g, g .fair .type),
+          (
+            referenceIn (w .type),
+            is-reference (s .args .text .now) n p w (s .args .scratch .now) (s .args .a) g,
+            reference-fair (s .args .text .now) (w .type) (g .fair .type),
+          ),
         ),
       ),
     )
@@ -64,7 +69,7 @@ returns-2 c =
     let me = is-meant (s .args .text .now) n p w (s .args .scratch .now) (s .args .a) g in
     let bi = judge-types .ensures .0 in
     let ri = judge-types .ensures .1 (s .args .text .now) (known (q .decls)) (attributesIn q) (w .type)
-    (ready (s .args .text .now) q (s .args .st) (s .args .book .now) _ _ _ (s .args .hand .now) k) me
+    (ready (s .args .text .now) q (s .args .st) (s .args .book .now) _ _ _ (s .args .hand .now) (s .pre .0 .1) k) me
     (g .fair .type) rt in
     judged-refused (s .args .text .now) q (U.attribute n p w) (s .args .book .now) (s .args .st)
     (c .refused2 .result) _ _ _ _ _ _ _ (judged-second k m ei z bi ri (c .before .if2 .taken)) (c .refused2 .ensures)
@@ -85,10 +90,10 @@ lay-use-requires c κs =
     let me = is-meant (s .args .text .now) n p w (s .args .scratch .now) (s .args .a) g in
     let bi = judge-types .ensures .0 in
     let ri = judge-types .ensures .1 (s .args .text .now) (known (q .decls)) (attributesIn q) (w .type)
-    (ready (s .args .text .now) q (s .args .st) (s .args .book .now) _ _ _ (s .args .hand .now) k) me
+    (ready (s .args .text .now) q (s .args .st) (s .args .book .now) _ _ _ (s .args .hand .now) (s .pre .0 .1) k) me
     (g .fair .type) rt in
     let same = judge-name .kept .1 .1 .1 .1 .0 in (
-      (ri .sized-own, ri .sized-base, omega (arith, bi .named, judge-name .ensures .0 .named), bi .kept, s .pre .0 .3),
+      (ri .sized-own, ri .sized-base, omega (arith, bi .named, judge-name .ensures .0 .target), bi .kept, s .pre .0 .3),
       (k .within, s .pre .0 .1, s .pre .0 .2, omega (arith, s .pre .1 .0, same)),
     )
 
@@ -113,11 +118,13 @@ end-attribute-requires c κs =
     let me = is-meant (s .args .text .now) n p w (s .args .scratch .now) (s .args .a) g in
     let bi = judge-types .ensures .0 in
     let ri = judge-types .ensures .1 (s .args .text .now) (known (q .decls)) (attributesIn q) (w .type)
-    (ready (s .args .text .now) q (s .args .st) (s .args .book .now) _ _ _ (s .args .hand .now) k) me
+    (ready (s .args .text .now) q (s .args .st) (s .args .book .now) _ _ _ (s .args .hand .now) (s .pre .0 .1) k) me
     (g .fair .type) rt in
-    let ls = lays k m ei z bi ri y (judge-name .ensures .0 .base) (judge-name .ensures .0 .named) in
-    let li = lay-use .ensures (known (q .decls)) (attributesIn q) _ (s .args .st .listing .total) (w .type) ls in
-    let u = use-at .ensures .1 (s .args .st .listing .count) (judge-name .ensures .0 .named) (bi .kept) in
+    let ls = lays k m ei z bi ri y (judge-name .ensures .0 .base) (s .pre .0 .1) in
+    let li = lay-use .ensures (known (q .decls)) (attributesIn q) _ (s .args .st .listing .total)
+    (judge-name .result .target) (w .type) ls in
+    let u = use-at .ensures .1 (s .args .st .listing .count)
+    (omega (arith, bi .named, judge-name .ensures .0 .target)) (bi .kept) in
     let i = name-inside (s .args .text .now) n p w (s .args .scratch .now) (s .args .a) g in
     let same = lay-use .kept .1 .0 in (
       (
@@ -152,10 +159,11 @@ returns-3 c =
     let me = is-meant (s .args .text .now) n p w (s .args .scratch .now) (s .args .a) g in
     let bi = judge-types .ensures .0 in
     let ri = judge-types .ensures .1 (s .args .text .now) (known (q .decls)) (attributesIn q) (w .type)
-    (ready (s .args .text .now) q (s .args .st) (s .args .book .now) _ _ _ (s .args .hand .now) k) me
+    (ready (s .args .text .now) q (s .args .st) (s .args .book .now) _ _ _ (s .args .hand .now) (s .pre .0 .1) k) me
     (g .fair .type) rt in
-    let ls = lays k m ei z bi ri y (judge-name .ensures .0 .base) (judge-name .ensures .0 .named) in
-    let li = lay-use .ensures (known (q .decls)) (attributesIn q) _ (s .args .st .listing .total) (w .type) ls in
+    let ls = lays k m ei z bi ri y (judge-name .ensures .0 .base) (s .pre .0 .1) in
+    let li = lay-use .ensures (known (q .decls)) (attributesIn q) _ (s .args .st .listing .total)
+    (judge-name .result .target) (w .type) ls in
     judged-refused (s .args .text .now) q (U.attribute n p w) (s .args .book .now) (s .args .st)
     (c .refused3 .result) _ _ _ _ _ _ _
     (judged-third k m ei z bi ri y (lay-use .result) _ li _ (l .given .1)) (c .refused3 .ensures)
@@ -191,13 +199,14 @@ returns-4 c =
     let me = is-meant (s .args .text .now) n p w (s .args .scratch .now) (s .args .a) g in
     let bi = judge-types .ensures .0 in
     let ri = judge-types .ensures .1 (s .args .text .now) (known (q .decls)) (attributesIn q) (w .type)
-    (ready (s .args .text .now) q (s .args .st) (s .args .book .now) _ _ _ (s .args .hand .now) k) me
+    (ready (s .args .text .now) q (s .args .st) (s .args .book .now) _ _ _ (s .args .hand .now) (s .pre .0 .1) k) me
     (g .fair .type) rt in
-    let ls = lays k m ei z bi ri y (judge-name .ensures .0 .base) (judge-name .ensures .0 .named) in
-    let li = lay-use .ensures (known (q .decls)) (attributesIn q) _ (s .args .st .listing .total) (w .type) ls in
+    let ls = lays k m ei z bi ri y (judge-name .ensures .0 .base) (s .pre .0 .1) in
+    let li = lay-use .ensures (known (q .decls)) (attributesIn q) _ (s .args .st .listing .total)
+    (judge-name .result .target) (w .type) ls in
     let u = use-at .ensures .0 (known (q .decls)) (w .type)
-    (orNoAttribute (entry (attributesIn q) (judge-name .result .base)) .use-of) me
-    (let i = k .held .all-defs in omega (arith, judge-name .ensures .0 .named)) rt (ri .kept) in
+    (orNoAttribute (entry (attributesIn q) (judge-name .result .base)) .use-of) (judge-name .result .target) me
+    (ri .named) rt (ri .kept) in
     judged-end k m ei z bi ri y (lay-use .result) _ li _ (l2 .given .1) (end-attribute .result) _ _ _ _ _
     (end-attribute .ensures (s .args .text .now) q (s .args .book .now) (s .args .scratch .now) d n p w
     (sym (lay-use .kept .1 .0)) (passes k m ei z bi ri y (lay-use .result) _ li _ (l2 .given .1) (use-at .result) u))

@@ -18,8 +18,8 @@ unfolding indexIn rowsIn
 is-mandatory-requires c κs =
     let s = c .before .before .before .before .before .before .before .before in (
       attribute-rows (s .args .st) (s .args .work .now) (s .pre .1) (s .args .b .base) (omega (arith, s .pre .2 .base)),
-      definition-rows (s .args .st) (s .args .work .now) (s .pre .1) (s .args .b .named)
-          (omega (arith, s .pre .2 .named)),
+      definition-rows (s .args .st) (s .args .work .now) (s .pre .1) (s .args .b .target)
+          (omega (arith, s .pre .2 .target)),
     )
 
 base-number-requires : tie.Need-base-number-requires
@@ -40,9 +40,10 @@ returns c =
       flags .ensures .1,
       λ t o ks ms h k n p w rs hd g fl e.
           let x =
-          orNoDef (entry ks (s .args .b .named)) .mandatory || orNoAttribute (entry ms (s .args .b .base)) .mandatory in
+          orNoDef (entry ks (s .args .b .target)) .mandatory
+          || orNoAttribute (entry ms (s .args .b .base)) .mandatory in
           let v = is-mandatory .ensures t o ks ms (s .args .st .listing .count) (s .args .st .listing .total) hd
-          (s .pre .2 .base) (s .pre .2 .named) in (
+          (s .pre .2 .base) (s .pre .2 .target) in (
             head-flags t n p w rs (s .args .a) g x (is-mandatory .result) v (flags .result) (flags .ensures .0),
             put .ensures
                 ∙ ap (splice (s .args .book .now) (s .args .st .extent .used))

@@ -1,3 +1,5 @@
+use mathlib.Core.Path.{_∙_}
+use Rattle.fitting.proofs.ValueLaws.{numeric-valued}
 use Rattle.domains.proofs.StageLaws.{head-mixed, head-abstract, head-plain}
 use borrow.Author.Needs.{needs}
 use Rattle.domains.proofs.is_bad_head.Statement.{statement}
@@ -22,7 +24,7 @@ returns-3 c =
     let are-mixed = c .before .before .before .are-mixed in
     let if1 = c .before .before .if1 in
     λ l x e v. head-plain (s .args .p) l x e (are-mixed .result) (are-mixed .ensures l e) (if1 .left)
-    (c .before .if2 .left) (c .is-numeric .result) (c .is-numeric .ensures x v)
+    (c .before .if2 .left) (c .is-numeric .result) (c .is-numeric .ensures ∙ numeric-valued x _ v)
 
 pub is-bad-head-spec : {M : Type 1} → statement M
 is-bad-head-spec =

@@ -1,9 +1,8 @@
 use mathlib.Core.Path.{refl, sym, ap, _∙_}
 use Rattle.units.specs.declared.DomainUnit.{DomainUnit}
-use Rattle.rules.specs.Declarations.{domain}
 use Rattle.ground.specs.declared.Ruling.{Ruling}
-use Rattle.domains.proofs.StageLaws.{domain-is, unit-inside, unit-scratch, refused-name, refused-extends}
-use Rattle.domains.proofs.StageLaws.{judged-late, based-of}
+use Rattle.domains.proofs.StageLaws.{domain-is, unit-inside, unit-scratch, refused-name, refused-reference}
+use Rattle.domains.proofs.StageLaws.{judged-late, based-of, leads-off}
 use native.Mathlib.Omega.{arith}
 use borrow.Author.Needs.{needs}
 use Rattle.domains.proofs.judge_domain.Statement.{statement}
@@ -28,12 +27,12 @@ returns c =
     (h .fair .0) (ap (λ (u : DomainUnit). u .written .meant) (domain-is h)) (unit-scratch h))
     (c .before .if1 .taken) (c .refused .ensures)
 
-extends-requires : tie.Need-extends-requires
-extends-requires c κs =
+reach-requires : tie.Need-reach-requires
+reach-requires c κs =
     let back = c .before .before .before .before .before .before .before .before .before .before in
     let start = back .before .before .before .before .before in
     let (s, n, p, b, w, hs, k, h) = start .pre .1 .1 in
-    ((k .model .inside, start .pre .1 .0), (b, ap (λ (u : DomainUnit). u .base) (domain-is h), h .fair .1))
+    ((k .model .inside, start .pre .1 .0), (s, n, p, b, w, start .args .scratch .now, h))
 
 returns-2 : tie.Need-returns-2
 returns-2 c =
@@ -41,18 +40,18 @@ returns-2 c =
     let start = back .before .before .before .before .before .before .before .before .before .before in
     let name-ruling = back .name-ruling in
     let if1 = c .before .before .before .before .before .before .if1 in
-    let extends = c .before .before .before .before .extends in
+    let reach = c .before .before .before .before .reach in
     λ s n p b w hs k h.
-    refused-extends s n p b w (start .args .text .now) (start .args .st) (c .refused2 .result)
+    refused-reference s n p b w (start .args .text .now) (start .args .st) (c .refused2 .result)
     (start .args .book .now) _ _ _ _ hs
-    (extends .result .ruling)
+    (reach .result .ruling)
     (ap (λ (r : Ruling). r .number)
     (sym
     (name-ruling .ensures s n (w .type) (start .args .book .now) hs k (ap (λ (u : DomainUnit). u .name) (domain-is h))
     (h .fair .0) (ap (λ (u : DomainUnit). u .written .meant) (domain-is h)) (unit-scratch h)))
     ∙ (omega (arith, if1 .left)))
-    (extends .ensures .1 s domain b (start .args .book .now) hs k refl (ap (λ (u : DomainUnit). u .base) (domain-is h))
-    (h .fair .1) .0) (c .before .if2 .taken) (c .refused2 .ensures)
+    (reach .ensures .2 s n p b w (start .args .book .now) hs (start .args .scratch .now) k h .ruling)
+    (c .before .if2 .taken) (c .refused2 .ensures)
 
 typed-domain-requires : tie.Need-typed-domain-requires
 typed-domain-requires c κs =
@@ -60,14 +59,12 @@ typed-domain-requires c κs =
     let start = back .before .before .before .before .before .before .before .before .before .before .before .before in
     let name-ruling = back .before .before .name-ruling in
     let if1 = c .before .before .before .before .before .before .before .before .if1 in
-    let extends = c .before .before .before .before .before .before .extends in
+    let reach = c .before .before .before .before .before .before .reach in
     let if2 = c .before .before .before .if2 in
-    let (s, n, p, b, w, hs, k, h) = start .pre .1 .1 in
-    let e = extends .ensures .1 s domain b (start .args .book .now) hs k refl
-    (ap (λ (u : DomainUnit). u .base) (domain-is h)) (h .fair .1) in (
+    let (s, n, p, b, w, hs, k, h) = start .pre .1 .1 in (
       loaned refl refl (name-ruling .kept .1 .1 .1 .0) (start .pre .0),
       (
-        (start .pre .1 .0, extends .ensures .0),
+        (start .pre .1 .0, reach .ensures .0, reach .ensures .1),
         (
           s,
           n,
@@ -75,11 +72,12 @@ typed-domain-requires c κs =
           b,
           w,
           hs,
-          based-of k h (name-ruling .result) (extends .result .ruling)
+          based-of k h (name-ruling .result)
               (name-ruling .ensures s n (w .type) (start .args .book .now) hs k
               (ap (λ (u : DomainUnit). u .name) (domain-is h)) (h .fair .0)
               (ap (λ (u : DomainUnit). u .written .meant) (domain-is h)) (unit-scratch h)) (omega (arith, if1 .left))
-              (e .0) (omega (arith, if2 .left)) (e .1),
+              (reach .ensures .2 s n p b w (start .args .book .now) hs (start .args .scratch .now) k h)
+              (omega (arith, if2 .left)),
         ),
       ),
     )
@@ -91,19 +89,18 @@ returns-3 c =
     let start = further .before .before .before .before .before .before .before .before .before in
     let name-ruling = back .before .before .before .before .before .before .before .before .before .name-ruling in
     let if1 = back .before .before .before .before .before .if1 in
-    let extends = back .before .before .before .extends in
+    let reach = back .before .before .before .reach in
     let if2 = back .if2 in
     let typed-domain = c .before .before .before .before .before .before .typed-domain in
     λ s n p b w hs k h.
-    let e = extends .ensures .1 s domain b (start .args .book .now) hs k refl
-    (ap (λ (u : DomainUnit). u .base) (domain-is h)) (h .fair .1) in
-    let v = based-of k h (name-ruling .result) (extends .result .ruling)
+    let v = based-of k h (name-ruling .result)
     (name-ruling .ensures s n (w .type) (start .args .book .now) hs k (ap (λ (u : DomainUnit). u .name) (domain-is h))
     (h .fair .0) (ap (λ (u : DomainUnit). u .written .meant) (domain-is h)) (unit-scratch h))
-    (omega (arith, if1 .left)) (e .0) (omega (arith, if2 .left)) (e .1) in
+    (omega (arith, if1 .left))
+    (reach .ensures .2 s n p b w (start .args .book .now) hs (start .args .scratch .now) k h)
+    (omega (arith, if2 .left)) in
     judged-late s n p b w (start .args .text .now) (start .args .st) (typed-domain .result)
-    (start .args .book .now) _ _ _ _ hs (v .named)
-    (v .extends) (typed-domain .ensures s n p b w hs v)
+    (start .args .book .now) _ _ _ _ hs (v .named) (leads-off v) (typed-domain .ensures s n p b w hs v)
 
 pub judge-domain-spec : {M : Type 1} → statement M
 judge-domain-spec =
@@ -114,7 +111,7 @@ judge-domain-spec =
     (λ c. search needs)
     (λ c. search needs)
     returns
-    extends-requires
+    reach-requires
     (λ c κs. search needs)
     (λ c. search needs)
     (λ c. search needs)

@@ -8,7 +8,7 @@ use Rattle.fitting.proofs.fits.Tie as tie
 
 range-fits-requires : tie.Need-range-fits-requires
 range-fits-requires c κs = let pre = c .before .before .before .pre in
-    let s = sized-range _ _ _ (pre .0) (c .before .own2 .given .1) in
+    let s = sized-range _ _ _ _ (pre .0) (c .before .own2 .given .1) in
     ((s .0, rw (held-small _ (s .1)) (s .1), rw (held-small _ (s .2)) (s .2)), pre .1)
 
 returns : tie.Need-returns
@@ -21,7 +21,7 @@ returns-2 : tie.Need-returns-2
 returns-2 c =
     let start = c .before .before .before .before in
     let own2 = c .before .before .own2 in
-    let s = sized-range _ _ _ (start .pre .0) (own2 .given .1) in
+    let s = sized-range _ _ _ _ (start .pre .0) (own2 .given .1) in
     (rw (held-small _ (s .1), held-small _ (s .2)) at (c .range-fits .ensures))
     ∙ ap (λ (z : Typing). fitsBy z (start .args .base)) (sym (own2 .given .1))
 

@@ -12,7 +12,7 @@ use Rattle.book.specs.Sizes.{headSize}
 returns : tie.Need-returns
 returns c =
     let a = c .before .before .args in
-    λ t h x e f s. typed-here t (a .book .now) (a .head + headSize) x _ (c .typing-at .ensures) f
+    λ t h x e f g s. typed-here t (a .book .now) (a .head + headSize) x _ (c .typing-at .ensures) f g
     (subst (λ (n : ℕ). Stands (a .book .now) (a .head + n) (typeRecords x)) e
     (stands-behind (a .book .now) (a .head) h (typeRecords x) s))
 

@@ -1,7 +1,8 @@
 use mathlib.Core.Path.{refl}
 use Rattle.judge.specs.Judging.{Answers}
-use Rattle.judge.proofs.UnitLaws.{by-header, by-model, by-topic, by-class, by-domain, by-attribute, by-close}
-use Rattle.judge.proofs.UnitLaws.{by-mark, a-header, a-model, a-topic, a-class, a-domain, an-attribute, a-close}
+use Rattle.judge.proofs.UnitLaws.{by-header, by-model, by-topic, by-class, by-domain, by-attribute, by-measure}
+use Rattle.judge.proofs.UnitLaws.{by-close, by-mark, a-header, a-model, a-topic, a-class, a-domain, an-attribute}
+use Rattle.judge.proofs.UnitLaws.{a-measure, a-close}
 use native.Mathlib.Omega.{arith}
 use borrow.Author.Needs.{needs}
 use Rattle.judge.proofs.judge.Statement.{statement}
@@ -56,12 +57,20 @@ judge-attribute-requires c κs =
       (s .pre .0 .tables-wide, (i, n, p, w, k, h)),
     )
 
-judge-close-requires : tie.Need-judge-close-requires
-judge-close-requires c κs =
+judge-unit-requires : tie.Need-judge-unit-requires
+judge-unit-requires c κs =
     let s = c .before .before .before .before .before .before .before .before .before .before .before in
     let unit7 = c .before .before .before .unit7 in
     let (i, v, k, m) = s .pre .1 .1 in
-    let (n, h) = a-close v m (unit7 .given .1) in
+    let (n, p, b, h) = a-measure v m (unit7 .given .1) in
+    ((s .pre .0 .text-short, s .pre .0 .book-short, s .pre .1 .0 .0), (i, n, p, b, _, _, k, h))
+
+judge-close-requires : tie.Need-judge-close-requires
+judge-close-requires c κs =
+    let s = c .before .before .before .before .before .before .before .before .before .before .before in
+    let unit8 = c .before .before .before .unit8 in
+    let (i, v, k, m) = s .pre .1 .1 in
+    let (n, h) = a-close v m (unit8 .given .1) in
     ((s .pre .0 .text-short, s .pre .0 .book-short, s .pre .1 .0 .0), (i, n, _, _, k, h))
 
 returns : tie.Need-returns
@@ -109,12 +118,19 @@ returns-6 c =
 returns-7 : tie.Need-returns-7
 returns-7 c =
     let unit7 = c .before .before .before .before .before .before .before .before .unit7 in
-    let judge-close = c .before .before .before .before .judge-close in
-    λ s v k m. by-close (Answers _ _ s _ _ _ _ _) v m (unit7 .given .1)
-    (λ n h. record { as-judged = judge-close .ensures s n _ _ k h })
+    let judge-unit = c .before .before .before .before .judge-unit in
+    λ s v k m. by-measure (Answers _ _ s _ _ _ _ _) v m (unit7 .given .1)
+    (λ n p b h. record { as-judged = judge-unit .ensures s n p b _ _ k h })
 
 returns-8 : tie.Need-returns-8
 returns-8 c =
+    let unit8 = c .before .before .before .before .before .before .before .before .unit8 in
+    let judge-close = c .before .before .before .before .judge-close in
+    λ s v k m. by-close (Answers _ _ s _ _ _ _ _) v m (unit8 .given .1)
+    (λ n h. record { as-judged = judge-close .ensures s n _ _ k h })
+
+returns-9 : tie.Need-returns-9
+returns-9 c =
     λ s v k m. by-mark _ s _ (Answers _ _ s _ _ _ _ _) v _ m (c .enum-told .given .1)
     (record { as-judged = (_, refl, k, record { by-one = omega arith; layout-stays = refl }) })
 
@@ -134,6 +150,8 @@ judge-spec =
     judge-domain-requires
     (λ c. search needs)
     judge-attribute-requires
+    (λ c. search needs)
+    judge-unit-requires
     (λ c. search needs)
     judge-close-requires
     (λ c. search needs)
@@ -159,4 +177,7 @@ judge-spec =
     (λ c. search needs)
     (λ c. search needs)
     returns-7
-    returns-8)
+    (λ c. search needs)
+    (λ c. search needs)
+    returns-8
+    returns-9)

@@ -15,12 +15,12 @@ returns : tie.Need-returns
 returns c =
     let s = c .before .before .before .before .before in
     let if1 = c .before .before .if1 in
-    list-there (s .args .attribute) (if1 .taken) (c .before .expect .ensures) (c .property-list .ensures)
+    list-there (s .args .owner) (if1 .taken) (c .before .expect .ensures) (c .property-list .ensures)
 
 returns-2 : tie.Need-returns-2
 returns-2 c =
     let s = c .before .before .before .before in
-    list-absent (s .args .attribute) (c .before .if1 .left) (c .none-written .ensures)
+    list-absent (s .args .owner) (c .before .if1 .left) (c .none-written .ensures)
 
 pub read-properties-spec : {M : Type 1} → statement M
 read-properties-spec =

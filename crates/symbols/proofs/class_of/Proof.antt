@@ -11,7 +11,7 @@ use Rattle.symbols.proofs.class_of.Tie as tie
 
 -- the keys, the last arm's first
 keys : List (List ℕ)
-keys = (13 ∷ 32 ∷ []) ∷ (44 ∷ 46 ∷ 61 ∷ []) ∷ (33 ∷ 47 ∷ []) ∷ (34 ∷ []) ∷ (43 ∷ 45 ∷ []) ∷ []
+keys = (13 ∷ 32 ∷ []) ∷ (44 ∷ 46 ∷ 61 ∷ 91 ∷ 93 ∷ []) ∷ (33 ∷ 47 ∷ []) ∷ (34 ∷ []) ∷ (43 ∷ 45 ∷ []) ∷ []
 
 returns : tie.Need-returns
 unfolding classOf
@@ -75,7 +75,7 @@ returns-11 c =
 
 returns-12 : tie.Need-returns-12
 unfolding classOf
-returns-12 c = class-key Punctuation (44 ∷ 46 ∷ 61 ∷ []) (c .before .args .b) refl (c .match .keys4)
+returns-12 c = class-key Punctuation (44 ∷ 46 ∷ 61 ∷ 91 ∷ 93 ∷ []) (c .before .args .b) refl (c .match .keys4)
 
 returns-13 : tie.Need-returns-13
 unfolding classOf keys

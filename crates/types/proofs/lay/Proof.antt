@@ -13,8 +13,8 @@ returns c =
     let k = c .before .before .alone in
     let i = c .before .before .before .before in
     let a = i .before .before .before .before .before .before .args in
-    λ w b e n s o f v u.
-    alone-lays (λ p l. LaidAs p l (a .used + headSize) (a .out .now) (k .last .0) (k .result)) b (a .over .own)
+    λ w y b e n s o f v u.
+    alone-lays (λ p l. LaidAs p l (a .used + headSize) (a .out .now) (k .last .0) (k .result)) y b (a .over .own)
     (sym (i .before .is-alone .ensures) ∙ i .if1 .taken)
     (λ z. k .ensures (a .text .now) b z u) w e v
 
@@ -25,8 +25,8 @@ returns-2 c =
     let i = c .before .before .before .before .before .before .before .before in
     let j = i .before .before in
     let a = j .before .before .before .before .before .before .before .before .args in
-    λ w b e n s o f v u.
-    merged-lays (λ p l. LaidAs p l (a .used + headSize) (a .out .now) (k .last .1 .0) (k .result)) (a .text .now)
+    λ w y b e n s o f v u.
+    merged-lays (λ p l. LaidAs p l (a .used + headSize) (a .out .now) (k .last .1 .0) (k .result)) y (a .text .now)
     (take (a .used) (a .out .now)) (a .scratch .now) (a .over .base)
     (sym (j .before .is-listed .ensures) ∙ j .if2 .taken) (sym (i .before .is-enumeration .ensures) ∙ i .if3 .taken)
     (λ g h p q. k .ensures g h (rw (place-of .ensures) p) q) w b e s o f u
@@ -37,8 +37,8 @@ returns-3 c =
     let i = c .before .before .before .before in
     let j = i .before .before in
     let a = j .before .before .before .before .before .before .before .before .args in
-    λ w b e n s o f v u.
-    copied-lays (λ p l. LaidAs p l (a .used + headSize) (a .out .now) (k .last .0) (k .result)) (a .text .now)
+    λ w y b e n s o f v u.
+    copied-lays (λ p l. LaidAs p l (a .used + headSize) (a .out .now) (k .last .0) (k .result)) y (a .text .now)
     (take (a .used) (a .out .now)) (a .scratch .now) (a .over .base)
     (sym (j .before .is-listed .ensures) ∙ j .if2 .taken) (sym (i .before .is-enumeration .ensures) ∙ i .if3 .left)
     (λ g p. k .ensures (a .text .now) g p) w b e s o u
@@ -49,8 +49,8 @@ returns-4 c =
     let j = c .before .before .before .before in
     let i = j .before .before in
     let a = i .before .before .before .before .before .before .args in
-    λ w b e n s o f v u.
-    plain-lays (λ p l. LaidAs p l (a .used + headSize) (a .out .now) (k .last .0) (k .result)) b (a .over .own)
+    λ w y b e n s o f v u.
+    plain-lays (λ p l. LaidAs p l (a .used + headSize) (a .out .now) (k .last .0) (k .result)) y b (a .over .own)
     (sym (i .before .is-alone .ensures) ∙ i .if1 .left)
     (sym (j .before .is-listed .ensures) ∙ j .if2 .left) (k .ensures) w e n v
 

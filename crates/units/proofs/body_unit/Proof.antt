@@ -1,10 +1,9 @@
-use Rattle.units.proofs.StepLaws.{body-topic, body-class, body-domains, body-domain, body-close, mark-steps}
-use Rattle.units.proofs.StepLaws.{where-place}
-use Rattle.readers.proofs.CodeLaws.{is-word}
+use Rattle.units.proofs.StepLaws.{body-topic, body-class, body-domains, body-units, body-run, mark-steps}
+use Rattle.units.proofs.StepLaws.{where-place, domain-word, unit-word}
+use Rattle.units.specs.declared.Run.the-variants.{Domains, Units}
 use Rattle.units.specs.declared.Where.the-variants.{Body}
 use Rattle.rules.specs.Bytes.{ascii}
-use mathlib.Core.Path.{sym, refl, _∙_}
-use mathlib.Core.Bool.{true}
+use mathlib.Core.Path.{sym, _∙_}
 use borrow.Author.Needs.{needs}
 use Rattle.units.proofs.body_unit.Statement.{statement}
 use Rattle.units.proofs.body_unit.Tie as tie
@@ -35,11 +34,23 @@ returns-3 c =
     let if2 = c .before .before .before .if2 in
     body-domains (s .args .in-topic) (s .args .run) (sym (opens-topic .ensures) ∙ if1 .left)
     (sym (is-class .ensures) ∙ if2 .left) (c .before .if3 .taken)
-    (mark-steps _ (ascii "DOMAIN") 74 _ (where-place (Body (s .args .in-topic) true))
-    (is-word (ascii "DOMAIN") 74 refl) (c .ended .ensures))
+    (mark-steps _ (ascii "DOMAIN") 74 _
+    (where-place (Body (s .args .in-topic) Domains)) domain-word (c .ended .ensures))
 
 returns-4 : tie.Need-returns-4
 returns-4 c =
+    let s = c .before .before .before .before .before .before .before .before .before .before .before in
+    let opens-topic = c .before .before .before .before .before .before .before .before .opens-topic in
+    let if1 = c .before .before .before .before .before .before .before .if1 in
+    let is-class = c .before .before .before .before .before .before .is-class in
+    let if2 = c .before .before .before .before .before .if2 in
+    let if3 = c .before .before .before .if3 in
+    body-units (s .args .in-topic) (s .args .run) (sym (opens-topic .ensures) ∙ if1 .left)
+    (sym (is-class .ensures) ∙ if2 .left) (if3 .left) (c .before .if4 .taken)
+    (mark-steps _ (ascii "UNIT") 82 _ (where-place (Body (s .args .in-topic) Units)) unit-word (c .ended2 .ensures))
+
+returns-5 : tie.Need-returns-5
+returns-5 c =
     let back = c .before .before .before .before .before .before .before .before .before .before in
     let s = back .before .before .before .before in
     let opens-topic = back .before .opens-topic in
@@ -47,24 +58,10 @@ returns-4 c =
     let is-class = c .before .before .before .before .before .before .before .before .before .is-class in
     let if2 = c .before .before .before .before .before .before .before .before .if2 in
     let if3 = c .before .before .before .before .before .before .if3 in
-    let allowed = c .before .before .before .before .before .allowed in
     let if4 = c .before .before .before .before .if4 in
-    let domain = c .before .before .domain in
-    body-domain (s .args .in-topic) (s .args .run) (sym (opens-topic .ensures) ∙ if1 .left)
-    (sym (is-class .ensures) ∙ if2 .left) (if3 .left) (sym (allowed .ensures) ∙ if4 .taken) (domain .ensures)
-
-returns-5 : tie.Need-returns-5
-returns-5 c =
-    let s = c .before .before .before .before .before .before .before .before .before .before .before in
-    let opens-topic = c .before .before .before .before .before .before .before .before .opens-topic in
-    let if1 = c .before .before .before .before .before .before .before .if1 in
-    let is-class = c .before .before .before .before .before .before .is-class in
-    let if2 = c .before .before .before .before .before .if2 in
-    let if3 = c .before .before .before .if3 in
-    let allowed = c .before .before .allowed in
-    body-close (s .args .in-topic) (s .args .run) (sym (opens-topic .ensures) ∙ if1 .left)
-    (sym (is-class .ensures) ∙ if2 .left) (if3 .left)
-    (sym (allowed .ensures) ∙ c .before .if4 .left) (c .body-end .ensures _)
+    let run-unit = c .before .before .run-unit in
+    body-run (s .args .in-topic) (s .args .run) (sym (opens-topic .ensures) ∙ if1 .left)
+    (sym (is-class .ensures) ∙ if2 .left) (if3 .left) (if4 .left) (run-unit .ensures)
 
 pub body-unit-spec : {M : Type 1} → statement M
 body-unit-spec =
@@ -79,8 +76,7 @@ body-unit-spec =
     (λ c κs. search needs)
     returns-3
     (λ c κs. search needs)
-    (λ c κs. search needs)
-    (λ c. search needs)
     returns-4
     (λ c κs. search needs)
+    (λ c. search needs)
     returns-5)

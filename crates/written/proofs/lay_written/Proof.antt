@@ -10,8 +10,8 @@ returns c =
     let i = c in
     let p = i .before .before .plain-ruling in
     let a = i .before .before .before .before .before .before .before .args in
-    λ v b m r g s n f u x y. laid-early (a .text .now) (a .over .based) (a .w .place) v b f r (p .result)
-    (p .ensures (a .text .now) v b m g f x (typed-valued _ _ b _ y)) (i .if1 .taken) _ _ _ _
+    λ v d b m r g s n f u x y h. laid-early (a .text .now) (a .over .based) (a .w .place) v d b f r (p .result)
+    (p .ensures (a .text .now) v d b m g f x (typed-valued _ _ b _ y) h) (i .if1 .taken) _ _ _ _
 
 returns-2 : tie.Need-returns-2
 returns-2 c =
@@ -19,10 +19,11 @@ returns-2 c =
     let p = i .before .before .plain-ruling in
     let a = i .before .before .before .before .before .before .before .args in
     let k = c .before .before .before .before .before .before .before .lay in
-    λ v b m r g s n f u x y.
-    laid-whole (a .text .now) (a .over .based) (a .w .place) v b f r (p .result)
-    (p .ensures (a .text .now) v b m g f x (typed-valued _ _ b _ y)) (omega (arith, i .if1 .left)) _ _ _ _ (k .result) _
-    (k .ensures v b m r s n f x y) (c .before .l .given .1)
+    λ v d b m r g s n f u x y h.
+    laid-whole (a .text .now) (a .over .based) (a .w .place) v d b f r (p .result)
+    (p .ensures (a .text .now) v d b m g f x (typed-valued _ _ b _ y) h)
+    (omega (arith, i .if1 .left)) _ _ _ _ (k .result) _
+    (k .ensures v d b m r s n f x y) (c .before .l .given .1)
 
 returns-3 : tie.Need-returns-3
 returns-3 c =
@@ -30,10 +31,11 @@ returns-3 c =
     let p = i .before .before .plain-ruling in
     let a = i .before .before .before .before .before .before .before .args in
     let k = c .before .before .before .before .before .before .lay in
-    λ v b m r g s n f u x y.
-    laid-misfit (a .text .now) (a .over .based) (a .w .place) v b f r (p .result)
-    (p .ensures (a .text .now) v b m g f x (typed-valued _ _ b _ y)) (omega (arith, i .if1 .left)) u _ _ _ _ (k .result)
-    (k .ensures v b m r s n f x y) (c .enum-told .given .1)
+    λ v d b m r g s n f u x y h.
+    laid-misfit (a .text .now) (a .over .based) (a .w .place) v d b f r (p .result)
+    (p .ensures (a .text .now) v d b m g f x (typed-valued _ _ b _ y) h)
+    (omega (arith, i .if1 .left)) u _ _ _ _ (k .result)
+    (k .ensures v d b m r s n f x y) (c .enum-told .given .1)
 
 pub lay-written-spec : {M : Type 1} → statement M
 lay-written-spec =

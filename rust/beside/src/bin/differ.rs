@@ -16,7 +16,7 @@ use cases::{gen, gen_small, Case, Random};
 #[derive(Default)]
 struct Tally {
     accepted: u64,
-    refused: [u64; 20],
+    refused: [u64; 23],
     names: u64,
     readings: u64,
     differences: u64,
@@ -61,7 +61,7 @@ impl Tally {
                 book[at] = random.below(256) as u8;
             }
             2 => text = &text[..random.below(text.len() + 1)],
-            _ => book.push(random.below(20) as u8),
+            _ => book.push(random.below(22) as u8),
         }
         for _ in 0..4 {
             let record = random.below(1 + book.len() / 3) as u64;

@@ -21,13 +21,13 @@ const OPENED: [(&str, &str); 7] = [
     ("Symbols", "symbolOf symbolAt"),
     (
         "Grammar",
-        "propertiesFrom properties reference extends closeFinal enumeration textLength textType rangeType typeOf \
-         typeOrReference written",
+        "propertiesFrom properties reference extends closeFinal enumeration textLength textType unitReference \
+         optionalUnit rangeType numericType typeOf typeOrReference written",
     ),
     (
         "Units",
-        "headerUnit modelUnit topicUnit classUnit domainUnit attributeUnit endUnit wordStep bodyEnd bodyUnit \
-         memberUnit lastStep unitAt",
+        "headerUnit modelUnit topicUnit classUnit domainUnit unitUnit attributeUnit endUnit wordStep bodyEnd \
+         bodyUnit memberUnit lastStep unitAt",
     ),
     (
         "Judge",

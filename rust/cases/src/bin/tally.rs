@@ -1,8 +1,11 @@
-//! Prints how often the cases of a range of seeds get each answer.
+//! Prints how often the cases of a range of seeds get each answer, and each
+//! flavour of units of numbers.
 //!
 //! `tally [--small] [count] [first seed]`
 
-use cases::{gen, gen_small};
+use std::collections::HashMap;
+
+use cases::{flavours, gen, gen_small, FLAVOURS};
 use peer::Answer;
 
 fn main() {
@@ -16,12 +19,16 @@ fn main() {
     };
     let (count, first) = (number(0, 100_000), number(1, 0));
     let mut buffer = Vec::new();
-    let mut tally = [0u64; 20];
+    let mut tally = [0u64; 23];
+    let mut with: HashMap<&str, u64> = HashMap::new();
     let (mut bytes, mut longest) = (0, 0);
     for seed in first..first + count {
         let case = if small { gen_small(seed) } else { gen(seed) };
         bytes += case.text.len();
         longest = longest.max(case.text.len());
+        for flavour in flavours(&case) {
+            *with.entry(flavour).or_default() += 1;
+        }
         buffer.resize(case.buffer_len, 0);
         match peer::check(&case.text, &mut buffer) {
             Answer::Accepted { .. } => tally[0] += 1,
@@ -35,5 +42,8 @@ fn main() {
     println!("accepted {:>8}", tally[0]);
     for (number, cases) in tally.iter().enumerate().skip(1) {
         println!("refused {number:>2} {cases:>6}");
+    }
+    for flavour in FLAVOURS {
+        println!("{:>6} {flavour}", with.get(flavour).copied().unwrap_or(0));
     }
 }

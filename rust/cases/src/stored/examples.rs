@@ -210,7 +210,7 @@ fn behind() -> Vec<Stored> {
         Stored::marked(5, &format!("{model}^5")),
         Stored::marked(2, &format!("{model}^#")),
         Stored::marked(3, &format!("{model}^/*")),
-        Stored::marked(6, &format!("{model} ^UNIT")),
+        Stored::marked(5, &format!("{model} ^UNIT")),
         Stored::marked(5, &format!("{HEAD}END M^..")),
         Stored::marked(8, &format!("{HEAD}END ^N.#")),
         Stored::marked(0, &spread),

@@ -26,10 +26,12 @@ const SYMBOLS: [(u8, &str); 17] = [
 ];
 
 /// Section 3.5: models, topics, classes, name spaces.
-const MODELS: [(u8, &str); 19] = [
+const MODELS: [(u8, &str); 21] = [
     (6, "^IMPORTS Units;"),
     (6, "^CHARSET \"UTF-8\";"),
-    (6, "^UNIT foot=1;"),
+    (5, "UNIT foot^=1;"),
+    (5, "UNIT Metre^[m];"),
+    (0, "UNIT Length(ABSTRACT);Metre EXTENDS Length;"),
     (6, "^FUNCTION f(a:TEXT):TEXT;"),
     (6, "^CONTEXT c=TEXT;"),
     (
@@ -134,14 +136,14 @@ const ENUMERATIONS: [(u8, &str); 14] = [
 /// Sections 2.8 and 3.8.5: numbers and their rounding.
 const NUMBERS: [(u8, &str); 13] = [
     (6, "DOMAIN Angle=0.00..359.99 ^CIRCULAR;"),
-    (2, "DOMAIN Angle=0.00..359.99 ^[degree];"),
+    (10, "DOMAIN Angle=0.00..359.99 [^degree];"),
     (14, "DOMAIN Angle=^0.00..360.000;"),
     (0, "DOMAIN Usual=0.00..7.99;Exact EXTENDS Usual=0.0000..7.9949;"),
     (17, "DOMAIN Usual=0.00..7.99;Exact EXTENDS Usual=^0.0000..7.9999;"),
     (0, "DOMAIN Usual=0.00..7.99;Narrow EXTENDS Usual=1.00..6.99;"),
     (14, "DOMAIN Usual=0.00..7.99;Narrow EXTENDS Usual=^100..6.99;"),
     (0, "DOMAIN Length(ABSTRACT)=NUMERIC;Metres(ABSTRACT) EXTENDS Length=NUMERIC;Pole EXTENDS Metres=0.00..100.00;"),
-    (2, "DOMAIN Length(ABSTRACT)=NUMERIC^[m];"),
+    (10, "DOMAIN Length(ABSTRACT)=NUMERIC[^m];"),
     (2, "DOMAIN Length=0.00..100.00^{m};"),
     (6, "DOMAIN Angle=0.0..^PI;"),
     (6, "DOMAIN Angle=0.0..359.9 ^CLOCKWISE;"),

@@ -1,10 +1,11 @@
 //! The cases that are stored for the proved checker's program `cases`, with what
 //! is known of their answers beforehand: document 01's examples, both sides of
-//! its sizes, faults that stand together in one unit, the manual's models within
-//! the part, and generated ones.
+//! its sizes, units of numbers, faults that stand together in one unit, the
+//! manual's models within the part, and generated ones.
 
 mod examples;
 mod manual;
+mod measures;
 mod sizes;
 mod together;
 
@@ -86,6 +87,7 @@ fn reserved() -> Vec<Stored> {
 pub fn stored() -> Vec<Stored> {
     let mut all = examples::examples();
     all.extend(sizes::sizes());
+    all.extend(measures::measures());
     all.extend(together::together());
     all.extend(manual::manual());
     all.extend(reserved());

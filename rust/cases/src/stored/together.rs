@@ -112,7 +112,7 @@ fn before(parts: &[Way]) -> String {
 }
 
 /// How many bytes the book of a text takes, if it is accepted.
-fn room(text: &str) -> Option<usize> {
+pub(super) fn room(text: &str) -> Option<usize> {
     let mut buffer = vec![0; ROOM];
     match peer::check(text.as_bytes(), &mut buffer) {
         Answer::Accepted { book_len, .. } => Some(book_len),
@@ -121,13 +121,13 @@ fn room(text: &str) -> Option<usize> {
 }
 
 /// A text on a large buffer, and on one of so many bytes, if that is known.
-fn on_both(text: &str, small: Option<usize>) -> Vec<Stored> {
+pub(super) fn on_both(text: &str, small: Option<usize>) -> Vec<Stored> {
     let on = |length: usize| Stored::new(format!("{text} on {length}"), text, length);
     [Some(ROOM), small].into_iter().flatten().map(on).collect()
 }
 
 /// Each of some ways with each of others.
-fn each<A: Clone, B: Clone>(some: &[A], others: &[B]) -> Vec<(A, B)> {
+pub(super) fn each<A: Clone, B: Clone>(some: &[A], others: &[B]) -> Vec<(A, B)> {
     let pairs = some
         .iter()
         .flat_map(|one| others.iter().map(move |other| (one.clone(), other.clone())));

@@ -8,16 +8,18 @@ use Rattle.fitting.proofs.reading.range_at.Tie as tie
 returns : tie.Need-returns
 unfolding rangeAt
 returns c =
-    let if1 = c .before .before .before .before .if1 in
-    let wide = c .before .before .wide in
+    let if1 = c .before .before .before .before .before .if1 in
+    let wide = c .before .before .before .wide in
+    let signed-at = c .before .before .signed-at in
     rw (
       le-leb _ _ (if1 .taken),
-      kept (c .before .signed-at .result) (c .before .signed-at .ok),
+      kept (signed-at .result) (signed-at .ok),
       kept
-          (c .signed-at2 .result) (c .signed-at2 .ok),
+          (c .before .signed-at2 .result) (c .before .signed-at2 .ok),
       wide .ensures .0,
-      c .before .signed-at .ensures,
-      c .signed-at2 .ensures,
+      signed-at .ensures,
+      c .before .signed-at2 .ensures,
+      c .unit-at .ensures,
     )
 
 returns-2 : tie.Need-returns-2
@@ -30,6 +32,8 @@ range-at-spec =
     (tie.spec
     (λ c. search needs)
     (λ c. search needs)
+    (λ c. search needs)
+    (λ c κs. search needs)
     (λ c. search needs)
     (λ c κs. search needs)
     (λ c. search needs)

@@ -27,8 +27,8 @@ returns-4 c =
 returns-5 : tie.Need-returns-5
 unfolding typingAt
 returns-5 c =
-    let if1 = c .before .before .before .before .before .if1 in
-    rw (lt-ltb _ _ (if1 .left), c .if5 .taken)
+    let if1 = c .before .before .before .before .before .before .if1 in
+    rw (lt-ltb _ _ (if1 .left), c .before .if5 .taken, c .unit-at .ensures)
 
 returns-6 : tie.Need-returns-6
 unfolding typingAt
@@ -65,6 +65,8 @@ typing-at-spec =
     returns-3
     (λ c κs. search needs)
     returns-4
+    (λ c. search needs)
+    (λ c κs. search needs)
     returns-5
     returns-6
     returns-7)

@@ -12,7 +12,7 @@ returns-2 : tie.Need-returns-2
 returns-2 c = λ n. type-text true (c .before .if2 .taken) (c .text-type2 .ensures true (c .before .if2 .taken) refl)
 
 returns-3 : tie.Need-returns-3
-returns-3 c = λ n. type-numeric (c .before .if3 .taken) (c .expect .ensures)
+returns-3 c = λ n. type-numeric (c .before .if3 .taken) (c .numeric-type .ensures)
 
 returns-4 : tie.Need-returns-4
 returns-4 c =

@@ -13,11 +13,13 @@ number-requires-2 c κs =
 
 returns : tie.Need-returns
 returns c =
-    let expect = c .before .before .before .before .expect in
-    let expect2 = c .before .before .before .expect2 in
-    let number = c .before .before .number in
-    range-reads (expect .ensures) (expect2 .ensures) (c .expect3 .ensures)
-    (number .ensures) (c .before .number2 .ensures)
+    let expect = c .before .before .before .before .before .before .expect in
+    let expect2 = c .before .before .before .before .before .expect2 in
+    let number = c .before .before .before .before .number in
+    let number2 = c .before .before .before .number2 in
+    let expect3 = c .before .before .expect3 in
+    range-reads (expect .ensures) (expect2 .ensures) (expect3 .ensures)
+    (number .ensures) (number2 .ensures) (c .before .read-unit-reference .ensures)
 
 pub range-type-spec : {M : Type 1} → statement M
 range-type-spec =
@@ -27,5 +29,6 @@ range-type-spec =
     (λ c κs. search needs)
     (λ c κs. search needs)
     number-requires-2
+    (λ c κs. search needs)
     (λ c κs. search needs)
     returns)

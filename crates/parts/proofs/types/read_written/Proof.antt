@@ -18,14 +18,16 @@ returns c =
     let if1 = c .before .before .before .before .before .before .if1 in
     let expect = c .before .before .before .before .before .expect in
     let after-mandatory = c .before .before .before .after-mandatory in
-    with-mandatory (s .args .based) (s .args .or-reference) (if1 .taken) (expect .ensures) (after-mandatory .ensures)
+    rw (c .with-place .ensures)
+    (with-mandatory (s .args .based) (s .args .or-reference) (if1 .taken) (expect .ensures) (after-mandatory .ensures))
 
 returns-2 : tie.Need-returns-2
 returns-2 c =
     let s = c .before .before .before .before .before .before .before .before .before in
     let if1 = c .before .before .before .before .before .if1 in
     let type-by = c .before .before .before .type-by in
-    not-mandatory (s .args .based) (s .args .or-reference) (if1 .left) (type-by .ensures)
+    rw (c .with-place2 .ensures)
+    (not-mandatory (s .args .based) (s .args .or-reference) (if1 .left) (type-by .ensures))
 
 pub read-written-spec : {M : Type 1} → statement M
 read-written-spec =
@@ -33,8 +35,10 @@ read-written-spec =
     (tie.spec
     (λ c κs. search needs)
     after-mandatory-requires
+    (λ c κs. search needs)
     (λ c. search needs)
     returns
+    (λ c κs. search needs)
     (λ c κs. search needs)
     (λ c. search needs)
     returns-2)

@@ -1,5 +1,5 @@
 use Rattle.parts.proofs.TypeLaws.{number-stands, no-length, not-number, not-whole, long-length, good-length}
-use mathlib.Core.Path.{sym, _∙_}
+use mathlib.Core.Path.{refl, sym, _∙_}
 use borrow.Author.Needs.{needs}
 use Rattle.parts.proofs.types.text_length.Statement.{statement}
 use Rattle.parts.proofs.types.text_length.Tie as tie
@@ -13,27 +13,36 @@ returns : tie.Need-returns
 returns c =
     let if1 = c .before .before .before .before .before .before .if1 in
     let whole-number = c .before .before .before .before .before .whole-number in
-    let w = c .before .before .before .w in
-    λ m q.
-    long-length m (if1 .taken) (sym (whole-number .ensures) ∙ w .given .1) (c .before .if2 .taken) (c .faulty .ensures)
+    let w = c .before .before .before .w in (
+      λ m q.
+          long-length m (if1 .taken) (sym (whole-number .ensures) ∙ w .given .1)
+          (c .before .if2 .taken) (c .faulty .ensures),
+      refl,
+    )
 
 returns-2 : tie.Need-returns-2
 returns-2 c =
     let if1 = c .before .before .before .before .before .before .if1 in
     let whole-number = c .before .before .before .before .before .whole-number in
-    let w = c .before .before .before .w in
-    λ m q. rw q
-    (good-length m (if1 .taken) (sym (whole-number .ensures) ∙ w .given .1) (c .before .if2 .left) (c .expect .ensures))
+    let w = c .before .before .before .w in (
+      λ m q. rw q
+          (good-length m (if1 .taken) (sym (whole-number .ensures) ∙ w .given .1)
+          (c .before .if2 .left) (c .expect .ensures)),
+      refl,
+    )
 
 returns-3 : tie.Need-returns-3
 returns-3 c =
     let if1 = c .before .before .before .before .if1 in
-    let whole-number = c .before .before .before .whole-number in
-    λ m q. no-length m (not-whole (if1 .taken) (sym (whole-number .ensures) ∙ c .before .enum-told .given .1))
-    (c .faulty2 .ensures)
+    let whole-number = c .before .before .before .whole-number in (
+      λ m q. no-length m (not-whole (if1 .taken) (sym (whole-number .ensures) ∙ c .before .enum-told .given .1))
+          (c .no-length .ensures .0),
+      c .no-length .ensures .1,
+    )
 
 returns-4 : tie.Need-returns-4
-returns-4 c = λ m q. no-length m (not-number (c .before .if1 .left)) (c .faulty3 .ensures)
+returns-4 c =
+    (λ m q. no-length m (not-number (c .before .if1 .left)) (c .no-length2 .ensures .0), c .no-length2 .ensures .1)
 
 pub text-length-spec : {M : Type 1} → statement M
 text-length-spec =

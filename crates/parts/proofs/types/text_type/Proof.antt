@@ -17,7 +17,8 @@ returns : tie.Need-returns
 returns c =
     let expect = c .before .before .before .before .expect in
     let if1 = c .before .before .if1 in
-    λ m k q. text-limited m k (expect .ensures) (if1 .taken) (c .before .expect2 .ensures) (c .text-length .ensures m q)
+    λ m k q. text-limited m k (expect .ensures) (if1 .taken) (c .before .expect2 .ensures)
+    (c .text-length .ensures .0 m q) (c .text-length .ensures .1)
 
 returns-2 : tie.Need-returns-2
 returns-2 c = λ m k q. text-free m k (c .before .before .expect .ensures) q (c .if1 .left)

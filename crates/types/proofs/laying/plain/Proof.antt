@@ -8,7 +8,7 @@ use Rattle.types.proofs.laying.plain.Tie as tie
 cast-range-record : tie.Need-cast-range-record
 cast-range-record c =
     let s = c .before .before .before .before in
-    record { fits = omega (arith, sized-range _ _ _ (s .pre .0) (c .before .x2 .given .1)) }
+    record { fits = omega (arith, sized-range _ _ _ _ (s .pre .0) (c .before .x2 .given .1)) }
 
 returns : tie.Need-returns
 returns c =
@@ -22,25 +22,25 @@ returns-2 c =
     let start = c .before .before .before .before .before .before .before .before .before .before in
     let x2 = c .before .before .before .before .before .before .before .x2 in
     let range-record = c .before .before .before .before .before .range-record in
-    let put-record2 = c .before .before .put-record2 in
-    let s = sized-range _ _ _ (start .pre .0) (x2 .given .1) in
-    rw (x2 .given .1) (rw (range-record .ensures, held-small _ (s .1), held-small _ (s .2)) at (put-record2 .ensures))
+    let put-number = c .before .before .put-number in
+    let s = sized-range _ _ _ _ (start .pre .0) (x2 .given .1) in
+    rw (x2 .given .1) (rw (range-record .ensures, held-small _ (s .1), held-small _ (s .2)) at (put-number .ensures))
 
 returns-3 : tie.Need-returns-3
 returns-3 c =
-    let enum-told = c .before .before .before .before .before .enum-told in
-    let put-record3 = c .before .before .put-record3 in
-    rw (enum-told .given .1) (put-record3 .ensures)
+    let x3 = c .before .before .before .before .before .before .x3 in
+    let put-number2 = c .before .before .put-number2 in
+    rw (x3 .given .1) (put-number2 .ensures)
 
 returns-4 : tie.Need-returns-4
 returns-4 c =
     let args = c .before .before .before .args in
-    rw (c .enum-told2 .given .1) (nothing-laid (args .out .now) (args .at))
+    rw (c .enum-told .given .1) (nothing-laid (args .out .now) (args .at))
 
 returns-5 : tie.Need-returns-5
 returns-5 c =
     let args = c .before .before .before .args in
-    rw (c .enum-told3 .given .1) (nothing-laid (args .out .now) (args .at))
+    rw (c .enum-told2 .given .1) (nothing-laid (args .out .now) (args .at))
 
 pub plain-spec : {M : Type 1} → statement M
 plain-spec =
