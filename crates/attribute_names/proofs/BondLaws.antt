@@ -31,7 +31,7 @@ use Rattle.state.specs.Keeping.{Keeps, OpenIs}
 use Rattle.state.specs.Targets.{targetRules}
 use Rattle.state.proofs.KeepLaws.{open-fair}
 use Rattle.attribute_names.specs.Stages.{nameRules, referenceRules, rulesTo11}
-use Rattle.attribute_names.specs.Facts.{Given, LeadsTo, Refers, Reaches, referencesIn, Within, BondsAre}
+use Rattle.attribute_names.specs.Facts.{Given, PointsTo, Refers, Reaches, referencesIn, Within, BondsAre}
 use Rattle.attribute_names.specs.declared.Bonds.{Bonds}
 use Rattle.attribute_names.proofs.GivenLaws.{at-name, is-extended, is-meant, is-reference, name-bytes}
 
@@ -134,7 +134,7 @@ refers-is p x f w g h e =
   where
     go : (m : Sort → Bool) (r : Option Reference) (g : Option Def) → (r ≡ none → g ≡ none)
         → ((isFound r && not (isFound g)) ≡ false) × ((isFound g && not (m (J.orNoDef g .sort))) ≡ false)
-        → LeadsTo m r g
+        → PointsTo m r g
     go m none g h q = h refl
     go m (some r) none h q = let z : _≡_ {A = ℕ} 0 1 = let k = q .0 in cc in absurd (omega arith)
     go m (some r) (some d) h q = (d, refl, not-fails (q .1))

@@ -32,14 +32,14 @@ pub record Given (t : List ℕ) (n : R.Name) (p : List (List ℕ)) (w : G.Writte
   pub fair : FairWritten t (isExtended p) w
   pub scratched : Scratched t rs (w .type)
 
--- a reference leads to a definition of some sorts
-abbrev pub LeadsTo : (Sort → Bool) → Option Reference → Option Def → Type 0
-LeadsTo p none g = g ≡ none
-LeadsTo p (some r) g = (d : Def) × (g ≡ some d) × (p (d .sort) ≡ true)
+-- a reference, if there is one, points to a definition of the sorts p
+abbrev pub PointsTo : (Sort → Bool) → Option Reference → Option Def → Type 0
+PointsTo p none g = g ≡ none
+PointsTo p (some r) g = (d : Def) × (g ≡ some d) × (p (d .sort) ≡ true)
 
 -- what the reference in a type leads to if it breaks neither 10 nor 11: a domain or structure that is named, or a unit
 abbrev pub Refers : Option WrittenType → Option Def → Type 0
-Refers w g = LeadsTo (mayStandIn w) (referenceIn w) g
+Refers w g = PointsTo (mayStandIn w) (referenceIn w) g
 
 -- 4 and 9 of the name, and its slot in the open class c
 pub record SlotIs (s : State) (c : Def) (n : R.Name) (extended : Bool) (hs : List ℕ)

@@ -1,5 +1,7 @@
 // The name of an attribute and what it refers to: 4 by count, 9, 10 and 11.
 use ground::Ruling;
+use ground::broken;
+use ground::fine;
 use members::MOST;
 use parts::types::Written;
 use state::State;
@@ -44,22 +46,6 @@ pub struct Bonds {
     pub slot: usize,
     pub base: usize,
     pub target: usize,
-}
-
-// ---- rulings
-pub fn fine() -> Ruling
-    ensures { λ r. ⌜ r ≡ record { number = 0; place = 0 } ⌝ }
-{
-    Ruling {
-        number: 0,
-        place: 0,
-    }
-}
-
-pub fn broken(number: u8, place: usize) -> Ruling
-    ensures { λ r. ⌜ r ≡ record { number = number; place = place } ⌝ }
-{
-    Ruling { number, place }
 }
 
 // ---- 4 and 9 of the name

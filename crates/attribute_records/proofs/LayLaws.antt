@@ -15,7 +15,7 @@ use Rattle.wellformed.proofs.TypeLaws.{sort-domain}
 use Rattle.rules.specs.Grammar as G
 use Rattle.rules.specs.Grammar.{WrittenType}
 use Rattle.rules.specs.Types as T
-use Rattle.rules.specs.Types.{Ty, kindOf, fits, unitsFit}
+use Rattle.rules.specs.Types.{Ty, kindOf, fits, keepsUnit}
 use Rattle.rules.specs.Declarations.{Use, inline, ofDomain, ofStructure, tyOf, linkOf, Attribute, Def, isSort, domain}
 use Rattle.rules.specs.Declarations.{isFound, sortNumber}
 use Rattle.rules.specs.Book.{Record, lowFirst, bytes, typeRecords, useRecords}
@@ -272,8 +272,8 @@ rules-on (r ∷ l) m m' e = ap (cond (r .broken) (record { number = r .number; p
 -- 18 is for what is named
 last-rules : (p : ℕ) (f : Bool) (x y : Ty)
     → rulingOf (kindRule p f x y ∷ rule 17 p (f && not (fits x y)) ∷ rule 18 p (f && false)
-    ∷ rule 22 p (f && not (unitsFit x y)) ∷ [])
-    ≡ rulingOf (kindRule p f x y ∷ rule 17 p (f && not (fits x y)) ∷ rule 22 p (f && not (unitsFit x y)) ∷ [])
+    ∷ rule 22 p (f && not (keepsUnit x y)) ∷ [])
+    ≡ rulingOf (kindRule p f x y ∷ rule 17 p (f && not (fits x y)) ∷ rule 22 p (f && not (keepsUnit x y)) ∷ [])
 last-rules p true x y = refl
 last-rules p false x y = refl
 
@@ -380,8 +380,8 @@ module _ {t b : List ℕ} {ks : List Def} {ms : List Attribute} {x : List ℕ} {
     pub valued-own : Valued (domainType v (entry ks target) (tyOf kept)) (over .own)
     valued-own = subst (λ (c : Ty). Valued c (over .own)) own-is (l .valued)
 
-    pub keeps-own : over .keeps ≡ unitsFit (domainType v (entry ks target) (tyOf kept)) (tyOf kept)
-    keeps-own = l .keeps in-place-here ∙ ap (λ (c : Ty). unitsFit c (tyOf kept)) own-is
+    pub keeps-own : over .keeps ≡ keepsUnit (domainType v (entry ks target) (tyOf kept)) (tyOf kept)
+    keeps-own = l .keeps in-place-here ∙ ap (λ (c : Ty). keepsUnit c (tyOf kept)) own-is
 
     abbrev rules : List Rule
     rules = writtenRules (over .based) (w .place) v (entry ks target) (tyOf kept)

@@ -6,7 +6,7 @@ use mathlib.Core.List.{List}
 use Prim.Native.Nat.{ℕ, _≤_, _<_}
 use lib.Dec.{ltb}
 use Rattle.rules.specs.Grammar.{WrittenType}
-use Rattle.rules.specs.Types.{unitsFit}
+use Rattle.rules.specs.Types.{keepsUnit}
 use Rattle.rules.specs.Declarations.{tyOf, Attribute, Def, isFound}
 use Rattle.rules.specs.Book.{useRecords}
 use Rattle.rules.specs.Judge.{attributeUse, isNaming, orNoAttribute}
@@ -46,7 +46,7 @@ pub record Lays (t b : List ℕ) (ks : List Def) (ms : List Attribute) (x : List
   pub typed-named : 0 < named
       → Typed t b (tyOf (attributeUse v (entry ks target) (orNoAttribute (entry ms base) .use-of))) (over .own)
   pub keeps : isNaming v ≡ false → over .keeps
-      ≡ unitsFit (tyOf (attributeUse v (entry ks target) (orNoAttribute (entry ms base) .use-of)))
+      ≡ keepsUnit (tyOf (attributeUse v (entry ks target) (orNoAttribute (entry ms base) .use-of)))
       (tyOf (orNoAttribute (entry ms base) .use-of))
 
 -- the rule of 14 to 18 and 22 that is broken, or the records at the place i; the type's reference leads to g, o is the

@@ -1,9 +1,9 @@
 // 14 to 18 and 22 of what types an attribute, and its records behind room for the head.
-use attribute_names::broken;
-use attribute_names::fine;
 use attribute_types::Uses;
 use enumerations::Size;
 use ground::Ruling;
+use ground::broken;
+use ground::fine;
 use parts::types::Meant;
 use state::State;
 use units::AttributeUnit;
@@ -118,10 +118,10 @@ fn named_kind(index: &[u16], p: usize) -> u8
     ensures { λ r. ⌜ ((t : List ℕ) (d : Def) → Says t d (row definitionWidth (now (index .entry)) p)
         → r ≡ cond (isSort domain (d .sort)) 17 12) ⌝ }
 {
-    if names::sort_of(index, p) == 3 {
-        return 17;
+    if names::sort_of(index, p) == ground::sorts::DOMAIN {
+        return book::kinds::NAMED_DOMAIN;
     }
-    12
+    book::kinds::NAMED_STRUCTURE
 }
 
 // The record of an attribute that names the definition at a position.

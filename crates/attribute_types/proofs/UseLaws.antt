@@ -34,7 +34,7 @@ use Rattle.members.proofs.HeldLaws.{use-named}
 use Rattle.rules.specs.All.{AnyIs}
 use Rattle.wellformed.specs.Fairness.{FairType, Fair, FairUse, FairDef, UnitIn, NamesAll}
 use Rattle.ground.specs.Rulings.{rulingOf}
-use Rattle.fitting.specs.Values.{Valued, Typed, Sized, Numbered, FairOrNone}
+use Rattle.fitting.specs.Values.{Valued, Typed, Sized, UnitNumbered, FairOrNone}
 use Rattle.fitting.specs.declared.Typing.{Typing}
 use Rattle.fitting.specs.declared.Typing.the-variants.{Structure}
 use Rattle.fitting.proofs.ValueLaws.{sized-base, fair-or-none}
@@ -124,7 +124,7 @@ module _ (t b : List ℕ) (ks : List Def) (ms : List Attribute) (x : List ℕ) (
     same-sort = es t d (r .held .def-rows p d e .says)
 
     pub named-domain : s ≡ 3 → (at : ℕ) → at ≡ getD (row definitionWidth x p) 6 0 → (c : Typing)
-        → ((u : List ℕ) (i : Record) (v : Ty) → length i ≡ headSize → Fair u v → Numbered v
+        → ((u : List ℕ) (i : Record) (v : Ty) → length i ≡ headSize → Fair u v → UnitNumbered v
         → Stands b at (i ∷ typeRecords v) → Typed u b v c) → Typed t b (tyOf (naming d)) c
     named-domain h at ea c g =
         let k : isSort domain (d .sort) ≡ true = is-domain s (d .sort) same-sort h in
@@ -150,7 +150,7 @@ module _ (t b : List ℕ) (ks : List Def) (ms : List Attribute) (x : List ℕ) (
     head a = headRecord 6 (a .name) (flags false (a .final) (a .extended) (a .mandatory)) (numberOr (a .base))
 
     pub type-in-place : u ≡ 0 → (at : ℕ) → at ≡ getD (row attributeWidth y q) 3 0 → (c : Typing)
-        → ((i : List ℕ) (j : Record) (v : Ty) → length j ≡ headSize → Fair i v → Numbered v
+        → ((i : List ℕ) (j : Record) (v : Ty) → length j ≡ headSize → Fair i v → UnitNumbered v
         → Stands b at (j ∷ typeRecords v) → Typed i b v c) → Typed t b (tyOf (orNoAttribute (entry ms q) .use-of)) c
     type-in-place o at ea c g =
         let (a, p, k) = here in

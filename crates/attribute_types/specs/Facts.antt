@@ -6,14 +6,14 @@ use mathlib.Core.List.{List}
 use Prim.Native.Nat.{ℕ, _≤_, _<_}
 use lib.Dec.{ltb}
 use Rattle.rules.specs.Grammar.{WrittenType}
-use Rattle.rules.specs.Types.{Ty, unitsFit}
+use Rattle.rules.specs.Types.{Ty, keepsUnit}
 use Rattle.rules.specs.Declarations.{tyOf, Attribute, Def, domain}
 use Rattle.rules.specs.Judge.{attributeUse, isNaming, orNoAttribute}
 use Rattle.names.specs.Index.{entry}
 use Rattle.members.specs.Held.{Held, useFor}
 use Rattle.wellformed.specs.Fairness.{Fair, FairUse, UnitIn, Rising}
 use Rattle.ground.specs.Rulings.{rulingOf}
-use Rattle.fitting.specs.Values.{Valued, Typed, Sized, Numbered}
+use Rattle.fitting.specs.Values.{Valued, Typed, Sized, UnitNumbered}
 use Rattle.attribute_names.specs.declared.Bonds.{Bonds}
 use Rattle.attribute_types.specs.Stages.{headRules}
 use Rattle.attribute_types.specs.declared.Uses.{Uses}
@@ -28,7 +28,7 @@ pub record Ready (t b : List ℕ) (ks : List Def) (ms : List Attribute) (x : Lis
   pub uses : (q : ℕ) (a : Attribute) → entry ms q ≡ some a → FairUse t (a .use-of)
   pub type-units : (p : ℕ) (d : Def) → entry ks p ≡ some d → UnitIn ks (d .type)
   pub use-units : (q : ℕ) (a : Attribute) → entry ms q ≡ some a → UnitIn ks (tyOf (a .use-of))
-  pub numbered : (x : Ty) → UnitIn ks x → Numbered x
+  pub numbered : (x : Ty) → UnitIn ks x → UnitNumbered x
   pub rising : Rising ks
 
 -- what types an attribute of the bonds b, where there are so many definitions
@@ -52,6 +52,6 @@ pub record TypingsAre (t b : List ℕ) (ks : List Def) (p : ℕ) (twice : Bool) 
   pub typed-named : 0 < r .uses .named
       → Typed t b (tyOf (attributeUse w (entry ks target) (orNoAttribute o .use-of))) (r .uses .over .own)
   pub keeps : isNaming w ≡ false → r .uses .over .keeps
-      ≡ unitsFit (tyOf (attributeUse w (entry ks target) (orNoAttribute o .use-of))) (tyOf (orNoAttribute o .use-of))
+      ≡ keepsUnit (tyOf (attributeUse w (entry ks target) (orNoAttribute o .use-of))) (tyOf (orNoAttribute o .use-of))
   pub sized-own : Sized (r .uses .over .own)
   pub sized-base : Sized (r .uses .over .base)

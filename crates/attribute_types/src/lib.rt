@@ -1,9 +1,10 @@
 // What types an attribute and its base; 12 and 13.
 use attribute_names::Bonds;
-use attribute_names::broken;
-use attribute_names::fine;
 use fitting::Typing;
 use ground::Ruling;
+use ground::broken;
+use ground::fine;
+use ground::sorts;
 use parts::types::Meant;
 use state::State;
 use types::Over;
@@ -70,7 +71,7 @@ fn named_type(front: &[u8], index: &[u16], p: usize) -> Typing
         → Ready t (now (front .entry)) ks ms (now (index .entry)) count y total → entry ks p ≡ some d
         → Typed t (now (front .entry)) (tyOf (naming d)) r) ⌝ }
 {
-    if names::sort_of(index, p) == 3 {
+    if names::sort_of(index, p) == sorts::DOMAIN {
         return fitting::type_behind(front, names::place_of(index, p));
     }
     Typing::Structure
@@ -149,7 +150,7 @@ fn is_abstract_domain(index: &[u16], p: usize) -> bool
     if p == 0 {
         return false;
     }
-    if names::sort_of(index, p) == 3 {
+    if names::sort_of(index, p) == sorts::DOMAIN {
         return names::is_abstract(names::flags_of(index, p));
     }
     false

@@ -289,5 +289,5 @@ module _ {t : List ℕ} {s : State} {st : code.State} {b b₁ x z y hs rs : List
             memberBy st (headSize + size .bytes) (1 + size .records) k,
             er,
             m,
-            record { by-one = omega arith; layout-stays = refl },
+            refl,
           )

@@ -120,7 +120,13 @@ fn put_head(
     let c = st.listing.layout.chains;
     let m = is_mandatory(&work[i..e], &work[e..c], w.mandatory, b.base, b.target);
     let f = state::flags(false, p.is_final, p.extended, m);
-    let head = book::head_record(6, name.offset, name.len, f, base_number(hand, b.slot));
+    let head = book::head_record(
+        book::kinds::ATTRIBUTE,
+        name.offset,
+        name.len,
+        f,
+        base_number(hand, b.slot),
+    );
     ground::put(book, st.extent.used, &head);
     f
 }

@@ -17,16 +17,20 @@ ghost use Rattle.answers.specs.Packing.{packed, packedPart};
 
 const HAND: usize = members::MOST + members::MOST;
 
-// Texts to so many bytes, with a buffer of so many.
+// Texts to so many bytes, with a buffer of so many: there is room in it for so many definitions, or so many attributes.
 const SMALL: usize = 1024;
 
 const SMALL_BOOK: usize = 4096;
 
-const SMALL_ROWS: usize = (SMALL + 3) * names::WIDTH;
+const SMALL_ROWS: usize = (SMALL_BOOK / book::TOPIC_SIZE + 3) * names::WIDTH;
 
-const SMALL_CHAINS: usize = SMALL_ROWS + (SMALL + 2) * members::WIDTH;
+const SMALL_CHAINS: usize = SMALL_ROWS + (SMALL_BOOK / book::HEAD_SIZE + 2) * members::WIDTH;
 
-const SMALL_END: usize = SMALL_CHAINS + names::KEYS + names::KEYS + SMALL + 3;
+const SMALL_END: usize = SMALL_CHAINS
+    + names::KEYS
+    + names::KEYS
+    + SMALL_BOOK / book::TOPIC_SIZE
+    + 3;
 
 fn check_small(text: &[u8], book: &mut [u8]) -> Answer
     requires { ⌜ length (now text) ≤ 1024 ⌝ }
@@ -59,11 +63,15 @@ const MEDIUM: usize = 5120;
 
 const MEDIUM_BOOK: usize = 16384;
 
-const MEDIUM_ROWS: usize = (MEDIUM + 3) * names::WIDTH;
+const MEDIUM_ROWS: usize = (MEDIUM_BOOK / book::TOPIC_SIZE + 3) * names::WIDTH;
 
-const MEDIUM_CHAINS: usize = MEDIUM_ROWS + (MEDIUM + 2) * members::WIDTH;
+const MEDIUM_CHAINS: usize = MEDIUM_ROWS + (MEDIUM_BOOK / book::HEAD_SIZE + 2) * members::WIDTH;
 
-const MEDIUM_END: usize = MEDIUM_CHAINS + names::KEYS + names::KEYS + MEDIUM + 3;
+const MEDIUM_END: usize = MEDIUM_CHAINS
+    + names::KEYS
+    + names::KEYS
+    + MEDIUM_BOOK / book::TOPIC_SIZE
+    + 3;
 
 fn check_medium(text: &[u8], book: &mut [u8]) -> Answer
     requires { ⌜ length (now text) ≤ 5120 ⌝ }
@@ -92,7 +100,7 @@ fn check_medium(text: &[u8], book: &mut [u8]) -> Answer
     )
 }
 
-// All texts: a book of that many bytes has room for so many definitions, or so many attributes.
+// All texts, and all books.
 const LARGE: usize = 65535;
 
 const LARGE_ROWS: usize = (LARGE / book::TOPIC_SIZE + 3) * names::WIDTH;

@@ -1,4 +1,6 @@
-// The book: sizes of records, where a record begins, the name that it shows, the bytes of new records.
+// The book: kinds and sizes of records, where a record begins, the name that it shows, the bytes of new records.
+pub mod kinds;
+
 ghost use mathlib.Core.Path.{_≡_};
 ghost use Prim.Native.Nat.{_+_, _≤_};
 ghost use lib.ListN.{length};
@@ -230,15 +232,13 @@ pub fn head_record(kind: u8, offset: usize, len: usize, flags: u8, base: usize) 
     ]
 }
 
-const RANGE: u8 = 10;
-
 pub fn range_record(decimals: u8, low: i64, high: i64) -> [u8; RANGE_SIZE]
     ensures { λ r. ⌜ r ≡ rangeForm decimals low high ⌝ }
 {
     let l = ground::low8(low);
     let h = ground::low8(high);
     [
-        RANGE,
+        kinds::RANGE,
         decimals,
         l[0],
         l[1],

@@ -14,15 +14,15 @@ use Rattle.rules.specs.Names.{Name}
 use Rattle.rules.specs.Grammar as G
 use Rattle.rules.specs.Grammar.{Reference, WrittenType, Written}
 use Rattle.rules.specs.Units as U
-use Rattle.rules.specs.Types.{Ty, kindOf, unitOf, fits, unitsFit}
+use Rattle.rules.specs.Types.{Ty, kindOf, unitOf, fits, keepsUnit}
 use Rattle.rules.specs.Declarations.{Use, inline, ofDomain, ofStructure, tyOf, Attribute, unit, Def, isFound, State}
 use Rattle.rules.specs.Declarations.{known}
 use Rattle.rules.specs.Book.{book}
 use Rattle.rules.specs.Judge as J
 use Rattle.rules.specs.Judge.{Rule, Judged, ok, refused, firstBrokenOr, orNoAttribute, resolved, referenceIn, isNaming}
 use Rattle.rules.specs.Judge.{descends, elementRule, typeRules, extendsRules, classRules, domainTo16, domain17}
-use Rattle.rules.specs.Judge.{domain22}
-use Rattle.rules.specs.Judge.{domainRules, newAttribute, attributeTo16, attribute17, attribute18, attribute22}
+use Rattle.rules.specs.Judge.{targetIn, domain22, domainRules, newAttribute, attributeTo16, attribute17, attribute18}
+use Rattle.rules.specs.Judge.{attribute22}
 use Rattle.rules.specs.Judge.{attributeRules, inheritedAs, memberRules, openName, judge}
 use Rattle.rules.specs.Check.{Given, unitPlace, capacity, room, answerOf, check}
 use Rattle.rules.specs.All.{All, AnyIs, In, first, later, Unbroken}
@@ -32,7 +32,7 @@ use Rattle.claims.specs.Readings.{proper, Outside, NumberOutside, UnitOu
 use Rattle.claims.specs.Steps.{Inherits}
 use Rattle.claims.specs.Ranking.{rank, RuleBroken}
 use Rattle.claims.specs.Reached.{Judges}
-use Rattle.claims.specs.Demand3.{targetIn, typeOver, useOver, AcceptedReads, Extends, Misfit, RefusedHasNumber}
+use Rattle.claims.specs.Demand3.{typeOver, useOver, AcceptedReads, Extends, Misfit, RefusedHasNumber}
 use Rattle.claims.specs.Demand3.{RefusedHasUnit, RefusedThere, ValueRefuses, NumberRefuses, Demand3}
 use Rattle.claims.proofs.TypeLaws.{inside, number-inside, number-outside, unit-outside, misnumbered, mismeasured}
 use Rattle.claims.proofs.TypeLaws.{units-kept}
@@ -102,14 +102,14 @@ Seen S t b = proper t ≡ true → kindOf t ≡ kindOf b → Outside t b × S t 
 by-number : (t b : Ty) → fits t b ≡ false → Seen NumberOutside t b
 by-number t b f o k = let x = misnumbered t b o k f in (number-outside t b x, x)
 
-by-unit : (t b : Ty) → unitsFit t b ≡ false → Seen UnitOutside t b
+by-unit : (t b : Ty) → keepsUnit t b ≡ false → Seen UnitOutside t b
 by-unit t b f o k = let x = mismeasured t b o k f in (unit-outside t b x, x)
 
 -- of types that are t and b
 moved : (S : Ty → Ty → Type 0) {x y : Ty} (t b : Ty) → x ≡ t → y ≡ b → S x y → S t b
 moved S {x} {y} t b d e v = subst (λ (z : Ty). S t z) e (subst (λ (z : Ty). S z y) d v)
 
-outside-fails : (t b : Ty) → Outside t b → (fits t b ≡ false) ⊎ (unitsFit t b ≡ false)
+outside-fails : (t b : Ty) → Outside t b → (fits t b ≡ false) ⊎ (keepsUnit t b ≡ false)
 outside-fails t b (v, p, q) =
     either-fails (is-false (λ f. not-both (inside t b (split f .0) (split {x = fits t b} f .1) v p) q))
 
@@ -187,7 +187,7 @@ module _ (s : State) (n : Name) (p : List (List ℕ)) (b : Option Reference) (w 
       → Refuses 19 (firstBrokenOr (domainRules s n p b w (some d) (targetIn s w)) t)
   domain-outside d t v = which (outside-fails (typeOver s w (d .type)) (d .type) v)
     where
-      which : (fits (typeOver s w (d .type)) (d .type) ≡ false) ⊎ (unitsFit (typeOver s w (d .type)) (d .type) ≡ false)
+      which : (fits (typeOver s w (d .type)) (d .type) ≡ false) ⊎ (keepsUnit (typeOver s w (d .type)) (d .type) ≡ false)
           → Refuses 19 (firstBrokenOr (domainRules s n p b w (some d) (targetIn s w)) t)
       which (inl j) = domain-refuses (some d) t (numberRule (some d)) first (not-false j)
       which (inr j) = domain-refuses (some d) t (unitRule (some d)) (later first) (not-false j)
@@ -293,7 +293,7 @@ module _ (s : State) (c : Def) (n : Name) (p : List (List ℕ)) (w : Written) wh
       let r = attribute-came-22 (some a) t q z in
       let u = useOver s w a in
       let x : (not (isNaming (w .type)) ≡ true)
-      × (not (unitsFit (tyOf u) (tyOf (a .use-of))) ≡ true) = split (r .1) in
+      × (not (keepsUnit (tyOf u) (tyOf (a .use-of))) ≡ true) = split (r .1) in
       attribute-step UnitOutside a sound e f (r .0)
       (fail-l {x = isNaming (w .type)} (descends u (a .use-of)) (not-is (x .0)))
       (by-unit _ _ (not-is (x .1)))
@@ -301,7 +301,7 @@ module _ (s : State) (c : Def) (n : Name) (p : List (List ℕ)) (w : Written) wh
   -- 17, or of a type in place 22, or of another domain 18
   attribute-fails : (a : Attribute) (t : State) → (isNaming (w .type) && descends (useOver s w a) (a .use-of)) ≡ false
       → (fits (tyOf (useOver s w a)) (tyOf (a .use-of)) ≡ false)
-      ⊎ (unitsFit (tyOf (useOver s w a)) (tyOf (a .use-of)) ≡ false)
+      ⊎ (keepsUnit (tyOf (useOver s w a)) (tyOf (a .use-of)) ≡ false)
       → Refuses 19 (firstBrokenOr (attributeRules s c n p w (some a) (targetIn s w)) t)
   attribute-fails a t m (inl j) =
       attribute-refuses (some a) t (fitOver (some a)) first (both (not-false m) (not-false j))

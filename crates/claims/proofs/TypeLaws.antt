@@ -17,7 +17,7 @@ use Rattle.rules.specs.Numbers.{Range, inRange}
 use Rattle.rules.specs.Texts.{within, oneLine, lengthFits, legalText}
 use Rattle.rules.specs.Enumerations.{Enum, Path, readPath, enumFits}
 use Rattle.rules.specs.Types.{Measure, unitFits, Ty, text, numeric, structure, enum, kindOf, unitOf, Value, string}
-use Rattle.rules.specs.Types.{number, path, inBounds, legal, somePath, reading, boundsFit, fits, unitsFit}
+use Rattle.rules.specs.Types.{number, path, inBounds, legal, somePath, reading, boundsFit, fits, keepsUnit}
 use Rattle.rules.proofs.AllLaws.{apart}
 use Rattle.rules.proofs.NumberLaws.{leZ-is, reading-same}
 use Rattle.rules.proofs.Tests.{never, both, split, fail-l, fail-r, not-both, either-fails, contra}
@@ -115,7 +115,7 @@ unit-read structure (string s) q = refl
 unit-read structure (number d v u) q = never q
 unit-read structure (path p) q = refl
 
-unit-inside : (t b : Ty) → unitsFit t b ≡ true → UnitInside t b
+unit-inside : (t b : Ty) → keepsUnit t b ≡ true → UnitInside t b
 unit-inside t b f v p = unit-onward (unitIn v) (unitOf t) (unitOf b) (unit-legal t v p) f
 
 -- number and unit together
@@ -130,7 +130,7 @@ both-read (enum e) (number d v u) h k = h
 both-read structure (number d v u) h k = h
 both-read b (path p) h k = h
 
-pub inside : (t b : Ty) → fits t b ≡ true → unitsFit t b ≡ true → Inside t b
+pub inside : (t b : Ty) → fits t b ≡ true → keepsUnit t b ≡ true → Inside t b
 inside t b f g v p = both-read b v (number-inside t b f v p) (unit-inside t b g v p)
 
 own-unit : (v : Value) → inUnit (unitIn v) v ≡ v
@@ -226,7 +226,7 @@ measure-shown : (r b : Option Range) (u w : Option Measure) → proper (numeric 
     → UnitOutside (numeric r u) (numeric b w)
 measure-shown r b u w o p = let (d, v, h) = legal-number r u o in (number d v u, both h (unit-itself u), refl, p)
 
-shown-22 : (t b : Ty) → proper t ≡ true → eqb (kindOf t) (kindOf b) ≡ true → unitsFit t b ≡ false → UnitOutside t b
+shown-22 : (t b : Ty) → proper t ≡ true → eqb (kindOf t) (kindOf b) ≡ true → keepsUnit t b ≡ false → UnitOutside t b
 shown-22 (text m n) (text k l) o e p = absurd (true≢false p)
 shown-22 (text m n) (numeric r w) o e p = absurd (text-kind m 3 refl e)
 shown-22 (text m n) (enum b) o e p = absurd (true≢false p)
@@ -249,7 +249,7 @@ module _ (t b : Ty) (o : proper t ≡ true) (k : kindOf t ≡ kindOf b) where
   pub misnumbered : fits t b ≡ false → NumberOutside t b
   misnumbered = shown-17 t b o (eq-eqb (kindOf t) (kindOf b) k)
 
-  pub mismeasured : unitsFit t b ≡ false → UnitOutside t b
+  pub mismeasured : keepsUnit t b ≡ false → UnitOutside t b
   mismeasured = shown-22 t b o (eq-eqb (kindOf t) (kindOf b) k)
 
 -- ---- the claims
@@ -259,15 +259,15 @@ says false f g n = ((f, λ a. absurd (n a (g refl))), (g, λ _. refl))
 
 pub types-judged : TypesJudged
 types-judged t b o k = record {
-  both = says (fits t b && unitsFit t b)
+  both = says (fits t b && keepsUnit t b)
       (λ h. inside t b (split {x = fits t b} h .0) (split {x = fits t b} h .1)) one-fails
       (λ h x. not-both (h (x .0) (x .1)) (x .2));
   by-17 = says (fits t b) (number-inside t b) (misnumbered t b o k)
       (λ h x. not-both (h (x .0) (x .1)) (x .3 (unitOf b)));
-  by-22 = says (unitsFit t b) (unit-inside t b) (mismeasured t b o k) (λ h x. not-both (h (x .0) (x .1)) (x .3));
+  by-22 = says (keepsUnit t b) (unit-inside t b) (mismeasured t b o k) (λ h x. not-both (h (x .0) (x .1)) (x .3));
 }
   where
-    one-fails : (fits t b && unitsFit t b) ≡ false → Outside t b
+    one-fails : (fits t b && keepsUnit t b) ≡ false → Outside t b
     one-fails e = ⊎-elim (λ f. number-outside t b (misnumbered t b o k f))
         (λ f. unit-outside t b (mismeasured t b o k f)) (either-fails e)
 

@@ -13,7 +13,7 @@ use Rattle.rules.specs.Enumerations.{fitsIn, enumFits, first, twice}
 use Rattle.rules.specs.Grammar as G
 use Rattle.rules.specs.Grammar.{Reference}
 use Rattle.rules.specs.Types.{Ty, text, numeric, structure, enum, kindOf, unitOf, Value, string, number, path, legal}
-use Rattle.rules.specs.Types.{somePath, reading, fits, unitsFit}
+use Rattle.rules.specs.Types.{somePath, reading, fits, keepsUnit}
 use Rattle.rules.specs.Declarations as D
 use Rattle.rules.specs.Declarations.{Use, inline, ofDomain, ofStructure, tyOf, Attribute, isSort, Def, attributesOf}
 use Rattle.rules.specs.Declarations.{attributeAt, isFound, nameCount, Decl, State, known, lookup, numberIn, topicName}
@@ -174,7 +174,7 @@ unit-of-unplaced (numeric r u) = refl
 unit-of-unplaced structure = refl
 unit-of-unplaced (enum e) = refl
 
-pub units-fit-unplaced : (t b : Ty) → unitsFit (unplacedTy t) (unplacedTy b) ≡ unitsFit t b
+pub units-fit-unplaced : (t b : Ty) → keepsUnit (unplacedTy t) (unplacedTy b) ≡ keepsUnit t b
 units-fit-unplaced t b = rw (unit-of-unplaced t, unit-of-unplaced b)
 
 pub ty-unplaced : (u : Use) → tyOf (unplacedUse u) ≡ unplacedTy (tyOf u)

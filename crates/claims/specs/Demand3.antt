@@ -4,7 +4,7 @@
 -- number is a Measure.
 use mathlib.Core.Path.{_≡_}
 use mathlib.Core.Bool.{false, _&&_}
-use mathlib.Core.Option.{Option, none, some}
+use mathlib.Core.Option.{none, some}
 use mathlib.Core.List.{List}
 use Prim.Native.Nat.{ℕ, _≤_}
 use Rattle.rules.specs.Grammar.{Written}
@@ -12,7 +12,7 @@ use Rattle.rules.specs.Units as U
 use Rattle.rules.specs.Types.{Ty, kindOf}
 use Rattle.rules.specs.Declarations.{Use, tyOf, Attribute, Def, State}
 use Rattle.rules.specs.Judge as J
-use Rattle.rules.specs.Judge.{judge, resolved, domainType, attributeUse, referenceIn, isNaming, descends}
+use Rattle.rules.specs.Judge.{judge, resolved, domainType, attributeUse, targetIn, isNaming, descends}
 use Rattle.rules.specs.Check.{Given, kept, run, accepting, refusing, check}
 use Rattle.claims.specs.Readings.{Outside, NumberOutside, UnitOutside, UnitsDescend, UnitsKept}
 use Rattle.claims.specs.Steps.{Inherits, EveryReading, BookedBases, RecordNumbers, UnitsDeclared}
@@ -33,11 +33,7 @@ pub record ModelReads (t : List ℕ) (g : Given) : Type 0 where
 abbrev pub AcceptedReads : Type 0
 AcceptedReads = (t : List ℕ) (g : Given) (n k : ℕ) → check t g .answer ≡ accepting n k → ModelReads t g
 
--- ---- what is written, read in the state s: what the reference in a type leads to, to its unit or in place of a type;
--- the type over a base's, b; and what types an attribute over its base a
-abbrev pub targetIn : State → Written → Option Def
-targetIn s w = resolved s (referenceIn (w .type))
-
+-- ---- what is written, read in the state s: the type over a base's, b; and what types an attribute over its base a
 abbrev pub typeOver : State → Written → Ty → Ty
 typeOver s w b = domainType (w .type) (targetIn s w) b
 
@@ -115,6 +111,6 @@ pub record Demand3 : Type 0 where
   pub refused-has-unit : RefusedHasUnit
   pub value-refuses : ValueRefuses
   pub number-refuses : NumberRefuses
-  -- units descend from one another as 22 asks, and a reading keeps its unit
+  -- units descend from one another as 22 asks, and reading a number leaves it in its unit
   pub descend : UnitsDescend
   pub unit-kept : UnitsKept

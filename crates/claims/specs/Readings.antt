@@ -10,7 +10,7 @@ use lib.Signed.{leZ}
 use Rattle.rules.specs.Numbers.{Range}
 use Rattle.rules.specs.Enumerations.{Enum}
 use Rattle.rules.specs.Types.{Measure, unitFits, Ty, text, numeric, structure, enum, kindOf, unitOf, Value, string}
-use Rattle.rules.specs.Types.{number, path, legal, reading, fits, unitsFit}
+use Rattle.rules.specs.Types.{number, path, legal, reading, fits, keepsUnit}
 
 -- ---- readings: there is one, and it is legal
 abbrev pub isLegal : Ty → Option Value → Bool
@@ -77,9 +77,9 @@ abbrev pub Says : Bool → Type 0 → Type 0 → Type 0
 Says x A B = ((x ≡ true) ↔ A) × ((x ≡ false) ↔ B)
 
 pub record Judged (t b : Ty) : Type 0 where
-  pub both : Says (fits t b && unitsFit t b) (Inside t b) (Outside t b)
+  pub both : Says (fits t b && keepsUnit t b) (Inside t b) (Outside t b)
   pub by-17 : Says (fits t b) (NumberInside t b) (NumberOutside t b)
-  pub by-22 : Says (unitsFit t b) (UnitInside t b) (UnitOutside t b)
+  pub by-22 : Says (keepsUnit t b) (UnitInside t b) (UnitOutside t b)
 
 -- a range's first bound is not greater: by 14 no other comes to 17. One whose first bound is greater has no legal
 -- value, and its bounds would be judged all the same
@@ -123,7 +123,7 @@ UnitsKept = (b : Ty) (v w : Value) → reading b v ≡ some w → unitIn w ≡ u
 -- each, one step after the other
 abbrev pub Stair : Ty → List Ty → Type 0
 Stair t [] = Unit
-Stair t (b ∷ l) = (fits t b ≡ true) × (unitsFit t b ≡ true) × Stair b l
+Stair t (b ∷ l) = (fits t b ≡ true) × (keepsUnit t b ≡ true) × Stair b l
 
 abbrev pub StairsRead : Type 0
 StairsRead = (t : Ty) (l : List Ty) → Stair t l → (v : Value) → legal t v ≡ true → reads l v ≡ true

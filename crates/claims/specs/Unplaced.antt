@@ -10,7 +10,7 @@ use lib.ListN.{length}
 use Rattle.rules.specs.Names.{Name}
 use Rattle.rules.specs.Symbols.{Symbol, symbol}
 use Rattle.rules.specs.Enumerations.{Enum, end, elem, merge, twice}
-use Rattle.rules.specs.Types.{Ty, text, numeric, structure, enum, Value, legal, reading, fits, unitsFit}
+use Rattle.rules.specs.Types.{Ty, text, numeric, structure, enum, Value, legal, reading, fits, keepsUnit}
 use Rattle.rules.specs.Grammar as G
 use Rattle.rules.specs.Grammar.{Reference, Bounds, WrittenType, Written}
 use Rattle.rules.specs.Units as U
@@ -168,7 +168,7 @@ pub record PlacesIdle : Type 0 where
   pub merging : (b x : Enum) → merge (unplacedEnum b) (unplacedEnum x) ≡ unplacedEnum (merge b x)
   pub doubling : (e : Enum) (l : List (List ℕ)) → twice (unplacedEnum e) l ≡ Option·map unplacedPlace (twice e l)
   pub fitting : (t b : Ty) → fits (unplacedTy t) (unplacedTy b) ≡ fits t b
-  pub unit-fitting : (t b : Ty) → unitsFit (unplacedTy t) (unplacedTy b) ≡ unitsFit t b
+  pub unit-fitting : (t b : Ty) → keepsUnit (unplacedTy t) (unplacedTy b) ≡ keepsUnit t b
   -- names
   pub references : (s : State) (r : Reference)
       → resolve (unplacedState s) (unplacedReference r) ≡ Option·map unplacedDef (resolve s r)

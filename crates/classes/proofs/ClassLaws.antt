@@ -47,13 +47,13 @@ use Rattle.state.specs.declared.State as code
 use Rattle.state.specs.declared.Extension.{Extension}
 use Rattle.state.specs.declared.Judged as code-judged
 use Rattle.state.specs.declared.Judged.the-variants.{Fine, Refused}
-use Rattle.state.specs.Keeping.{Keeps, OpenIs, Grows, JudgedAs, Comes, verdict, Small}
+use Rattle.state.specs.Keeping.{Keeps, OpenIs, PartsStay, JudgedAs, Comes, verdict, Small}
 use Rattle.state.specs.Next.{openedBy, declaredBy}
 use Rattle.state.proofs.KeepLaws.{Written, written-splice, book-grown, records-opened, records-declared}
 use Rattle.state.proofs.KeepLaws.{keeps-opened, keeps-declared}
 use Rattle.state.proofs.JudgeLaws.{home-number, room-over, room-within}
 use Rattle.state.proofs.RowLaws.{Tells, open-row, def-row}
-use Rattle.classes.specs.Classes.{kindOf, classDefinition, classBytes, ClassRuled, Heads, HeadRuled}
+use Rattle.classes.specs.Classes.{kindOf, headDefinition, headBytes, RuledTo13, Heads, HeadRuled}
 use Rattle.book.specs.Places.{Stands}
 use Rattle.book.proofs.StandLaws.{stands-new}
 
@@ -84,7 +84,7 @@ module _ (s : State) (c : Sort) (n : R.Name) (p : List (List ℕ)) (b : Option G
   among = extendsRules c b (resolved s b)
 
   pub ruled-taken : (r : Extension) → r .ruling .number ≡ 9 → r .ruling .place ≡ n .offset
-      → isFound (atHand s (n .bytes)) ≡ true → ClassRuled s c n p b r
+      → isFound (atHand s (n .bytes)) ≡ true → RuledTo13 s c n p b r
   unfolding classRules
   ruled-taken r er ep e = record { ruling = λ x. rw (e, er, ep); base = λ z. absurd (omega arith) }
 
@@ -95,14 +95,14 @@ module _ (s : State) (c : Sort) (n : R.Name) (p : List (List ℕ)) (b : Option G
     rest x u e = rw (free, e)
         (first-broken-by among (rule 13 (n .offset) mixed ∷ []) x (extends-positive c b (resolved s b)))
 
-    pub ruled-extends : (r : Extension) → r .ruling ≡ rulingOf among → 0 < r .ruling .number → ClassRuled s c n p b r
+    pub ruled-extends : (r : Extension) → r .ruling ≡ rulingOf among → 0 < r .ruling .number → RuledTo13 s c n p b r
     ruled-extends r e h = record {
       ruling = λ x. rest x (r .ruling) e ∙ broken-on (r .ruling) (cond mixed (refused 13 (n .offset)) (ok x)) (ok x) h;
       base = λ z. absurd (omega arith);
     }
 
     pub ruled-mixed : (u : Ruling) → u ≡ rulingOf among → u .number ≡ 0 → true ≡ mixed → (r : Extension)
-        → r .ruling .number ≡ 13 → r .ruling .place ≡ n .offset → ClassRuled s c n p b r
+        → r .ruling .number ≡ 13 → r .ruling .place ≡ n .offset → RuledTo13 s c n p b r
     ruled-mixed u e z m r er ep = record {
       ruling = λ x. rest x u e ∙ whole-on u (cond mixed (refused 13 (n .offset)) (ok x)) z
           ∙ ap (λ (v : Bool). cond v (refused 13 (n .offset)) (ok x)) (sym m) ∙ rw (er, ep);
@@ -110,7 +110,7 @@ module _ (s : State) (c : Sort) (n : R.Name) (p : List (List ℕ)) (b : Option G
     }
 
     pub ruled-fine : (r : Extension) → r .ruling ≡ rulingOf among → r .ruling .number ≡ 0 → false ≡ mixed
-        → entry (known (s .decls)) (r .base) ≡ resolved s b → ClassRuled s c n p b r
+        → entry (known (s .decls)) (r .base) ≡ resolved s b → RuledTo13 s c n p b r
     ruled-fine r e z m f = record {
       ruling = λ x. rest x (r .ruling) e
           ∙ ap (λ (v : Bool). judgedBy (r .ruling) (cond v (refused 13 (n .offset)) (ok x))) (sym m);
@@ -134,7 +134,7 @@ rowOf st h base f = record {
 pub class-row : (x : List ℕ) (st : code.State) (h : Head) (base f : ℕ)
     → f ≡ flags (h .properties .«is_abstract») (h .properties .«is_final») false false
     → splice x ((st .listing .count + 1) * definitionWidth) (definitionRow (rowOf st h base f))
-    ≡ splice x ((st .listing .count + 1) * definitionWidth) (definitionRow (classDefinition st h base))
+    ≡ splice x ((st .listing .count + 1) * definitionWidth) (definitionRow (headDefinition st h base))
 class-row x st h base f ef = rw ef
 
 -- its numbers fit their 16 bits
@@ -160,7 +160,7 @@ class-narrow st h base f n i w wn a wb wm wf =
 pub class-record : (o : List ℕ) (u : ℕ) (h : Head) (d : Option Def) (k f g : ℕ) (v : List ℕ)
     → v ≡ headForm k (h .name .offset) (h .name .len) f g → k ≡ kindOf (h .sort)
     → f ≡ flags (h .properties .«is_abstract») (h .properties .«is_final») false false
-    → g ≡ baseNumber (basesOf d) → splice o u v ≡ splice o u (classBytes h d)
+    → g ≡ baseNumber (basesOf d) → splice o u v ≡ splice o u (headBytes h d)
 class-record o u h d k f g v ev ek ef eg = rw (ev, ek, ef, eg)
 
 pub kind-class : (k : ℕ) → k ≡ 1 → 4 ≡ kindOf k
@@ -210,7 +210,7 @@ module _ (t : List ℕ) (s : State) (st : code.State) (o x z y hs : List ℕ) (K
       ≡ flags (isAbstract p) (isFinal p) false false
   flags-are = ap (λ (u : Head). flags (u .properties .«is_abstract») (u .properties .«is_final») false false) eh
 
-  tells : Tells t (known (s .decls)) (attributesIn s) (st .listing .count + 1) new (classDefinition st h base)
+  tells : Tells t (known (s .decls)) (attributesIn s) (st .listing .count + 1) new (headDefinition st h base)
   unfolding newClass
   tells = record {
     in-text = it;
@@ -228,27 +228,27 @@ module _ (t : List ℕ) (s : State) (st : code.State) (o x z y hs : List ℕ) (K
         (K .held) base (resolved s b) eb;
   }
 
-  class-bytes : classBytes h (entry (known (s .decls)) base) ≡ bytes (headRecords c new)
+  class-bytes : headBytes h (entry (known (s .decls)) base) ≡ bytes (headRecords c new)
   unfolding newClass
   class-bytes =
-      ap (classBytes h) eb ∙ ap (λ (u : Head). classBytes u (resolved s b)) eh ∙ sym (form .one new refl)
+      ap (headBytes h) eb ∙ ap (λ (u : Head). headBytes u (resolved s b)) eh ∙ sym (form .one new refl)
 
   -- what is written
-  module _ (o' : List ℕ) (eo : o' ≡ splice o (st .extent .used) (classBytes h (entry (known (s .decls)) base)))
+  module _ (o' : List ℕ) (eo : o' ≡ splice o (st .extent .used) (headBytes h (entry (known (s .decls)) base)))
       (w : st .extent .used + headSize ≤ length o) (x' : List ℕ)
-      (ex : x' ≡ splice x ((st .listing .count + 1) * definitionWidth) (definitionRow (classDefinition st h base)))
+      (ex : x' ≡ splice x ((st .listing .count + 1) * definitionWidth) (definitionRow (headDefinition st h base)))
       (wx : Rows x (st .listing .count + 2)) where
     book-is : Written (book s) (bytes (headRecords c new)) o'
     book-is =
         subst (λ (a : List ℕ). Written (book s) a o') class-bytes (rw eo (written-splice (book s)
-        (classBytes h (entry (known (s .decls)) base)) o (st .extent .used) (K .used) (K .written) w))
+        (headBytes h (entry (known (s .decls)) base)) o (st .extent .used) (K .used) (K .written) w))
 
-    row-is : row definitionWidth x' (st .listing .count + 1) ≡ definitionRow (classDefinition st h base)
-    row-is = rw ex (row-written definitionWidth x (definitionRow (classDefinition st h base))
+    row-is : row definitionWidth x' (st .listing .count + 1) ≡ definitionRow (headDefinition st h base)
+    row-is = rw ex (row-written definitionWidth x (definitionRow (headDefinition st h base))
         (st .listing .count + 1) refl (omega arith))
 
     rows-agree : Agree definitionWidth x x' (st .listing .count)
-    rows-agree = rw ex (agree-def x (definitionRow (classDefinition st h base)) (st .listing .count) (omega arith))
+    rows-agree = rw ex (agree-def x (definitionRow (headDefinition st h base)) (st .listing .count) (omega arith))
 
   stands-as : (b' : List ℕ) → b' ≡ book s ++ bytes (headRecords c new)
       → Stands b' (st .extent .used) (heading c new)
@@ -260,9 +260,9 @@ module _ (t : List ℕ) (s : State) (st : code.State) (o x z y hs : List ℕ) (K
 module _ (t : List ℕ) (s : State) (st : code.State) (o x z y hs : List ℕ) (K : Keeps t s st o x z y hs) (n : R.Name)
     (p : List (List ℕ)) (b : Option G.Reference) (h : Head) (it : InText t n) (c : s .open-class ≡ none)
     (base : ℕ) (wb : base ≤ st .listing .count) (eb : entry (known (s .decls)) base ≡ resolved s b)
-    (o' : List ℕ) (eo : o' ≡ splice o (st .extent .used) (classBytes h (entry (known (s .decls)) base)))
+    (o' : List ℕ) (eo : o' ≡ splice o (st .extent .used) (headBytes h (entry (known (s .decls)) base)))
     (w : st .extent .used + headSize ≤ length o) (x' : List ℕ)
-    (ex : x' ≡ splice x ((st .listing .count + 1) * definitionWidth) (definitionRow (classDefinition st h base)))
+    (ex : x' ≡ splice x ((st .listing .count + 1) * definitionWidth) (definitionRow (headDefinition st h base)))
     (wx : Rows x (st .listing .count + 2)) (y' : List ℕ) (ey : y' ≡ y) where
   pub class-opened : (k : Bool) → h ≡ headOf (classSort k) n p b → (i : ℕ) (st' : code.State) → st' ≡ openedBy st i
       → i ≤ most → (hs' : List ℕ)
@@ -276,7 +276,7 @@ module _ (t : List ℕ) (s : State) (st : code.State) (o x z y hs : List ℕ) (K
       let d : Def = newClass s (classSort k) n p (resolved s b) in
       let f = class-formed k in
       let dr = open-row t (book (opened s d)) (known (s .decls)) (attributesIn s) (st .listing .count + 1) d
-      (classDefinition st h base) (tells t s st o x z y hs K (classSort k) f n p b h eh it base wb eb)
+      (headDefinition st h base) (tells t s st o x z y hs K (classSort k) f n p b h eh it base wb eb)
       (stands-as t s st o x z y hs K (classSort k) f n p b h eh it base wb eb (book (opened s d))
       (book-opened s d c)) in
       rw (es, ey, ez) (keeps-opened t s st o x z y hs K d k o' x' hs' i c refl refl
@@ -294,7 +294,7 @@ module _ (t : List ℕ) (s : State) (st : code.State) (o x z y hs : List ℕ) (K
       let d : Def = newClass s D.unit n p (resolved s b) in
       let f = unit-formed in
       let dr = def-row t (book (declare s (def d))) (known (s .decls)) (attributesIn s) (st .listing .count + 1) d
-      (classDefinition st h base) (tells t s st o x z y hs K D.unit f n p b h eh it base wb eb)
+      (headDefinition st h base) (tells t s st o x z y hs K D.unit f n p b h eh it base wb eb)
       (stands-as t s st o x z y hs K D.unit f n p b h eh it base wb eb (book (declare s (def d)))
       (book-declared s (declare s (def d)) (def d) c refl refl)) in
       let named : bytesOf t (h .name) ≡ n .bytes = ap (λ (u : Head). bytesOf t (u .name)) eh ∙ it .there in
@@ -313,7 +313,7 @@ opened-self st st' i e = e ∙ ap (openedBy st) (sym (ap (λ (u : code.State). u
 -- ---- 9 to 13 and 19
 module _ (s : State) (c : Sort) (n : R.Name) (p : List (List ℕ)) (b : Option G.Reference) (v : U.Unit)
     (H : Heads s c n p b v) (o : List ℕ) (m : length o ≤ 65535) (used : ℕ) (eu : used ≡ length (book s))
-    (r : Extension) (u : ClassRuled s c n p b r) where
+    (r : Extension) (u : RuledTo13 s c n p b r) where
   judged-as : judge s v ≡ judgedBy (r .ruling) (ok (nextState s v))
   unfolding judge
   judged-as = ap (λ (l : List Rule). firstBrokenOr l (nextState s v)) (H .rules) ∙ u .ruling (nextState s v)
@@ -412,12 +412,7 @@ module _ (t : List ℕ) (s : State) (b : Option G.Reference) (v : U.Unit) (o : L
         answer (refused (r .ruling .number) (r .ruling .place)) (rw (lt-ltb 0 (r .ruling .number) h)) ea
 
     pub answer-fine : r .ruling .number ≡ 0 → (st₁ st₂ : code.State) → a ≡ Fine st₁ → st₁ ≡ st₂
-        → Keeps t (nextState s v) st₂ o' x' z' y' hs' → Grows st st₂ → JudgedAs t (verdict s v o) st a o' x' z' y' hs'
+        → Keeps t (nextState s v) st₂ o' x' z' y' hs' → PartsStay st st₂
+        → JudgedAs t (verdict s v o) st a o' x' z' y' hs'
     answer-fine z st₁ st₂ ea es k g =
         answer (ok (nextState s v)) (whole-on (r .ruling) (ok (nextState s v)) z) (st₂, ea ∙ ap Fine es, k, g)
-
-pub class-grows : (st : code.State) (i : ℕ) → Grows st (openedBy st i)
-class-grows st i = record { by-one = omega arith; layout-stays = refl }
-
-pub unit-grows : (st : code.State) → Grows st (declaredBy st headSize 1 0)
-unit-grows st = record { by-one = omega arith; layout-stays = refl }

@@ -28,8 +28,8 @@ abbrev pub kindOf : ℕ → ℕ
 kindOf k = cond (eqb k 1) 4 (cond (eqb k 2) 5 18)
 
 -- what is written over a base: its row, and its record
-abbrev pub classDefinition : code.State → Head → ℕ → NewDefinition
-classDefinition st h base = record {
+abbrev pub headDefinition : code.State → Head → ℕ → NewDefinition
+headDefinition st h base = record {
   name = h .name;
   home = st .context .home;
   number = st .extent .records;
@@ -40,12 +40,12 @@ classDefinition st h base = record {
   first = st .listing .total;
 }
 
-abbrev pub classBytes : Head → Option Def → List ℕ
-classBytes h o = headForm (kindOf (h .sort)) (h .name .offset) (h .name .len)
+abbrev pub headBytes : Head → Option Def → List ℕ
+headBytes h o = headForm (kindOf (h .sort)) (h .name .offset) (h .name .len)
     (flags (h .properties .«is_abstract») (h .properties .«is_final») false false) (baseNumber (basesOf o))
 
 -- the rule that a head of the sort c breaks, if one; where none, the base
-pub record ClassRuled (s : State) (c : Sort) (n : Name) (p : List (List ℕ)) (b : Option Reference)
+pub record RuledTo13 (s : State) (c : Sort) (n : Name) (p : List (List ℕ)) (b : Option Reference)
     (r : Extension) : Type 0 where
   pub ruling : (x : State) → firstBrokenOr (classRules s c n p b (resolved s b)) x ≡ judgedBy (r .ruling) (ok x)
   pub base : r .ruling .number ≡ 0 → entry (known (s .decls)) (r .base) ≡ resolved s b

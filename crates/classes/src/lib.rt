@@ -1,5 +1,7 @@
 // Judging the heads of classes and structures, and units.
+use book::kinds;
 use ground::Ruling;
+use ground::sorts;
 use members::Held;
 use names::NewDefinition;
 use state::Extension;
@@ -36,30 +38,30 @@ ghost use Rattle.wellformed.specs.Fairness.{FairReference, FairState};
 ghost use Rattle.state.specs.Parts.{indexIn, rowsIn, chainsIn, Ample};
 ghost use Rattle.state.specs.Keeping.{Kept, Answered, Comes, verdict, Small};
 ghost use Rattle.state.specs.Next.{openedBy, declaredBy};
-ghost use Rattle.classes.specs.Classes.{kindOf, classDefinition, classBytes, ClassRuled, Heads, HeadRuled};
+ghost use Rattle.classes.specs.Classes.{kindOf, headDefinition, headBytes, RuledTo13, Heads, HeadRuled};
 
 // The kind of its record, by the number of its sort.
-fn class_kind(sort: usize) -> u8
+fn head_kind(sort: usize) -> u8
     ensures { λ r. ⌜ r ≡ kindOf sort ⌝ }
 {
-    if sort == units::CLASS {
-        return 4;
+    if sort == sorts::CLASS {
+        return kinds::CLASS;
     }
-    if sort == units::STRUCTURE {
-        return 5;
+    if sort == sorts::STRUCTURE {
+        return kinds::STRUCTURE;
     }
-    18
+    kinds::UNIT
 }
 
 // 9 to 13, and the position of the base.
-fn class_ruling(text: &[u8], work: &[u16], st: State, head: Head) -> Extension
+fn ruling_to_13(text: &[u8], work: &[u16], st: State, head: Head) -> Extension
     requires { ⌜ Inside (now text) (head .name) × Inside (now text) (st .context .model)
         × Ample st (length (now work)) ⌝ }
     requires { ⌜ ((b : Option G.Reference) × (head .base ≡ optionalOf b) × AnyIs (FairReference (now text)) b) ⌝ }
     ensures { λ r. ⌜ (r .base ≤ st .listing .count)
         × ((s : D.State) (c : Sort) (n : R.Name) (p : List (List ℕ)) (b : Option G.Reference) (o hs : List ℕ)
         → Kept (now (text .entry)) s st o (now (work .entry)) hs → head ≡ headOf c n p b
-        → InText (now (text .entry)) n → AnyIs (FairReference (now (text .entry))) b → ClassRuled s c n p b r) ⌝ }
+        → InText (now (text .entry)) n → AnyIs (FairReference (now (text .entry))) b → RuledTo13 s c n p b r) ⌝ }
 {
     let name = head.name;
     let place = name.offset;
@@ -91,23 +93,23 @@ fn class_ruling(text: &[u8], work: &[u16], st: State, head: Head) -> Extension
 }
 
 // The record and the row of a class or unit over the base at a position.
-fn write_class(book: &mut [u8], work: &mut [u16], st: State, head: Head, base: usize)
+fn write_head(book: &mut [u8], work: &mut [u16], st: State, head: Head, base: usize)
     requires { ⌜ (head .name .offset + head .name .len ≤ 65535) × (length (now book) ≤ 65535) ⌝ }
     requires { ⌜ (st .extent .used + headSize ≤ length (now book)) × Small st × Ample st (length (now work)) ⌝ }
     requires { ⌜ (base ≤ st .listing .count) × (head .sort ≤ 4) ⌝ }
     ensures { λ _. ⌜ (indexIn (st .listing .layout) (now (work .exit))
         ≡ splice (indexIn (st .listing .layout) (now (work .entry))) ((st .listing .count + 1) * definitionWidth)
-        (definitionRow (classDefinition st head base)))
+        (definitionRow (headDefinition st head base)))
         × (rowsIn (st .listing .layout) (now (work .exit)) ≡ rowsIn (st .listing .layout) (now (work .entry)))
         × (chainsIn (st .listing .layout) (now (work .exit)) ≡ chainsIn (st .listing .layout) (now (work .entry)))
         × ((t : List ℕ) (ks : List Def)
         → Known t ks (indexIn (st .listing .layout) (now (work .entry))) (st .listing .count)
-        → now (book .exit) ≡ splice (now (book .entry)) (st .extent .used) (classBytes head (entry ks base))) ⌝ }
+        → now (book .exit) ≡ splice (now (book .entry)) (st .extent .used) (headBytes head (entry ks base))) ⌝ }
 {
     let name = head.name;
     let p = head.properties;
     let flags = state::flags(p.is_abstract, p.is_final, false, false);
-    let kind = class_kind(head.sort);
+    let kind = head_kind(head.sort);
     let i = st.listing.layout.index;
     let m = st.listing.layout.rows;
     let number = state::base_number(&work[i..m], base);
@@ -139,7 +141,7 @@ fn head_ruling(text: &[u8], room: usize, work: &[u16], st: State, head: Head) ->
 {
     let place = head.name.offset;
     let full = room < st.extent.used + book::HEAD_SIZE;
-    let first = class_ruling(text, work, st, head);
+    let first = ruling_to_13(text, work, st, head);
     let broken = first.ruling;
     let wrong = 0 < broken.number;
     let over = Extension {
@@ -207,7 +209,7 @@ fn open_class(
         (now (book .exit)) (now (work .exit)) (now (hand .exit))) ⌝ }
 {
     let n = inherited(text, work, hand, st, base);
-    write_class(book, work, st, head, base);
+    write_head(book, work, st, head, base);
     st.opened(n)
 }
 
@@ -262,7 +264,7 @@ fn declare_unit(
         → Kept (now (text .entry)) (nextState s (U.unit n p b)) (declaredBy st headSize 1 0)
         (now (book .exit)) (now (work .exit)) hs) ⌝ }
 {
-    write_class(book, work, st, head, base);
+    write_head(book, work, st, head, base);
     let name = head.name;
     state::work::make_known(text, work, st, name);
     st.declared(book::HEAD_SIZE, 1, 0)

@@ -104,8 +104,8 @@ inC = record { number = 3; bases = 2 ∷ 1 ∷ [] }
 abbrev inD : Measure
 inD = record { number = 4; bases = 1 ∷ [] }
 
--- a reading keeps the unit, which may be one that descends from the type's; one is illegal where the type has the
--- descendant, another, or none
+-- read at the base, a number is in the unit that it was in, perhaps one that descends from the type's; one is illegal
+-- where the type has the descendant, another, or none
 abbrev pub readings : List Case
 readings =
     readsAt measured "B" (number 1 (pos 5) (some inB)) "A" (number 0 (pos 1) (some inB))

@@ -13,7 +13,8 @@ use Rattle.rules.specs.Grammar.{Reference, Written}
 use Rattle.rules.specs.Types.{Ty}
 use Rattle.rules.specs.Declarations.{domain, Def, State, attributesOf, known, def}
 use Rattle.rules.specs.Book.{Record, bytes, typeRecords, declRecords, records, book, flags, baseNumber}
-use Rattle.rules.specs.Judge.{ok, orNoDef, resolved, basesOf, isAbstract, isFinal, domainType, newDomain, declare}
+use Rattle.rules.specs.Judge.{ok, orNoDef, resolved, targetIn, basesOf, isAbstract, isFinal, domainType, newDomain}
+use Rattle.rules.specs.Judge.{declare}
 use Rattle.rules.specs.Check as Check
 use Rattle.ground.specs.Parts.{splice}
 use Rattle.book.specs.Forms.{headForm}
@@ -39,7 +40,7 @@ use Rattle.state.proofs.KeepLaws as keep
 use Rattle.state.proofs.KeepLaws.{keeps-declared, plain-type, domain-defined}
 use Rattle.state.proofs.RowLaws.{Tells, def-row}
 use Rattle.state.proofs.JudgeLaws.{small, home-number, room-over, room-within}
-use Rattle.domains.specs.Stages.{Extending, domainDefinition, targetIn}
+use Rattle.domains.specs.Stages.{Extending, domainDefinition}
 use Rattle.domains.specs.declared.Reached.{Reached}
 use Rattle.domains.proofs.StageLaws.{domainOf, unit-inside, is-unit, a-base, no-class}
 use Rattle.book.specs.Places.{Stands}
@@ -264,7 +265,7 @@ module _ {t : List ℕ} {s : State} {st : code.State} {n : Name} {p : List (List
         subst (λ (i : List ℕ). JudgedAs t
         (Check.room (Check.lent (length o)) (n .offset) (ok (declare s (def new·)))) st r o₂ x₂ z₂ i hs) (sym ey)
         (rw (room-within (length o) (n .offset) (declare s (def new·)) (omega arith) (omega arith))
-        (st', er, rw es k, rw es (record { by-one = omega arith; layout-stays = refl })))
+        (st', er, rw es k, rw es refl))
 
 -- the head is as long
 pub head-fits : (hd : List ℕ) (k i n f c u b m : ℕ) → hd ≡ headForm k i n f c

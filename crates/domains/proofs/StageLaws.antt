@@ -15,14 +15,14 @@ use Rattle.state.proofs.KeepLaws.{none-open}
 use Rattle.rules.specs.Names.{Name}
 use Rattle.rules.specs.Grammar.{Reference, WrittenType, Written}
 use Rattle.rules.specs.Units as U
-use Rattle.rules.specs.Types.{Ty, structure, unitOf, unitsFit}
+use Rattle.rules.specs.Types.{Ty, structure, unitOf, keepsUnit}
 use Rattle.rules.specs.Declarations.{Sort, domain, Def, Attribute, State, attributesOf, isFound, isSort, atHand, known}
 use Rattle.rules.specs.Declarations.{measureIn}
 use Rattle.rules.specs.Book.{Record, bytes, records, flags, typeRecords, defRecord}
 use Rattle.rules.specs.Judge as J
 use Rattle.rules.specs.Judge.{Rule, rule, ok, firstBrokenOr, orNoDef, resolved, hasTwice, isAbstract, isFinal}
 use Rattle.rules.specs.Judge.{isNumeric, isNaming, domainType, elementRule, extendsRules, newDomain, domainTo16}
-use Rattle.rules.specs.Judge.{domainRules, judge}
+use Rattle.rules.specs.Judge.{domainRules, targetIn, judge}
 use Rattle.rules.specs.Check.{Given, lent, room}
 use Rattle.rules.proofs.Tests.{never, not-fails}
 use Rattle.ground.specs.Parts.{splice}
@@ -51,7 +51,7 @@ use Rattle.ground.specs.declared.Ruling.{Ruling}
 use Rattle.fitting.specs.declared.Typing.{Typing}
 use Rattle.fitting.specs.declared.Typing.the-variants.{Structure}
 use Rattle.ground.specs.Rulings.{rulingOf, judgedBy}
-use Rattle.fitting.specs.Values.{Valued, Typed, Sized, Numbered, FairOrNone, unitNumber}
+use Rattle.fitting.specs.Values.{Valued, Typed, Sized, UnitNumbered, FairOrNone, unitNumber}
 use Rattle.types.specs.declared.Over.{Over}
 use Rattle.types.specs.Writing.{Scratched, Once}
 use Rattle.ground.proofs.RulingLaws.{Positive, first-broken-by}
@@ -63,7 +63,7 @@ use Rattle.state.specs.declared.Judged.the-variants.{Refused}
 use Rattle.state.specs.Keeping.{Keeps, JudgedAs, Comes, verdict}
 use Rattle.state.specs.Targets.{targetRules, amongRules, earlierOf}
 use Rattle.written.specs.Written.{writtenRules, LaidWhen}
-use Rattle.domains.specs.Stages.{nameRules, targetIn, Leads, rulesFrom13, declaredIn, fromRule13, Extending}
+use Rattle.domains.specs.Stages.{nameRules, Leads, rulesFrom13, declaredIn, fromRule13, Extending}
 use Rattle.domains.specs.Stages.{OverIs}
 use Rattle.domains.specs.declared.Reached.{Reached}
 use Rattle.written.specs.declared.Laying as code-laying
@@ -210,9 +210,9 @@ base-none t b ks base e = rw e
 
 pub base-there : (t b : List ℕ) (ks : List Def) (ms : List Attribute) (x : List ℕ) (count : ℕ) (y : List ℕ)
     (total base : ℕ) → 0 < base → base ≤ count → Held t b ks ms x count y total
-    → ((d : Def) → entry ks base ≡ some d → (d .sort ≡ domain) × Fair t (d .type) × Numbered (d .type)) → (at : ℕ)
+    → ((d : Def) → entry ks base ≡ some d → (d .sort ≡ domain) × Fair t (d .type) × UnitNumbered (d .type)) → (at : ℕ)
     → at ≡ getD (row definitionWidth x base) 6 0
-    → (r : Typing) → ((t : List ℕ) (h : Record) (x : Ty) → length h ≡ headSize → Fair t x → Numbered x
+    → (r : Typing) → ((t : List ℕ) (h : Record) (x : Ty) → length h ≡ headSize → Fair t x → UnitNumbered x
     → Stands b at (h ∷ typeRecords x) → Typed t b x r) → Typed t b (orNoDef (entry ks base) .type) r
 base-there t b ks ms x count y total base z l h f at e r g =
     let n = h .all-defs in
@@ -362,15 +362,15 @@ module _ {t : List ℕ} {s : State} {st : code.State} {n : Name} {p : List
       let j = h .keeps .within in omega arith
 
   pub at-base : length o ≤ 65535 → (c : Def) → entry (known (s .decls)) (e .base) ≡ some c
-      → (c .sort ≡ domain) × Fair t (c .type) × Numbered (c .type)
+      → (c .sort ≡ domain) × Fair t (c .type) × UnitNumbered (c .type)
   at-base l c q =
       let i : resolved s b ≡ some c = sym (h .leads .base) ∙ q in
       let (g, f) = a-base .typed c i in
-      let u : Numbered (orNoDef (resolved s b) .type) =
+      let u : UnitNumbered (orNoDef (resolved s b) .type) =
       any-map (λ m k. let f = few l in omega arith) (unitOf (orNoDef (resolved s b) .type))
       (unit-before t (length (records s)) (known (s .decls)) (h .keeps .fair .defs)
       (orNoDef (resolved s b) .type) unit-in) in
-      (g, f, subst (λ (v : Option Def). Numbered (orNoDef v .type)) i u)
+      (g, f, subst (λ (v : Option Def). UnitNumbered (orNoDef v .type)) i u)
 
   pub is-based : e .base ≤ st .listing .count → isFound (resolved s b) ≡ ltb 0 (e .base)
   is-based l =
@@ -425,7 +425,7 @@ module _ {t : List ℕ} {s : State} {st : code.State} {n : Name} {p : List
       (m : Meant) (em : m ≡ d .written .meant) (of : Typing)
       (eb : (t : List ℕ) (ks : List Def) (ms : List Attribute) (count : ℕ) (y : List ℕ)
       (total : ℕ) → e .base ≤ count → Held t front ks ms x count y total
-      → ((c : Def) → entry ks (e .base) ≡ some c → (c .sort ≡ domain) × Fair t (c .type) × Numbered (c .type))
+      → ((c : Def) → entry ks (e .base) ≡ some c → (c .sort ≡ domain) × Fair t (c .type) × UnitNumbered (c .type))
       → Typed t front (orNoDef (entry ks (e .base)) .type) of) where
     is-meant : m ≡ anyOf (w .type)
     is-meant = em ∙ ap (λ (u : DomainUnit). u .written .meant) unit
@@ -447,7 +447,7 @@ module _ {t : List ℕ} {s : State} {st : code.State} {n : Name} {p : List
         → Valued k of → Valued (domainType v g k) own') → (f : Bool)
         → ((t : List ℕ) (ks : List Def) → Known t ks x (st .listing .count) → Chained ks x → Rising ks
         → (v : Option WrittenType) (g : Option Def) (k : Ty) → m ≡ anyOf v → entry ks (e .target) ≡ g
-        → UnitIn ks k → Valued k of → f ≡ unitsFit (domainType v g k) k)
+        → UnitIn ks k → Valued k of → f ≡ keepsUnit (domainType v g k) k)
         → OverIs t front (w .type) (resolved s b) (targetIn s w)
         (record { based = ltb 0 (e .base); own = own'; base = of; keeps = f })
     over-is u eu own' eo f ef =
@@ -479,7 +479,7 @@ module _ {t : List ℕ} {s : State} {st : code.State} {n : Name} {p : List
     pub laid : (o₂ : List ℕ) (a : code-laying.Laying) → ((u : Option WrittenType) (g : Option Def) (k : Ty)
         → d .written .meant ≡ anyOf u → isNaming u ≡ false → AnyIs (Begins (d .written .place)) u → Scratched t rs u
         → Once u → FairOrNone t k → (r .based ≡ false → k ≡ structure) → Valued (domainType u g k) (r .own)
-        → Typed t front k (r .base) → r .keeps ≡ unitsFit (domainType u g k) k
+        → Typed t front k (r .base) → r .keeps ≡ keepsUnit (domainType u g k) k
         → LaidWhen (ltb 0 (rulingOf (writtenRules (r .based) (d .written .place) u g k) .number))
         (rulingOf (writtenRules (r .based) (d .written .place) u g k)) (typeRecords (domainType u g k))
         (st .extent .used + headSize) o o₂ a)

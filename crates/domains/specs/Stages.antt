@@ -8,10 +8,10 @@ use lib.ListN.{length}
 use Rattle.rules.specs.Names.{Name}
 use Rattle.rules.specs.Grammar.{Reference, WrittenType, Written}
 use Rattle.rules.specs.Units as U
-use Rattle.rules.specs.Types.{Ty, unitsFit}
+use Rattle.rules.specs.Types.{Ty, keepsUnit}
 use Rattle.rules.specs.Declarations.{Def, State, domain, def, isFound, atHand, known}
 use Rattle.rules.specs.Judge.{Judged, Rule, rule, firstBrokenOr, declare, newDomain, hasTwice, isAbstract, isFinal}
-use Rattle.rules.specs.Judge.{isNumeric, orNoDef, resolved, domainType, elementRule, referenceIn}
+use Rattle.rules.specs.Judge.{isNumeric, orNoDef, resolved, domainType, elementRule, targetIn}
 use Rattle.rules.specs.Book.{Record, bytes, typeRecords}
 use Rattle.ground.specs.Parts.{splice}
 use Rattle.ground.specs.declared.Name as code-name
@@ -35,10 +35,6 @@ use Rattle.domains.specs.declared.Reached.{Reached}
 -- 9
 abbrev pub nameRules : State → Name → Option WrittenType → List Rule
 nameRules s n w = rule 9 (n .offset) (isFound (atHand s (n .bytes))) ∷ elementRule w ∷ []
-
--- what the type's reference leads to
-abbrev pub targetIn : State → Written → Option Def
-targetIn s w = resolved s (referenceIn (w .type))
 
 -- the rule of 10 to 12 that is broken, and the positions of what the references lead to
 pub record Leads (s : State) (b : Option Reference) (w : Written) (r : Reached) : Type 0 where
@@ -79,7 +75,7 @@ pub record OverIs (t o : List ℕ) (w : Option WrittenType) (base target : Optio
   pub based : isFound base ≡ r .based
   pub of-base : Typed t o (orNoDef base .type) (r .base)
   pub own : Valued (domainType w target (orNoDef base .type)) (r .own)
-  pub keeps : r .keeps ≡ unitsFit (domainType w target (orNoDef base .type)) (orNoDef base .type)
+  pub keeps : r .keeps ≡ keepsUnit (domainType w target (orNoDef base .type)) (orNoDef base .type)
 
 -- the records of its type
 abbrev pub recordsOf : State → Option Reference → Written → List Record

@@ -3,6 +3,7 @@ use enumerations::Size;
 use fitting::Typing;
 use ground::Name;
 use ground::Ruling;
+use ground::sorts;
 use names::NewDefinition;
 use parts::Properties;
 use parts::types::Meant;
@@ -24,7 +25,7 @@ ghost use Rattle.rules.specs.Units as U;
 ghost use Rattle.rules.specs.Types.{Ty};
 ghost use Rattle.rules.specs.Declarations as D;
 ghost use Rattle.rules.specs.Declarations.{Def, Attribute, domain};
-ghost use Rattle.rules.specs.Judge.{ok, orNoDef, hasTwice, isAbstract, isFinal, isNumeric, resolved};
+ghost use Rattle.rules.specs.Judge.{ok, orNoDef, hasTwice, isAbstract, isFinal, isNumeric, resolved, targetIn};
 ghost use Rattle.rules.specs.Check.{lent, room};
 ghost use Rattle.ground.specs.Parts.{splice};
 ghost use Rattle.names.specs.Index.{entry, Known, Rows, definitionWidth};
@@ -38,19 +39,14 @@ ghost use Rattle.units.specs.declared.Unit.the-variants.{Domain as V·Domain};
 ghost use Rattle.wellformed.specs.Fairness.{Fair, FairState};
 ghost use Rattle.enumerations.specs.Standing.{InText};
 ghost use Rattle.ground.specs.Rulings.{rulingOf};
-ghost use Rattle.fitting.specs.Values.{Valued, Typed, Numbered};
+ghost use Rattle.fitting.specs.Values.{Valued, Typed, UnitNumbered};
 ghost use Rattle.types.specs.Writing.{Scratched};
 ghost use Rattle.state.specs.Keeping.{Comes, verdict, Kept, Answered};
-ghost use Rattle.domains.specs.Stages.{nameRules, targetIn, Leads, ExtendingIn, OverIs, domainDefinition};
+ghost use Rattle.domains.specs.Stages.{nameRules, Leads, ExtendingIn, OverIs, domainDefinition};
 ghost use Rattle.domains.specs.Stages.{SomeSized, SomeExtending, recordsOf, declaredIn};
 ghost use Rattle.domains.specs.Stages.{LaidBehind, fromRule13};
 ghost use Rattle.state.specs.Parts.{Loan, indexIn, rowsIn, chainsIn, Ample};
 ghost use Rattle.tables.specs.Tables.{TableFor};
-
-// The number of its sort, and the kind of its record.
-const DOMAIN: usize = 3;
-
-const KIND: u8 = 7;
 
 // The rule of 10 to 12 that is broken; the positions of what EXTENDS and the type's reference lead to, each 0 for
 // nothing.
@@ -97,7 +93,7 @@ fn reach(text: &[u8], work: &[u16], st: State, d: DomainUnit) -> Reached
         → Comes (now (text .entry)) s (U.domain n p b w) (V·Domain d) rs → Leads s b w r) ⌝ }
 {
     let b = d.base;
-    let e = state::extends(text, work, st, DOMAIN, b);
+    let e = state::extends(text, work, st, sorts::DOMAIN, b);
     let w = d.written;
     let m = w.meant;
     let r = w.reference;
@@ -117,7 +113,7 @@ fn base_type(book: &[u8], used: usize, index: &[u16], base: usize) -> Typing
     requires { ⌜ (used ≤ length (now book)) × (length (now book) ≤ 65535) × Rows (now index) base ⌝ }
     ensures { λ r. ⌜ ((t : List ℕ) (ks : List Def) (ms : List Attribute) (count : ℕ) (y : List ℕ) (total : ℕ)
         → base ≤ count → Held t (take used (now (book .entry))) ks ms (now (index .entry)) count y total
-        → ((d : Def) → entry ks base ≡ some d → (d .sort ≡ domain) × Fair t (d .type) × Numbered (d .type))
+        → ((d : Def) → entry ks base ≡ some d → (d .sort ≡ domain) × Fair t (d .type) × UnitNumbered (d .type))
         → Typed t (take used (now (book .entry))) (orNoDef (entry ks base) .type) r) ⌝ }
 {
     if base == 0 {
@@ -194,7 +190,7 @@ fn enter_domain(text: &[u8], work: &mut [u16], st: State, name: Name, flags: u8,
         name: name,
         home: st.context.home,
         number: st.extent.records,
-        sort: DOMAIN,
+        sort: sorts::DOMAIN,
         flags: ground::wide(flags),
         place: st.extent.used,
         base: base,
@@ -233,7 +229,7 @@ fn add_domain(
         let mandatory = is_mandatory(&work[i..m], base, w.mandatory);
         let flags = state::flags(p.is_abstract, p.is_final, false, mandatory);
         let of_base = state::base_number(&work[i..m], base);
-        let head = book::head_record(KIND, name.offset, name.len, flags, of_base);
+        let head = book::head_record(book::kinds::DOMAIN, name.offset, name.len, flags, of_base);
         ground::put(book, st.extent.used, &head);
         enter_domain(text, work, st, name, flags, base);
         return Judged::Fine(st.declared(book::HEAD_SIZE + size.bytes, 1 + size.records, 1));

@@ -3,6 +3,7 @@
 use book::ELEMENT_SIZE;
 use book::LIST_END_SIZE;
 use book::LIST_SIZE;
+use book::kinds;
 use ground::Name;
 use readers::expect;
 use readers::name_of;
@@ -45,7 +46,7 @@ fn put_element(scratch: &mut [u8], at: usize, name: Name) -> usize
     ensures { λ r. ⌜ Put (now (scratch .entry)) (now (scratch .exit)) at (nameForm 14 (name .offset) (name .len)) r ⌝ }
 {
     if fits(scratch.len(), at, ELEMENT_SIZE) {
-        let r = book::name_record(14, name.offset, name.len);
+        let r = book::name_record(kinds::ELEMENT, name.offset, name.len);
         ground::put(scratch, at, &r);
         return at + ELEMENT_SIZE;
     }
@@ -57,7 +58,7 @@ fn put_opening(scratch: &mut [u8], at: usize) -> usize
     ensures { λ r. ⌜ Put (now (scratch .entry)) (now (scratch .exit)) at (13 ∷ 0 ∷ []) r ⌝ }
 {
     if fits(scratch.len(), at, LIST_SIZE) {
-        scratch[at] = 13;
+        scratch[at] = kinds::LIST;
         scratch[at + 1] = 0;
         return at + LIST_SIZE;
     }
@@ -72,7 +73,7 @@ fn put_close(scratch: &mut [u8], start: usize, at: usize, is_final: bool) -> usi
         if start < at {
             if start + 1 < at {
                 scratch[start + 1] = ground::flag(is_final);
-                scratch[at] = 15;
+                scratch[at] = kinds::LIST_END;
                 return at + LIST_END_SIZE;
             }
         }

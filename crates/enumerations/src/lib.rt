@@ -15,6 +15,7 @@ use book::ELEMENT_SIZE;
 use book::LIST_END_SIZE;
 use book::LIST_SIZE;
 use book::Part;
+use book::kinds;
 use book::written_name;
 
 // A place where no list is.
@@ -49,7 +50,7 @@ pub fn is_element(s: &[u8], at: usize) -> bool
     if s.len() - ELEMENT_SIZE < at {
         return false;
     }
-    s[at] == 14
+    s[at] == kinds::ELEMENT
 }
 
 pub fn is_opening(s: &[u8], at: usize) -> bool
@@ -61,7 +62,7 @@ pub fn is_opening(s: &[u8], at: usize) -> bool
     if s.len() - LIST_SIZE < at {
         return false;
     }
-    s[at] == 13
+    s[at] == kinds::LIST
 }
 
 // The end of the list at a place.
@@ -76,11 +77,11 @@ pub fn list_end(s: &[u8], list: usize) -> End
     while at < s.len() {
         let k = s[at];
         records += 1;
-        if k == 14 {
+        if k == kinds::ELEMENT {
             at += ELEMENT_SIZE;
             continue;
         }
-        if k == 13 {
+        if k == kinds::LIST {
             at += LIST_SIZE;
             inner += 1;
             continue;

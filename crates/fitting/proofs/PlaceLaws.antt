@@ -25,7 +25,7 @@ use Rattle.book.specs.Places.{Stands}
 use Rattle.book.proofs.StandLaws.{stands-behind}
 use Rattle.rules.specs.All.{AnyIs}
 use Rattle.wellformed.specs.Fairness.{FairLimit, Fair}
-use Rattle.fitting.specs.Values.{unitNumber, Typed, Numbered}
+use Rattle.fitting.specs.Values.{unitNumber, Typed, UnitNumbered}
 use Rattle.fitting.specs.Places.{signedOf, signedAt, textAt, unitAt, rangeAt, typingAt}
 use Rattle.fitting.specs.declared.Typing.{Typing}
 use Rattle.fitting.specs.declared.Typing.the-variants as typing
@@ -190,13 +190,13 @@ module _ (t b : List ℕ) (i : ℕ) where
       rw (lt-ltb i (length b) (p .0), p .1) (text-there b i (s .within) 8 (lengthOr n) _ (limit-low n f) u)
 
   -- the unit's record behind the number's
-  unit-behind : (r : Option Range) (u : Option Measure) → Numbered (numeric r u)
+  unit-behind : (r : Option Range) (u : Option Measure) → UnitNumbered (numeric r u)
       → Stands b i (typeRecords (numeric r u)) → unitAt b (i + length (numberRecord r)) ≡ unitNumber u
   unit-behind r u g s =
       let k = stands-behind b i (numberRecord r) (unitRecords u) s in
       unit-there b (i + length (numberRecord r)) (k .within) u g k
 
-  pub typed-here : (x : Ty) (c : Typing) → c ≡ typingAt b i → Fair t x → Numbered x → Stands b i (typeRecords x)
+  pub typed-here : (x : Ty) (c : Typing) → c ≡ typingAt b i → Fair t x → UnitNumbered x → Stands b i (typeRecords x)
       → Typed t b x c
   unfolding typingAt
   typed-here (text m n) c e f g s = e ∙ typed-text m n f s

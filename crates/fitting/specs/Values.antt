@@ -46,8 +46,8 @@ Sized (Enumeration p) = Unit {0}
 Sized Structure = Unit {0}
 
 -- the unit's record number takes four bytes
-abbrev pub Numbered : Ty → Type 0
-Numbered x = AnyIs (λ (u : Measure). u .number < 4294967296) (unitOf x)
+abbrev pub UnitNumbered : Ty → Type 0
+UnitNumbered x = AnyIs (λ (u : Measure). u .number < 4294967296) (unitOf x)
 
 -- a type that gives values, or none
 abbrev pub FairOrNone : List ℕ → Ty → Type 0

@@ -16,7 +16,7 @@ ghost use Rattle.names.specs.Index.{entry, Rows, Known};
 ghost use Rattle.book.specs.Places.{Stands};
 ghost use Rattle.book.specs.Sizes.{headSize};
 ghost use Rattle.wellformed.specs.Fairness.{Fair};
-ghost use Rattle.fitting.specs.Values.{unitNumber, Valued, Typed, Sized, Numbered};
+ghost use Rattle.fitting.specs.Values.{unitNumber, Valued, Typed, Sized, UnitNumbered};
 ghost use Rattle.fitting.specs.Fitting.{isEnumeration, placeIn, sortOf, limitFits, textFitsBy, rangeFitsBy};
 ghost use Rattle.fitting.specs.Fitting.{isNumericBy, unitBy, fitsBy};
 
@@ -45,7 +45,7 @@ pub enum Typing {
 // The type whose records stand behind the head at a place.
 pub fn type_behind(book: &[u8], head: usize) -> Typing
     requires { ⌜ head < 65536 ⌝ }
-    ensures { λ r. ⌜ ((t : List ℕ) (h : Record) (x : Ty) → length h ≡ headSize → Fair t x → Numbered x
+    ensures { λ r. ⌜ ((t : List ℕ) (h : Record) (x : Ty) → length h ≡ headSize → Fair t x → UnitNumbered x
         → Stands (now (book .entry)) head (h ∷ typeRecords x)
         → Typed t (now (book .entry)) x r) ⌝ }
 {

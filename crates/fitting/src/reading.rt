@@ -7,6 +7,7 @@ use crate::Typing;
 use book::LENGTH_SIZE;
 use book::NUMERIC_SIZE;
 use book::RANGE_SIZE;
+use book::kinds;
 use ground::get4;
 use ground::wide;
 use ground::wide4;
@@ -50,7 +51,7 @@ fn unit_at(book: &[u8], at: usize) -> usize
     ensures { λ r. ⌜ r ≡ unitAt (now (book .entry)) at ⌝ }
 {
     if at + LENGTH_SIZE <= book.len() {
-        if book[at] == 19 {
+        if book[at] == kinds::UNIT_OF_NUMBER {
             return wide4(get4(book, at + 1)) + 1;
         }
     }
@@ -80,21 +81,21 @@ pub fn typing_at(book: &[u8], at: usize) -> Typing
         return Typing::Structure;
     }
     let k = book[at];
-    if k == 8 {
-        return text_at(8, book, at);
+    if k == kinds::TEXT {
+        return text_at(kinds::TEXT, book, at);
     }
-    if k == 9 {
-        return text_at(9, book, at);
+    if k == kinds::MTEXT {
+        return text_at(kinds::MTEXT, book, at);
     }
-    if k == 10 {
+    if k == kinds::RANGE {
         return range_at(book, at);
     }
-    if k == 11 {
+    if k == kinds::NUMERIC {
         return Typing::Numeric {
             unit: unit_at(book, at + NUMERIC_SIZE),
         };
     }
-    if k == 13 {
+    if k == kinds::LIST {
         return Typing::Enumeration { place: at };
     }
     Typing::Structure

@@ -1,4 +1,6 @@
-// What every floor uses: parts of a text, lent buffers, numbers as bytes.
+// What every floor uses: rulings, parts of a text, lent buffers, numbers as bytes.
+pub mod sorts;
+
 ghost use mathlib.Core.Path.{_≡_};
 ghost use mathlib.Core.Bool.{_&&_, _||_};
 ghost use mathlib.Core.List.{[]};
@@ -27,6 +29,21 @@ pub enum Reference {
 pub struct Ruling {
     pub number: u8,
     pub place: usize,
+}
+
+pub fn fine() -> Ruling
+    ensures { λ r. ⌜ r ≡ record { number = 0; place = 0 } ⌝ }
+{
+    Ruling {
+        number: 0,
+        place: 0,
+    }
+}
+
+pub fn broken(number: u8, place: usize) -> Ruling
+    ensures { λ r. ⌜ r ≡ record { number = number; place = place } ⌝ }
+{
+    Ruling { number, place }
 }
 
 // ---- tests

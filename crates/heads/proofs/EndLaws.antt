@@ -14,7 +14,6 @@ use Rattle.rules.specs.Declarations.{Def, State, known, endTopic}
 use Rattle.rules.specs.Book.{book}
 use Rattle.rules.specs.Judge as J
 use Rattle.rules.specs.Judge.{ok, refused, firstBrokenOr, judge, declare, inTopic, openName, endRules, afterClose}
-use Rattle.rules.proofs.Tests.{not-both}
 use Rattle.ground.specs.Parts.{splice}
 use Rattle.ground.specs.declared.Name.{Name}
 use Rattle.book.specs.Sizes.{topicEndSize, classEndSize}
@@ -47,21 +46,21 @@ pub own-bytes : (t : List ℕ) (d : Def) (r : List ℕ) (m : Name) → m ≡ nam
 own-bytes t d r m e h = ap (bytesOf t) e ∙ h .named .same-bytes
 
 module _ (t : List ℕ) (s : State) (st : code.State) (o x z y hs : List ℕ) (k : Keeps t s st o x z y hs) where
-  pub class-there : st .context .open ≡ true
+  pub class-there : 0 < st .context .open
       → (c : Def) × (s .open-class ≡ some c) × Says t c (row definitionWidth x (st .listing .count + 1))
   class-there e = go (s .open-class) refl (k .opened)
     where
       go : (c : Option Def) → s .open-class ≡ c → OpenIs t s st x hs c
           → (c : Def) × (s .open-class ≡ some c) × Says t c (row definitionWidth x (st .listing .count + 1))
-      go none q h = not-both e (h .0)
+      go none q h = let z = h .0 in absurd (omega arith)
       go (some c) q h = (c, q, h .3 .says)
 
-  pub class-none : st .context .open ≡ false → s .open-class ≡ none
+  pub class-none : st .context .open ≡ 0 → s .open-class ≡ none
   class-none e = go (s .open-class) (k .opened)
     where
       go : (c : Option Def) → OpenIs t s st x hs c → c ≡ none
       go none h = refl
-      go (some c) h = not-both (h .0) e
+      go (some c) h = let z = h .0 in absurd (omega arith)
 
   pub topic-there : 0 < st .context .home → (d : Def) × (s .topic ≡ some d) × Calls t (st .context .topic) (d .name)
   topic-there e = go (s .topic) refl (k .topic)
@@ -161,7 +160,7 @@ module _ (t : List ℕ) (s : State) (n : R.Name) (st : code.State) (o x z y hs r
     close-class-fine r o' x' z' y' st' e w er es g =
         judged-fine t s (U.close n) o st r o' x' z' y' hs (declare s (D.def d)) st' (class-closed e) m (rw es w) er
         (rw es (g (close-fair (declare s (D.def d)) (class-closed e))))
-        (rw es (record { by-one = omega arith; layout-stays = refl }))
+        (rw es refl)
 
   module _ (ec : s .open-class ≡ none) where
     body-at : judge s (U.close n) ≡ judgedWith none (s .topic)
@@ -198,7 +197,7 @@ module _ (t : List ℕ) (s : State) (n : R.Name) (st : code.State) (o x z y hs r
           let f = close-fair (inTopic (declare s (endTopic (d .name))) none) (topic-closed e) in
           judged-fine t s (U.close n) o st r o' x z y hs (inTopic (declare s (endTopic (d .name))) none) st'
           (topic-closed e) m (rw es w) er (topic-ended t s st o x z y hs k ec (d .name) own st' es a o' ea eo' w f)
-          (rw es (record { by-one = omega arith; layout-stays = refl }))
+          (rw es refl)
 
     module _ (et : s .topic ≡ none) (v : Bool) (ev : v ≡ same (bytesOf t name) (bytesOf t (st .context .model))) where
       model-bytes : bytesOf t (st .context .model) ≡ s .model .bytes
@@ -220,4 +219,4 @@ module _ (t : List ℕ) (s : State) (n : R.Name) (st : code.State) (o x z y hs r
           let j : judge s (U.close n) ≡ ok s =
           model-at ∙ rw (alike (st .context .model) (s .model) model-bytes v ev, e) in
           judged-fine t s (U.close n) o st r o x z y hs s st j m (k .within) er k
-          (record { by-one = omega arith; layout-stays = refl })
+          (refl)

@@ -106,7 +106,7 @@ module _ (t : List ℕ) (s : State) (v : S.Symbol) (st : code.State) (o x z y hs
       let g : verdict s (U.header v) o
       ≡ ok s = rw (q, le-ltb (capacity (lent (length o))) (length (book s)) (omega arith)) in
       subst (λ (j : J.Judged). JudgedAs t j st r o x z y hs) (sym g)
-      (st, er, k, record { by-one = omega arith; layout-stays = refl })
+      (st, er, k, refl)
 
   pub header-other : (r : code-judged.Judged) → r ≡ Refused 7 (name .offset)
       → false ≡ same (bytesOf t name) (ascii "2.4") → JudgedAs t (verdict s (U.header v) o) st r o x z y hs
@@ -145,7 +145,7 @@ module _ (t : List ℕ) (s : State) (n : R.Name) (q : Strings) (st : code.State)
       let g : Keeps t (begun n q) (begunBy st (head .name)) o' x z y hs = keeps-begun t s st o x z y hs k
       (c .stands) n q (head .name) o' (rw model-is (calls-cut t n (c .fair .0))) b model-fair in
       judged-fine t s (U.model n q) o st r o' x z y hs (begun n q) st' model-judged m (rw es w) er (rw es g)
-      (rw es (record { by-one = omega arith; layout-stays = refl }))
+      (rw es refl)
 
   pub model-over : (r : code-judged.Judged) (o' : List ℕ) → length o < st .extent .used + modelSize
       → r ≡ Refused 19 (head .name .offset) → JudgedAs t (verdict s (U.model n q) o) st r o' x z y hs
@@ -288,4 +288,4 @@ module _ (t : List ℕ) (s : State) (n : R.Name) (st : code.State) (o x z y hs r
     topic-fine r o' x' z' y' st' w er es g =
         let f = judge-fair t s (afterTopic s n) (U.topic n) (c .fair) (c .stands) (k .fair) topic-judged in
         judged-fine t s (U.topic n) o st r o' x' z' y' hs (afterTopic s n) st' topic-judged m (rw es w) er (rw es (g f))
-        (rw es (record { by-one = omega arith; layout-stays = refl }))
+        (rw es refl)

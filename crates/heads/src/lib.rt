@@ -1,4 +1,5 @@
 // Judging the header, the model, heads of topics, and ends.
+use book::kinds;
 use ground::Name;
 use names::NewDefinition;
 use state::Judged;
@@ -6,7 +7,7 @@ use state::State;
 use state::refused;
 use units::ModelHead;
 ghost use mathlib.Core.Path.{_≡_};
-ghost use mathlib.Core.Bool.{true, false};
+ghost use mathlib.Core.Bool.{false};
 ghost use mathlib.Core.Option.{none, some};
 ghost use mathlib.Core.List.{List};
 ghost use Prim.Native.Nat.{ℕ, _+_, _≤_, _<_};
@@ -75,7 +76,7 @@ pub fn judge_model(text: &[u8], book: &mut [u8], st: State, head: ModelHead) -> 
     let name = head.name;
     let used = st.extent.used;
     if used + book::MODEL_SIZE <= book.len() {
-        let record = book::name_record(1, name.offset, name.len);
+        let record = book::name_record(kinds::MODEL, name.offset, name.len);
         ground::put(book, used, &record);
         return Judged::Fine(st.begun(name));
     }
@@ -94,13 +95,13 @@ fn declare_topic(text: &[u8], book: &mut [u8], work: &mut [u16], st: State, name
         → Kept (now (text .entry)) (afterTopic s n) (topicBy st name) (now (book .exit)) (now (work .exit)) hs) ⌝ }
 {
     let used = st.extent.used;
-    let record = book::name_record(2, name.offset, name.len);
+    let record = book::name_record(kinds::TOPIC, name.offset, name.len);
     ground::put(book, used, &record);
     let d = NewDefinition {
         name,
         home: 0,
         number: st.extent.records,
-        sort: 0,
+        sort: ground::sorts::TOPIC,
         flags: 0,
         place: used,
         base: 0,
@@ -145,7 +146,7 @@ fn end_class(text: &[u8], book: &mut [u8], work: &mut [u16], st: State, own: Nam
         → FairState (now (text .entry)) (declare s (D.def c))
         → Kept (now (text .entry)) (declare s (D.def c)) (closedBy st) (now (book .exit)) (now (work .exit)) hs) ⌝ }
 {
-    let record = [16];
+    let record = [kinds::CLASS_END];
     ground::put(book, st.extent.used, &record);
     state::work::close(work, st);
     state::work::make_known(text, work, st, own);
@@ -167,7 +168,7 @@ fn open_name(index: &[u16], count: usize) -> Name
 
 fn close_class(text: &[u8], book: &mut [u8], work: &mut [u16], st: State, name: Name) -> Judged
     requires { ⌜ (length (now text) ≤ 65535) × (length (now book) ≤ 65535) × Ample st (length (now work)) ⌝ }
-    requires { ⌜ st .context .open ≡ true ⌝ }
+    requires { ⌜ 0 < st .context .open ⌝ }
     requires { ⌜ ((s : D.State) × (n : R.Name) × (hs : List ℕ) × (rs : List ℕ)
         × Kept (now text) s st (now book) (now work) hs × Comes (now text) s (U.close n) (V·Close name) rs) ⌝ }
     ensures { λ r. ⌜ ((s : D.State) (n : R.Name) (hs rs : List ℕ)
@@ -190,7 +191,7 @@ fn close_class(text: &[u8], book: &mut [u8], work: &mut [u16], st: State, name: 
 }
 
 fn close_topic(text: &[u8], book: &mut [u8], st: State, name: Name) -> Judged
-    requires { ⌜ (length (now book) ≤ 65535) × (st .context .open ≡ false) × (0 < st .context .home) ⌝ }
+    requires { ⌜ (length (now book) ≤ 65535) × (st .context .open ≡ 0) × (0 < st .context .home) ⌝ }
     requires { ⌜ ((s : D.State) × (n : R.Name) × (w : List ℕ) × (hs : List ℕ) × (rs : List ℕ)
         × Kept (now text) s st (now book) w hs × Comes (now text) s (U.close n) (V·Close name) rs) ⌝ }
     ensures { λ r. ⌜ ((s : D.State) (n : R.Name) (w hs rs : List ℕ)
@@ -202,7 +203,7 @@ fn close_topic(text: &[u8], book: &mut [u8], st: State, name: Name) -> Judged
     if names::same_name(text, name, topic) {
         let used = st.extent.used;
         if used + book::TOPIC_END_SIZE <= book.len() {
-            let record = [3];
+            let record = [kinds::TOPIC_END];
             ground::put(book, used, &record);
             return Judged::Fine(st.grown(book::TOPIC_END_SIZE, 1, 0).in_topic(topic, 0));
         }
@@ -222,7 +223,7 @@ pub fn judge_close(text: &[u8], book: &mut [u8], work: &mut [u16], st: State, na
         → Answered (now (text .entry)) (verdict s (U.close n) (now (book .entry))) st r (now (book .exit))
         (now (work .exit)) hs) ⌝ }
 {
-    if st.context.open {
+    if 0 < st.context.open {
         return close_class(text, book, work, st, name);
     }
     if 0 < st.context.home {

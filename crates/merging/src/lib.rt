@@ -17,6 +17,7 @@ use book::ELEMENT_SIZE;
 use book::LIST_END_SIZE;
 use book::LIST_SIZE;
 use book::Part;
+use book::kinds;
 use book::written_name;
 use enumerations::Inner;
 use enumerations::NOWHERE;
@@ -277,9 +278,9 @@ const OPENED_SIZE: usize = ELEMENT_SIZE + LIST_SIZE;
 fn element_piece(name: Part, is_final: u8, len: usize, records: usize) -> Piece
     ensures { λ r. ⌜ r ≡ elementPiece name «is_final» len records ⌝ }
 {
-    let n = book::name_record(14, name.start, name.len);
+    let n = book::name_record(kinds::ELEMENT, name.start, name.len);
     Piece {
-        bytes: [n[0], n[1], n[2], n[3], n[4], n[5], 13, is_final],
+        bytes: [n[0], n[1], n[2], n[3], n[4], n[5], kinds::LIST, is_final],
         len,
         records,
     }
@@ -290,12 +291,12 @@ fn piece_of(e: Emit) -> Piece
 {
     match e {
         Emit::Quiet => Piece {
-            bytes: [15; 8],
+            bytes: [kinds::LIST_END; 8],
             len: 0,
             records: 0,
         },
         Emit::Close => Piece {
-            bytes: [15; 8],
+            bytes: [kinds::LIST_END; 8],
             len: LIST_END_SIZE,
             records: 1,
         },
@@ -307,7 +308,7 @@ fn piece_of(e: Emit) -> Piece
             2,
         ),
         Emit::Barred => Piece {
-            bytes: [15; 8],
+            bytes: [kinds::LIST_END; 8],
             len: 0,
             records: 0,
         },
@@ -456,7 +457,7 @@ pub fn merged(
     let g = gathered(text, &out[..n], base, scratch, tables);
     let b = inner_at(&out[..n], base);
     let o = inner_at(scratch, 0);
-    let opening = [13, flag(either(b.is_final, o.is_final))];
+    let opening = [kinds::LIST, flag(either(b.is_final, o.is_final))];
     put_if(out, start, &opening);
     let course = Course {
         start,

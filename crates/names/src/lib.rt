@@ -250,7 +250,7 @@ pub fn find_in_topic(
     if p == 0 {
         return 0;
     }
-    if sort_of(index, p) == 0 {
+    if sort_of(index, p) == ground::sorts::TOPIC {
         let home = number_of(index, p) + 1;
         return find(text, index, chains, count, name, home, home);
     }

@@ -47,7 +47,7 @@ fn none_written() -> Properties
 }
 
 // The properties with the one of a word added.
-fn with(p: Properties, word: u8) -> Properties
+fn with(p: Properties, word: u32) -> Properties
     ensures { λ r. ⌜ r ≡ withWord p word ⌝ }
 {
     if word == readers::FINAL {
@@ -74,7 +74,7 @@ fn with(p: Properties, word: u8) -> Properties
     }
 }
 
-fn is_property(code: u8, owner: Owner) -> bool
+fn is_property(code: u32, owner: Owner) -> bool
     ensures { λ r. ⌜ r ≡ isProperty owner code ⌝ }
 {
     match owner {

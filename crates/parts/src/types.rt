@@ -1,5 +1,6 @@
 // Types, and what stands behind the `=` of a domain or the `:` of an attribute.
 use crate::Optional;
+use book::kinds;
 use ground::is_digit;
 use numbers::Number;
 use readers::expect;
@@ -192,10 +193,10 @@ fn plain_type(text: &[u8], y: Symbol) -> MeantRead
         (r .next)) ⌝ }
 {
     if y.code == readers::TEXT {
-        return text_type(text, 8, y);
+        return text_type(text, kinds::TEXT, y);
     }
     if y.code == readers::MTEXT {
-        return text_type(text, 9, y);
+        return text_type(text, kinds::MTEXT, y);
     }
     if y.code == readers::NUMERIC {
         return numeric_type(text, y);

@@ -16,7 +16,7 @@ use Rattle.rules.specs.Grammar as G
 use Rattle.rules.specs.Grammar.{Reference, Bounds, WrittenType, Written}
 use Rattle.rules.specs.Units as U
 use Rattle.rules.specs.Units.{Strings, isGiven}
-use Rattle.rules.specs.Types.{Ty, text, numeric, structure, enum, kindOf, fits, unitsFit}
+use Rattle.rules.specs.Types.{Ty, text, numeric, structure, enum, kindOf, fits, keepsUnit}
 use Rattle.rules.specs.Declarations.{Link, Use, inline, ofDomain, ofStructure, tyOf, Attribute, Sort, topic}
 use Rattle.rules.specs.Declarations.{class, domain, unit, isSort, Def, linkOf, measureIn, attributesOf}
 use Rattle.rules.specs.Declarations.{attributeAt, isFound}
@@ -166,6 +166,10 @@ referenceIn (some (G.text m n)) = none
 referenceIn (some (G.numeric q r)) = r
 referenceIn (some (G.enum e)) = none
 referenceIn (some (G.named r)) = some r
+
+-- what it leads to
+abbrev pub targetIn : State → Written → Option Def
+targetIn s w = resolved s (referenceIn (w .type))
 
 -- a domain or structure is named in place of a type
 abbrev pub isNaming : Option WrittenType → Bool
@@ -352,7 +356,7 @@ domain17 w base target =
 abbrev pub domain22 : Written → Option Def → Option Def → Rule
 domain22 w base target =
     rule 22 (w .place)
-    (isFound base && not (unitsFit (domainType (w .type) target (orNoDef base .type)) (orNoDef base .type)))
+    (isFound base && not (keepsUnit (domainType (w .type) target (orNoDef base .type)) (orNoDef base .type)))
 
 unfoldable pub domainRules : State → Name → List (List ℕ) → Option Reference → Written → Option Def → Option Def
     → List Rule
@@ -438,7 +442,7 @@ attribute18 p based names u b = rule 18 p (based && (names && not (descends u b)
 
 -- 22, of a type in place; a descendant that is named was judged where it was declared, any other name is 18
 abbrev pub attribute22 : ℕ → Bool → Bool → Use → Use → Rule
-attribute22 p based names u b = rule 22 p (based && (not names && not (unitsFit (tyOf u) (tyOf b))))
+attribute22 p based names u b = rule 22 p (based && (not names && not (keepsUnit (tyOf u) (tyOf b))))
 
 abbrev pub attributeFrom17 : ℕ → Bool → Bool → Use → Use → List Rule
 attributeFrom17 p based names u b =
@@ -457,12 +461,12 @@ inheritedAs c n = attributeAt (n .bytes) (c .inherited)
 -- by the grammar an attribute stands only in an open class
 abbrev pub memberRules : State → Name → List (List ℕ) → Written → Option Def → List Rule
 memberRules s n p w none = []
-memberRules s n p w (some c) = attributeRules s c n p w (inheritedAs c n) (resolved s (referenceIn (w .type)))
+memberRules s n p w (some c) = attributeRules s c n p w (inheritedAs c n) (targetIn s w)
 
 abbrev pub afterMember : State → Name → List (List ℕ) → Written → Option Def → State
 afterMember s n p w none = s
 afterMember s n p w (some c) =
-    opened s (withAttribute c (newAttribute s n p w (inheritedAs c n) (resolved s (referenceIn (w .type)))))
+    opened s (withAttribute c (newAttribute s n p w (inheritedAs c n) (targetIn s w)))
 
 -- ---- END of what is open: the class, else the topic, else the model
 abbrev pub openName : State → Option Def → Option Def → Name
@@ -484,7 +488,7 @@ rulesOf s (U.header v) = headerRules v
 rulesOf s (U.model n q) = []
 rulesOf s (U.topic n) = topicRules s n
 rulesOf s (U.class c n p r) = classRules s c n p r (resolved s r)
-rulesOf s (U.domain n p r w) = domainRules s n p r w (resolved s r) (resolved s (referenceIn (w .type)))
+rulesOf s (U.domain n p r w) = domainRules s n p r w (resolved s r) (targetIn s w)
 rulesOf s (U.attribute n p w) = memberRules s n p w (s .open-class)
 rulesOf s (U.unit n p r) = classRules s unit n p r (resolved s r)
 rulesOf s (U.close n) = endRules n (openName s (s .open-class) (s .topic))
@@ -494,8 +498,7 @@ nextState s (U.header v) = s
 nextState s (U.model n q) = begun n q
 nextState s (U.topic n) = afterTopic s n
 nextState s (U.class c n p r) = opened s (newClass s c n p (resolved s r))
-nextState s (U.domain n p r w) =
-    declare s (def (newDomain s n p w (resolved s r) (resolved s (referenceIn (w .type)))))
+nextState s (U.domain n p r w) = declare s (def (newDomain s n p w (resolved s r) (targetIn s w)))
 nextState s (U.attribute n p w) = afterMember s n p w (s .open-class)
 nextState s (U.unit n p r) = declare s (def (newClass s unit n p (resolved s r)))
 nextState s (U.close n) = afterClose s (s .open-class) (s .topic)

@@ -23,13 +23,14 @@ use Rattle.rules.specs.Check as C
 use Rattle.rules.specs.Check.{Given, lent, capacity, isOver, runFrom, judged, room, unitPlace, afterJudge, afterUnit}
 use Rattle.rules.specs.Check.{finish, Next, run}
 use Rattle.rules.proofs.Tests.{never}
+use Rattle.state.specs.declared.Layout.{Layout}
 use Rattle.state.specs.Parts.{Loan}
 use Rattle.answers.specs.declared.Answer.{Answer}
 use Rattle.answers.specs.declared.Answer.the-variants.{Accepted, Refused}
 use Rattle.rules.specs.Promise.{Promise}
 use Rattle.answers.specs.Answers.{answerOf, full, keptOf}
 use Rattle.running.specs.Trying.{Tried}
-use Rattle.running.specs.Running.{Ended}
+use Rattle.running.specs.Running.{Ended, Suffice}
 
 -- ---- a buffer counts only up to the capacity
 module _ (t : List ℕ) (m n : Given) (e : capacity m ≡ capacity n) where
@@ -184,3 +185,6 @@ loan-less h l = record {
   scratch-short = l .scratch-short;
   tables-wide = omega (arith, h, l .tables-wide);
 }
+
+pub suffice-less : {m m′ w : ℕ} {y : Layout} → m′ ≤ m → Suffice m y w → Suffice m′ y w
+suffice-less h s st e q = s st e (omega (arith, h, q))

@@ -40,7 +40,7 @@ use Rattle.wellformed.proofs.StandLaws.{may-stand, placed-mark, placed-next}
 use Rattle.state.specs.declared.State as code
 use Rattle.state.specs.declared.Judged as code-judged
 use Rattle.state.specs.declared.Judged.the-variants.{Fine, Refused as Broken}
-use Rattle.state.specs.Keeping.{Keeps, OpenIs, Grows, Kept, Answered}
+use Rattle.state.specs.Keeping.{Keeps, OpenIs, PartsStay, Kept, Answered}
 use Rattle.book.specs.Sizes.{topicSize, headSize}
 use Rattle.state.specs.declared.Layout.{Layout}
 use Rattle.state.specs.Parts.{indexIn, chainsIn, rowsIn}
@@ -267,8 +267,8 @@ module _ {t : List ℕ} {m : ℕ} {g : Stage} {o w₀ hs : List ℕ}
       (sym (ap placeOf (G .at) ∙ place-where (G .next)))
 
   fine : {o′ v hs′ : List ℕ} (k : State) (st : code.State) → judged (lent m) (R .state) (G .unit) ≡ J.ok k
-      → Kept t k st o′ v hs′ → Grows (g .state) st → Turned t m g (after (Fine st) w n) o′ v hs′
-  fine k st e h few = (
+      → Kept t k st o′ v hs′ → PartsStay (g .state) st → Turned t m g (after (Fine st) w n) o′ v hs′
+  fine k st e h stay = (
     record {
       fuel = G .fuel;
       state = k;
@@ -279,11 +279,10 @@ module _ {t : List ℕ} {m : ℕ} {g : Stage} {o w₀ hs : List ℕ}
       first = G .first;
       keeps = h;
       placed = subst (λ (v : U.Where). Placed v k) (sym (ap placeOf (G .at) ∙ place-where (G .next))) (G .placed k e);
-      few = omega (arith, few .by-one, R .few, G .further);
     },
     omega (arith, G .on, next-place, symbol-lies .starts),
     omega (arith, next-place, symbol-lies .ends),
-    few .layout-stays,
+    stay,
   )
 
   pub turned : {j : code-judged.Judged} {r : Turn} {o′ v hs′ : List ℕ} → r ≡ after j w n
@@ -293,7 +292,7 @@ module _ {t : List ℕ} {m : ℕ} {g : Stage} {o w₀ hs : List ℕ}
     where
       go : (q : J.Judged) → judged (lent m) (R .state) (G .unit) ≡ q → Answered t q (g .state) j o′ v hs′
           → Turned t m g (after j w n) o′ v hs′
-      go (J.ok k) e (st, i, h, few) = rw i (fine k st e (kept-on t k (g .state) st o′ v hs′ (few .layout-stays) h) few)
+      go (J.ok k) e (st, i, h, stay) = rw i (fine k st e (kept-on t k (g .state) st o′ v hs′ stay h) stay)
       go (J.refused a b) e i =
           rw i (broken-ends t m o′ (R .state) a b (G .goes-on ∙ ap (λ (q : J.Judged). afterJudge (R .state) q (G .next)
           (G .behind) (λ v x b. runFrom (G .fuel) t (lent m) v x b)) e))
@@ -320,7 +319,6 @@ module _ (t : List ℕ) (m : ℕ) (o w hs : List ℕ) where
             subst (λ (l : Layout). Keeps t nothing (g .state) o (indexIn l w) (chainsIn l w) (rowsIn l w) hs) (sym el)
             (subst (λ (z : List ℕ). Keeps t nothing (g .state) o (indexIn y w) z (rowsIn y w) hs) (sym e) k);
         placed = rw v (record { decls = refl; topic = refl; open-class = refl });
-        few = omega (arith, k .held .all-defs, k .held .all-attributes);
       }
 
 -- ---- judging's answer
@@ -346,5 +344,5 @@ on-turn t m m′ g r g′ o w hs e f h = rw (e, f) at h
 pub runs-sized : {t : List ℕ} {m m′ : ℕ} {g : Stage} {o w hs : List ℕ} → m ≡ m′ → Runs t m′ g o w hs → Runs t m g o w hs
 runs-sized e R = rw e R
 
-pub suffices : {l w w′ : ℕ} {y y′ : Layout} → w ≡ w′ → y ≡ y′ → Suffice l y′ w′ → Suffice l y w
-suffices e f h = rw (e, f) h
+pub suffices : {m m′ w w′ : ℕ} {y y′ : Layout} → m ≡ m′ → w ≡ w′ → y ≡ y′ → Suffice m′ y′ w′ → Suffice m y w
+suffices d e f h = rw (d, e, f) h

@@ -25,12 +25,11 @@ use Rattle.running.specs.declared.Stage.{Stage}
 use Rattle.running.specs.declared.Turn.{Turn}
 use Rattle.running.specs.declared.Turn.the-variants.{On, End}
 
--- w numbers laid out so suffice for a text of l bytes: every definition and attribute takes a byte of the text,
--- and its bytes of the book
+-- w numbers laid out so suffice for a book of m bytes, of which every definition and attribute takes its own
 abbrev pub Suffice : ℕ → Layout → ℕ → Type 0
-Suffice l y w =
-    (st : code.State) → st .listing .layout ≡ y → st .listing .count + st .listing .total ≤ l
-    → topicSize * st .listing .count + headSize * st .listing .total ≤ 65535 → Ample st w
+Suffice m y w =
+    (st : code.State) → st .listing .layout ≡ y
+    → topicSize * st .listing .count + headSize * st .listing .total ≤ m → Ample st w
 
 -- the text t with a buffer of m bytes: what is left to run is to run from a place on, in a state that the code keeps
 pub record Runs (t : List ℕ) (m : ℕ) (g : Stage) (o w hs : List ℕ) : Type 0 where
@@ -43,7 +42,6 @@ pub record Runs (t : List ℕ) (m : ℕ) (g : Stage) (o w hs : List ℕ) : Type 
   pub first : g .next ≡ cut (symbolAt t place)
   pub keeps : Kept t state (g .state) o w hs
   pub placed : Placed (placeOf (g .at)) state
-  pub few : g .state .listing .count + g .state .listing .total ≤ place
 
 -- the outcome is a book, which stands at the front of the buffer, or a refusal
 abbrev pub Ended : List ℕ → ℕ → Answer → List ℕ → Type 0

@@ -68,7 +68,7 @@ fn step(
     g: Stage,
 ) -> Turn
     requires { ⌜ Loan (length (now text)) (length (now book)) (length (now scratch)) (length (now tables)) ⌝ }
-    requires { ⌜ Suffice (length (now text)) (g .state .listing .layout) (length (now work)) × Hand (now hand) ⌝ }
+    requires { ⌜ Suffice (length (now book)) (g .state .listing .layout) (length (now work)) × Hand (now hand) ⌝ }
     requires { ⌜ Runs (now text) (length (now book)) g (now book) (now work) (now hand) ⌝ }
     ensures { λ r. ⌜ Turned (now (text .entry)) (length (now (book .entry))) g r
         (now (book .exit)) (now (work .exit)) (now (hand .exit)) ⌝ }
@@ -102,7 +102,7 @@ pub fn run(
     layout: Layout,
 ) -> Answer
     requires { ⌜ Loan (length (now text)) (length (now book)) (length (now scratch)) (length (now tables)) ⌝ }
-    requires { ⌜ Suffice (length (now text)) layout (length (now work)) × Hand (now hand) ⌝ }
+    requires { ⌜ Suffice (length (now book)) layout (length (now work)) × Hand (now hand) ⌝ }
     requires { ⌜ ((n : ℕ) × (chainsIn layout (now work) ≡ replicate n 0)) ⌝ }
     ensures { λ r. ⌜ Ended (now (text .entry)) (length (now (book .entry))) r (now (book .exit)) ⌝ }
 {
@@ -146,7 +146,7 @@ pub fn check_with(
     layout: Layout,
 ) -> Answer
     requires { ⌜ Loan (length (now text)) most (length (now scratch)) (length (now tables)) ⌝ }
-    requires { ⌜ Suffice (length (now text)) layout (length (now work)) × Hand (now hand) ⌝ }
+    requires { ⌜ Suffice most layout (length (now work)) × Hand (now hand) ⌝ }
     requires { ⌜ ((n : ℕ) × (chainsIn layout (now work) ≡ replicate n 0)) ⌝ }
     ensures { λ r. ⌜ Tried (now (text .entry)) (length (now (book .entry))) most (answerOf r) (now (book .exit)) ⌝ }
 {

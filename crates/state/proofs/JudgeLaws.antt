@@ -19,7 +19,7 @@ use Rattle.readers.specs.Reads.{nameCut}
 use Rattle.state.specs.declared.State as code
 use Rattle.state.specs.declared.Judged as code-judged
 use Rattle.state.specs.declared.Judged.the-variants.{Fine, Refused}
-use Rattle.state.specs.Keeping.{Calls, TopicIs, OpenIs, Keeps, Grows, JudgedAs, verdict}
+use Rattle.state.specs.Keeping.{Calls, TopicIs, OpenIs, Keeps, PartsStay, JudgedAs, verdict}
 pub use Rattle.state.specs.Keeping.{Small}
 use Rattle.state.proofs.KeepLaws.{definitions-few}
 
@@ -84,7 +84,7 @@ module _ (t : List ℕ) (s : State) (v : U.Unit) (o : List ℕ) (st : code.State
       (ap (room (lent (length o)) (unitPlace v)) e ∙ room-over (length o) (unitPlace v) s' m w) h
 
   pub judged-fine : (s' : State) (st' : code.State) → judge s v ≡ ok s' → length o ≤ 65535 → st' .extent .used ≤ length
-      o → r ≡ Fine st' → Keeps t s' st' o' x z y hs → Grows st st' → JudgedAs t (verdict s v o) st r o' x z y hs
+      o → r ≡ Fine st' → Keeps t s' st' o' x z y hs → PartsStay st st' → JudgedAs t (verdict s v o) st r o' x z y hs
   judged-fine s' st' e m w h k g =
       let u = k .used in
       answer (ok s') (ap (room (lent (length o)) (unitPlace v)) e

@@ -265,7 +265,7 @@ grown s s' st o o' l b r d k e f w eb er ed =
 pub keeps-nothing : (t : List ℕ) (st : code.State) (o x y hs : List ℕ) (n : ℕ) → st .extent .used ≡ 0
     → st .extent .records ≡ 0 → st .extent .definitions ≡ 0 → st .listing .count ≡ 0 → st .listing .total ≡ 0
     → st .context .model .offset ≡ 0 → st .context .model .len ≡ 0 → st .context .home ≡ 0
-    → st .context .open ≡ false → st .context .«in_hand» ≡ 0 → st .context .held ≡ 0
+    → st .context .open ≡ 0 → st .context .«in_hand» ≡ 0 → st .context .held ≡ 0
     → Keeps t nothing st o x (replicate n 0) y hs
 keeps-nothing t st o x y hs n eu er ed ec et eo el eh ep ei ee = record {
   used = eu;

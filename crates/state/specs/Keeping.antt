@@ -1,6 +1,5 @@
 -- What the code holds of a state between units: the book, the index of definitions, the attributes and the open class.
 use mathlib.Core.Path.{_≡_}
-use mathlib.Core.Bool.{true, false}
 use mathlib.Core.Option.{Option, none, some}
 use mathlib.Core.List.{List}
 use Prim.Native.Nat.{ℕ, _+_, _*_, _≤_}
@@ -42,11 +41,11 @@ TopicIs t (some d) st =
 -- the row behind the last
 abbrev pub OpenIs : List ℕ → State → code.State → List ℕ → List ℕ → Option Def → Type 0
 OpenIs t s st x hs none =
-    (st .context .open ≡ false) × (st .context .held ≤ st .listing .count)
+    (st .context .open ≡ 0) × (st .context .held ≤ st .listing .count)
     × (topicSize * st .listing .count + headSize * st .listing .total ≤ st .extent .used)
     × InHand (attributesIn s) hs (st .context .«in_hand») (entry (known (s .decls)) (st .context .held))
 OpenIs t s st x hs (some c) =
-    (st .context .open ≡ true)
+    (st .context .open ≡ 1)
     × (topicSize * st .listing .count + headSize * st .listing .total + topicSize ≤ st .extent .used)
     × Opened (attributesIn s) hs (st .context .«in_hand») c
     × OpenRow t (book s) (known (s .decls)) (attributesIn s) (st .listing .count + 1) c
@@ -76,15 +75,14 @@ pub record Small (st : code.State) : Type 0 where
   pub home : st .context .home ≤ st .extent .records
   pub rows : topicSize * st .listing .count + headSize * st .listing .total ≤ st .extent .used
 
--- a unit adds at most one definition or attribute, and the parts of `work` stay where they lie
-pub record Grows (st st′ : code.State) : Type 0 where
-  pub by-one : st′ .listing .count + st′ .listing .total ≤ st .listing .count + st .listing .total + 1
-  pub layout-stays : st′ .listing .layout ≡ st .listing .layout
+-- the parts of `work` stay where they lie
+abbrev pub PartsStay : code.State → code.State → Type 0
+PartsStay st st′ = st′ .listing .layout ≡ st .listing .layout
 
 -- the answer of judging, and what the code then holds
 abbrev pub JudgedAs : List ℕ → J.Judged → code.State → code-judged.Judged → List ℕ → List ℕ
     → List ℕ → List ℕ → List ℕ → Type 0
-JudgedAs t (J.ok s) st r o x z y hs = (st′ : code.State) × (r ≡ Fine st′) × Keeps t s st′ o x z y hs × Grows st st′
+JudgedAs t (J.ok s) st r o x z y hs = (st′ : code.State) × (r ≡ Fine st′) × Keeps t s st′ o x z y hs × PartsStay st st′
 JudgedAs t (J.refused n p) st r o x z y hs = r ≡ Refused n p
 
 -- the unit v, read as u with its enumeration's records in the scratch rs, comes in the state s

@@ -1,5 +1,4 @@
 -- The code's state after a unit.
-use mathlib.Core.Bool.{Bool, true, false}
 use Prim.Native.Nat.{ℕ, _+_}
 use Rattle.ground.specs.declared.Name.{Name}
 use Rattle.book.specs.Sizes.{modelSize, headSize, classEndSize}
@@ -61,8 +60,8 @@ inTopicBy st n h = record {
   };
 }
 
--- whether a class is open, how many attributes are in hand, and whose they are
-abbrev pub holding : Context → Bool → ℕ → ℕ → Context
+-- how many classes are open, how many attributes are in hand, and whose they are
+abbrev pub holding : Context → ℕ → ℕ → ℕ → Context
 holding c o n h = record { model = c .model; topic = c .topic; home = c .home; «open» = o; «in_hand» = n; held = h }
 
 -- the head of a class that has n attributes
@@ -70,7 +69,7 @@ abbrev pub openedBy : State → ℕ → State
 openedBy st n = record {
   extent = longer (st .extent) headSize 1 1;
   listing = st .listing;
-  context = holding (st .context) true n (st .context .held);
+  context = holding (st .context) 1 n (st .context .held);
 }
 
 -- an attribute of the open class, which then has n
@@ -86,5 +85,5 @@ abbrev pub closedBy : State → State
 closedBy st = record {
   extent = longer (st .extent) classEndSize 1 0;
   listing = oneDefinition (st .listing);
-  context = holding (st .context) false (st .context .«in_hand») (st .listing .count + 1);
+  context = holding (st .context) 0 (st .context .«in_hand») (st .listing .count + 1);
 }

@@ -4,6 +4,8 @@ pub mod work;
 use ground::Name;
 use ground::Reference;
 use ground::Ruling;
+use ground::fine;
+use ground::sorts;
 use parts::Optional;
 use parts::Properties;
 use parts::types::Meant;
@@ -59,13 +61,13 @@ pub struct Listing {
     pub layout: Layout,
 }
 
-// The model's name; the open topic's name, and 0 or one more than its record number; whether a class is open; how many
-// attributes are in hand, and whose they are while no class is open, 0 for none's.
+// The model's name; the open topic's name, and 0 or one more than its record number; how many classes are open, 0 or 1;
+// how many attributes are in hand, and whose they are while no class is open, 0 for none's.
 pub struct Context {
     pub model: Name,
     pub topic: Name,
     pub home: usize,
-    pub open: bool,
+    pub open: usize,
     pub in_hand: usize,
     pub held: usize,
 }
@@ -111,7 +113,7 @@ pub fn nothing(layout: Layout) -> State
         model: no_name,
         topic: no_name,
         home: 0,
-        open: false,
+        open: 0,
         in_hand: 0,
         held: 0,
     };
@@ -166,7 +168,7 @@ impl Listing {
 }
 
 impl Context {
-    fn holding(self, open: bool, in_hand: usize, held: usize) -> Context
+    fn holding(self, open: usize, in_hand: usize, held: usize) -> Context
         ensures { λ r. ⌜ r ≡ Next·holding self «open» «in_hand» held ⌝ }
     {
         let model = self.model;
@@ -276,7 +278,7 @@ impl State {
         let extent = before.longer(book::HEAD_SIZE, 1, 1);
         let listing = self.listing;
         let around = self.context;
-        let context = around.holding(true, in_hand, around.held);
+        let context = around.holding(1, in_hand, around.held);
         State {
             extent,
             listing,
@@ -316,7 +318,7 @@ impl State {
         let rows = self.listing;
         let listing = rows.with_definition();
         let around = self.context;
-        let context = around.holding(false, around.in_hand, listing.count);
+        let context = around.holding(0, around.in_hand, listing.count);
         State {
             extent,
             listing,
@@ -395,10 +397,7 @@ fn extends_ruling(index: &[u16], sort: usize, base: usize, place: usize) -> Ruli
     if names::is_final(names::flags_of(index, base)) {
         return Ruling { number: 12, place };
     }
-    Ruling {
-        number: 0,
-        place: 0,
-    }
+    fine()
 }
 
 // Of what extends, by the number of its sort.
@@ -414,10 +413,7 @@ pub fn extends(text: &[u8], work: &[u16], st: State, sort: usize, base: Optional
 {
     match base {
         Optional::Nothing => {
-            let ruling = Ruling {
-                number: 0,
-                place: 0,
-            };
+            let ruling = fine();
             Extension { ruling, base: 0 }
         }
         Optional::Given(r) => {
@@ -452,12 +448,12 @@ fn may_stand_in(m: Meant, sort: usize) -> bool
         → r ≡ mayStandIn w d) ⌝ }
 {
     if let Meant::Named = m {
-        if sort == 3 {
+        if sort == sorts::DOMAIN {
             return true;
         }
-        return sort == 2;
+        return sort == sorts::STRUCTURE;
     }
-    sort == 4
+    sort == sorts::UNIT
 }
 
 // 10 and 11 of the reference in a type, which leads to the definition at a position.
@@ -474,17 +470,11 @@ pub fn target_ruling(index: &[u16], m: Meant, reference: Optional, target: usize
             return Ruling { number: 10, place };
         }
         if may_stand_in(m, names::sort_of(index, target)) {
-            return Ruling {
-                number: 0,
-                place: 0,
-            };
+            return fine();
         }
         return Ruling { number: 11, place };
     }
-    Ruling {
-        number: 0,
-        place: 0,
-    }
+    fine()
 }
 
 // Of two rulings the one with the lesser number, the first where they are alike; 0 is none.

@@ -17,9 +17,10 @@ pub struct Cursor {
 // code: 0 the end of the text, 1 a name, 2 a number, 3 a string, 4 `..`, 5 a fault, 40 to 61, 91 and 93 a mark's byte,
 // 64 to 82 a word of the forms; 90 is the last code that a word may have.
 // refusal: the number that refuses the symbol where it is not possible: its own fault's, or 5.
+// Both fill what a place would leave empty behind a byte: bytes without a meaning are copied too, and slowly.
 pub struct Symbol {
-    pub code: u8,
-    pub refusal: u8,
+    pub code: u32,
+    pub refusal: u32,
     pub place: usize,
     pub len: usize,
     pub next: Cursor,
@@ -37,7 +38,7 @@ enum Class {
     Other,
 }
 
-fn make(code: u8, refusal: u8, place: usize, len: usize) -> Symbol
+fn make(code: u32, refusal: u32, place: usize, len: usize) -> Symbol
     requires { ⌜ place + len < 18446744073709551616 ⌝ }
     ensures { λ r. ⌜ r ≡ made code refusal place len ⌝ }
 {
@@ -58,13 +59,20 @@ fn stop(place: usize) -> Symbol
 }
 
 // A symbol with a fault of the number: it stays what it is wherever it is read.
-pub fn faulty(number: u8, place: usize) -> Symbol
+pub fn faulty(number: u32, place: usize) -> Symbol
     ensures { λ r. ⌜ r ≡ made 5 number place 0 ⌝ }
 {
     make(5, number, place, 0)
 }
 
 // ---- bytes
+// A byte as a code.
+fn code_of(b: u8) -> u32
+    ensures { λ r. ⌜ r ≡ b ⌝ }
+{
+    b as u32
+}
+
 fn class_of(b: u8) -> Class
     ensures { λ r. ⌜ r ≡ classOf b ⌝ }
 {
@@ -93,7 +101,7 @@ fn word(text: &[u8], at: usize) -> Symbol
     if code == b'.' {
         return make(5, 6, at, len);
     }
-    make(code, 5, at, len)
+    make(code_of(code), 5, at, len)
 }
 
 // ---- numbers
@@ -158,7 +166,7 @@ fn punctuation(text: &[u8], at: usize) -> Symbol
     if scans::two(text, at, b'.', b'.') {
         return make(4, 5, at, 2);
     }
-    make(text[at], 5, at, 1)
+    make(code_of(text[at]), 5, at, 1)
 }
 
 impl Cursor {

@@ -11,7 +11,7 @@ use borrow.Author.Tests.{ne-eqb}
 use Rattle.rules.specs.All.{AnyIs, In}
 use Rattle.rules.specs.Grammar as G
 use Rattle.rules.specs.Grammar.{WrittenType}
-use Rattle.rules.specs.Types.{Measure, Ty, text, numeric, structure, enum, unitOf, unitFits, unitsFit}
+use Rattle.rules.specs.Types.{Measure, Ty, text, numeric, structure, enum, unitOf, unitFits, keepsUnit}
 use Rattle.rules.specs.Declarations.{Def, measureOf, measureIn}
 use Rattle.rules.specs.Judge.{domainType, basesOf, isAmong}
 use Rattle.rules.proofs.Tests.{never}
@@ -60,7 +60,7 @@ none-keeps (some u) = ne-eqb (u .number + 1) 0 (λ z. omega arith)
 
 module _ {m : Meant} (b : Ty) (target : Option Def) where
   pub alone-keeps : isAlone m ≡ true → (w : Option WrittenType) → m ≡ anyOf w
-      → true ≡ unitsFit (domainType w target b) b
+      → true ≡ keepsUnit (domainType w target b) b
   alone-keeps h none e = sym (units-self b)
   alone-keeps h (some (G.text k none)) e = never (rw e at h)
   alone-keeps h (some (G.text k (some y))) e = never (rw e at h)
@@ -70,7 +70,7 @@ module _ {m : Meant} (b : Ty) (target : Option Def) where
   alone-keeps h (some (G.named r)) e = never (rw e at h)
 
   pub number-keeps : isNumber m ≡ true → (w : Option WrittenType) → m ≡ anyOf w
-      → unitFits (measureIn target) (unitOf b) ≡ unitsFit (domainType w target b) b
+      → unitFits (measureIn target) (unitOf b) ≡ keepsUnit (domainType w target b) b
   number-keeps h none e = never (rw e at h)
   number-keeps h (some (G.text k none)) e = never (rw e at h)
   number-keeps h (some (G.text k (some y))) e = never (rw e at h)
@@ -94,5 +94,5 @@ module _ {m : Meant} (b : Ty) (target : Option Def) where
   no-unit h i (some (G.named r)) e = refl
 
   pub other-keeps : isAlone m ≡ false → isNumber m ≡ false → (n : ℕ) → n ≡ unitNumber (unitOf b)
-      → (w : Option WrittenType) → m ≡ anyOf w → eqb n 0 ≡ unitsFit (domainType w target b) b
+      → (w : Option WrittenType) → m ≡ anyOf w → eqb n 0 ≡ keepsUnit (domainType w target b) b
   other-keeps h i n k w e = rw (k, no-unit h i w e) (none-keeps (unitOf b))

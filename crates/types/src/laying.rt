@@ -1,4 +1,5 @@
 // The records of a type, written where they fit and counted in any case.
+use book::kinds;
 use enumerations::Size;
 use enumerations::size_of;
 use fitting::Typing;
@@ -40,7 +41,7 @@ fn put_number(out: &mut [u8], at: usize, src: &[u8], unit: usize) -> Laid
     if unit == 0 {
         return put_record(out, at, src);
     }
-    let r = book::length_record(19, unit - 1);
+    let r = book::length_record(kinds::UNIT_OF_NUMBER, unit - 1);
     put_if(out, at, src);
     put_if(out, at + src.len(), &r);
     Laid::Whole(Size {
@@ -70,7 +71,7 @@ pub fn plain(out: &mut [u8], at: usize, x: Typing) -> Laid
             put_number(out, at, &r, unit)
         }
         Typing::Numeric { unit } => {
-            let r = [11];
+            let r = [kinds::NUMERIC];
             put_number(out, at, &r, unit)
         }
         Typing::Enumeration { .. } => Laid::Whole(Size {

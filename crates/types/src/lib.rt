@@ -8,6 +8,7 @@ use fitting::is_enumeration;
 use fitting::place_of;
 use fitting::unit_of;
 use ground::Ruling;
+use ground::fine;
 use merging::Laid;
 use numbers::Number;
 use parts::types::Meant;
@@ -20,7 +21,7 @@ ghost use lib.ListN.{length, take};
 ghost use lib.Dec.{eqb};
 ghost use lib.Signed.{ltZ};
 ghost use Rattle.rules.specs.Grammar.{WrittenType};
-ghost use Rattle.rules.specs.Types.{Ty, kindOf, unitOf, unitFits, unitsFit};
+ghost use Rattle.rules.specs.Types.{Ty, kindOf, unitOf, unitFits, keepsUnit};
 ghost use Rattle.rules.specs.Declarations.{Def, measureIn};
 ghost use Rattle.rules.specs.Types.{fits as Types·fits};
 ghost use Rattle.rules.specs.Book.{typeRecords};
@@ -75,10 +76,7 @@ fn broken_if(number: u8, place: usize, broken: bool) -> Ruling
     if broken {
         return Ruling { number, place };
     }
-    Ruling {
-        number: 0,
-        place: 0,
-    }
+    fine()
 }
 
 fn is_alone(m: Meant) -> bool
@@ -242,7 +240,7 @@ pub fn keeps_unit(index: &[u16], count: usize, m: Meant, unit: usize, base: Typi
     ensures { λ r. ⌜ ((t : List ℕ) (ks : List Def) → Known t ks (now (index .entry)) count
         → Chained ks (now (index .entry)) → Rising ks
         → (w : Option WrittenType) (target : Option Def) (b : Ty) → m ≡ anyOf w → entry ks unit ≡ target
-        → UnitIn ks b → Valued b base → r ≡ unitsFit (domainType w target b) b) ⌝ }
+        → UnitIn ks b → Valued b base → r ≡ keepsUnit (domainType w target b) b) ⌝ }
 {
     if is_alone(m) {
         return true;

@@ -4,7 +4,7 @@ use mathlib.Core.Logic.{⊎-elim}
 use mathlib.Core.Bool.{Bool, true, false, cond, not, _&&_, _||_}
 use mathlib.Core.Option.{Option, none, some}
 use mathlib.Core.List.{List, [], _∷_}
-use Prim.Native.Nat.{ℕ}
+use Prim.Native.Nat.{ℕ, _%_}
 use Prim.Native.Char.{code}
 use native.Mathlib.Omega.{arith}
 use lib.Dec.{eqb}
@@ -74,10 +74,20 @@ module _ {t o p : List ℕ} {r : Step} where
   unless q a b h g = record { steps = λ z c. rw (h z c) (g .steps z c); faults = g .faults }
 
 -- ---- the last symbol
+fault-narrow : (f : Fault) → numberOf f % 256 ≡ numberOf f
+fault-narrow rules.too-long = refl
+fault-narrow rules.no-symbol = refl
+fault-narrow rules.unclosed = refl
+fault-narrow rules.too-large = refl
+fault-narrow rules.impossible = refl
+fault-narrow rules.reserved = refl
+
 fault-ended : {t : List ℕ} {y : Symbol} {r : Step} (k : ℕ) (u : C.Unit) (w : Where) → (k ≡ 5 → ⊥)
     → r ≡ endedOf t y k u w → Faults t y r
 fault-ended {t} k u w s e f i c =
-    e ∙ ap (λ (x : Symbol). endedOf t x k u w) (c .cuts) ∙ rw (ne-eqb 5 k (λ h. s (sym h)))
+    e
+    ∙ ap (λ (x : Symbol). endedOf t x k u w) (c .cuts)
+    ∙ rw (ne-eqb 5 k (λ h. s (sym h))) (ap (λ n. Unread n i) (fault-narrow f))
 
 module _ {t o p : List ℕ} {r : Step} where
   pub ends : {y : Symbol} {q : rules.Symbol → Bool} {k : ℕ} (u : C.Unit) (x : Option U.Unit) (w : U.Where) {v : Where}
@@ -99,9 +109,9 @@ module _ {t o p : List ℕ} {r : Step} where
         where
           go : (b : Bool) → StepIs t o p (andThen t
               (cond b (done z (symbolAt t (endOf z))) (refused (faultOf (z .kind)) (z .place))) (λ e. step x w e))
-              (cond b (Read u (whereOf w) (cut (symbolAt t (endOf z)))) (Unread (cut z .refusal) (cut z .place)))
+              (cond b (Read u (whereOf w) (cut (symbolAt t (endOf z)))) (Unread (cut z .refusal % 256) (cut z .place)))
           go true = (u, refl, i)
-          go false = refl
+          go false = ap (λ n. Unread n (z .place)) (fault-narrow (faultOf (z .kind)))
 
 where-around : (t : Bool) → not (U.isModel (aroundOf t)) ≡ t
 where-around true = refl

@@ -3,7 +3,7 @@ use mathlib.Core.Path.{_≡_}
 use mathlib.Core.Bool.{Bool, true, false, not, cond, _&&_}
 use mathlib.Core.Option.{Option, none, some}
 use mathlib.Core.List.{List}
-use Prim.Native.Nat.{ℕ}
+use Prim.Native.Nat.{ℕ, _%_}
 use Prim.Native.Char.{Char}
 use lib.ListN.{length}
 use lib.Dec.{eqb}
@@ -123,6 +123,7 @@ pub record Steps (t o p : List ℕ) (R : Reader U.Step) (y : Symbol) (r : Step) 
   pub steps : (z : rules.Symbol) → Cuts t z y → StepIs t o p (R t z) r
   pub faults : (f : Fault) (k : ℕ) → Cuts t (faultAt f k) y → r ≡ Unread (numberOf f) k
 
--- what the last symbol of a unit, y, makes of it
+-- what the last symbol of a unit, y, makes of it; a number that refuses is less than 256
 abbrev pub endedOf : List ℕ → Symbol → ℕ → code.Unit → Where → Step
-endedOf t y k u w = cond (eqb (y .code) k) (Read u w (cut (symbolAt t (y .next .at)))) (Unread (y .refusal) (y .place))
+endedOf t y k u w =
+    cond (eqb (y .code) k) (Read u w (cut (symbolAt t (y .next .at)))) (Unread (y .refusal % 256) (y .place))

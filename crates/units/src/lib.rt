@@ -1,6 +1,7 @@
 // The readers of units: a unit is read from its first symbol on, and the symbol behind it is handed on. A fault goes on
 // as a faulty symbol, which no reader takes; the unit's end finds it.
 use ground::Name;
+use ground::sorts;
 use parts::Optional;
 use parts::Owner;
 use parts::Properties;
@@ -45,13 +46,6 @@ pub struct ModelHead {
     pub version: Name,
 }
 
-// The numbers of sorts: `sortNumber`.
-pub const CLASS: usize = 1;
-
-pub const STRUCTURE: usize = 2;
-
-pub const UNIT: usize = 4;
-
 // Of a class, a structure or a unit of numbers, by the number of its sort.
 pub struct Head {
     pub sort: usize,
@@ -93,7 +87,7 @@ pub enum Step {
 }
 
 // The unit's last symbol, which is to have the code.
-fn ended(text: &[u8], y: Symbol, code: u8, unit: Unit, at: Where) -> Step
+fn ended(text: &[u8], y: Symbol, code: u32, unit: Unit, at: Where) -> Step
     ensures { λ r. ⌜ r ≡ endedOf (now (text .entry)) y code unit at ⌝ }
 {
     if y.code == code {
@@ -106,7 +100,7 @@ fn ended(text: &[u8], y: Symbol, code: u8, unit: Unit, at: Where) -> Step
         };
     }
     Step::Unread {
-        number: y.refusal,
+        number: (y.refusal % 256) as u8,
         place: y.place,
     }
 }
@@ -167,7 +161,7 @@ fn topic(text: &[u8], y: Symbol) -> Step
     ended(text, end, readers::EQUALS, unit, at)
 }
 
-fn is_class(code: u8) -> bool
+fn is_class(code: u32) -> bool
     ensures { λ r. ⌜ r ≡ (eqb code 69 || eqb code 70) ⌝ }
 {
     if code == readers::CLASS {
@@ -179,7 +173,11 @@ fn is_class(code: u8) -> bool
 fn class_sort(structure: bool) -> usize
     ensures { λ r. ⌜ r ≡ sortNumber (classSort structure) ⌝ }
 {
-    if structure { STRUCTURE } else { CLASS }
+    if structure {
+        sorts::STRUCTURE
+    } else {
+        sorts::CLASS
+    }
 }
 
 // CLASS or STRUCTURE, which is y.
@@ -250,7 +248,7 @@ fn measure(text: &[u8], y: Symbol, in_topic: bool) -> Step
     let properties = p.properties;
     let base = b.reference;
     let head = Head {
-        sort: UNIT,
+        sort: sorts::UNIT,
         name: name_of(y),
         properties: properties,
         base: base,
@@ -290,7 +288,7 @@ fn attribute(text: &[u8], scratch: &mut [u8], y: Symbol, in_topic: bool) -> Step
 }
 
 // Behind END and the name: the model's END is the last.
-fn end_mark(last: bool) -> u8
+fn end_mark(last: bool) -> u32
     ensures { λ r. ⌜ r ≡ cond last 46 59 ⌝ }
 {
     if last {
@@ -323,7 +321,7 @@ fn body_end(text: &[u8], y: Symbol, in_topic: bool) -> Step
     close(text, y, true, Where::Over)
 }
 
-fn opens_topic(code: u8, in_topic: bool) -> bool
+fn opens_topic(code: u32, in_topic: bool) -> bool
     ensures { λ r. ⌜ r ≡ (not «in_topic» && eqb code 68) ⌝ }
 {
     if in_topic {
@@ -333,7 +331,7 @@ fn opens_topic(code: u8, in_topic: bool) -> bool
 }
 
 // Whether a symbol that only may stand where `may` says so has the code.
-fn allowed(may: bool, code: u8, wanted: u8) -> bool
+fn allowed(may: bool, code: u32, wanted: u32) -> bool
     ensures { λ r. ⌜ r ≡ (may && eqb code wanted) ⌝ }
 {
     if may {

@@ -35,8 +35,8 @@ use Rattle.rules.proofs.GrowLaws.{known-append}
 use Rattle.enumerations.specs.Standing.{InText}
 use Rattle.members.proofs.OpenLaws.{apart-start, apart-more}
 use Rattle.wellformed.specs.Fairness.{FairType, FairWritten, FairUnit, Fair, FairUse, NameText, FairAttribute}
-use Rattle.wellformed.specs.Fairness.{FairLink, FairDef, FairOpen, LeadsTo, UnitIn, NamesDeclared, NamesAll}
-use Rattle.wellformed.specs.Fairness.{Rising, Behind, FairDecl}
+use Rattle.wellformed.specs.Fairness.{FairLink, FairDef, FairOpen, Linked, UnitIn, NamesDeclared, NamesAll}
+use Rattle.wellformed.specs.Fairness.{Rising, BehindAll, FairDecl}
 use Rattle.wellformed.specs.Fairness.{FairState, MayStand}
 use Rattle.wellformed.proofs.RecordLaws.{declared-more, opened-more, ended-more, attribute-more, close-more}
 use Rattle.wellformed.proofs.TypeLaws.{Base, fair-base, use-base, meant-fair, domain-fair, use-fair}
@@ -58,7 +58,7 @@ def-grows t n m l d h = record {
 
 -- ---- more definitions
 declared-grows : (K E : List Def) (l : Link) (bs : List Link) (m : Bool) (d : Def)
-    → LeadsTo K l bs m d → LeadsTo (K ++ E) l bs m d
+    → Linked K l bs m d → Linked (K ++ E) l bs m d
 declared-grows K E l bs m d h = record {
   declared = in-append K E (h .declared);
   link = h .link;
@@ -80,7 +80,7 @@ all-names-grow K E d h = (
   all-map (λ (a : Attribute). names-grow K E (a .use-of) (a .mandatory)) (attributesOf d) (h .1),
 )
 
-rising-more : (K : List Def) (e : Def) → Rising K → Behind K e → Rising (K ++ (e ∷ []))
+rising-more : (K : List Def) (e : Def) → Rising K → BehindAll K e → Rising (K ++ (e ∷ []))
 rising-more [] e h k = (tt, tt)
 rising-more (d ∷ l) e h k =
     (all-append (λ (f : Def). d .number < f .number) l (e ∷ []) (h .0) (k .0, tt), rising-more l e (h .1) (k .1))
@@ -91,11 +91,12 @@ module _ (t : List ℕ) (s : State) (h : FairState t s) where
   K = known (s .decls)
 
   -- what is numbered now stands behind all
-  now-behind : (e : Def) → e .number ≡ length (records s) → Behind K e
+  now-behind : (e : Def) → e .number ≡ length (records s) → BehindAll K e
   now-behind e q = rw q (all-map (λ (d : Def) f. f .before) K (h .defs))
 
   declare-fair : (e : Def) → length (records s) ≤ length (records (declare s (def e)))
-      → FairDef t (length (records (declare s (def e)))) e → NamesAll K e → Behind K e → FairState t (declare s (def e))
+      → FairDef t (length (records (declare s (def e)))) e → NamesAll K e → BehindAll K e
+      → FairState t (declare s (def e))
   declare-fair e l k g b =
       let m : ℕ = length (records (declare s (def e))) in
       let more = known-append (s .decls) (def e) in
@@ -113,7 +114,7 @@ module _ (t : List ℕ) (s : State) (h : FairState t s) where
       }
 
   opened-fair : (c : Def) → length (records s) ≤ length (records (opened s c))
-      → FairOpen t (length (records (opened s c))) c → NamesAll K c → Behind K c → FairState t (opened s c)
+      → FairOpen t (length (records (opened s c))) c → NamesAll K c → BehindAll K c → FairState t (opened s c)
   opened-fair c l k g b = record {
     defs = all-map (def-grows t (length (records s)) (length (records (opened s c))) l) K (h .defs);
     open-class = k;
@@ -257,7 +258,7 @@ module _ (t : List ℕ) (s : State) (h : FairState t s) (x : Sort) (n : Name) (p
         (any-map (λ (d : Def) f. f .1) o g),
   )
 
-  class-behind : Behind (known (s .decls)) new
+  class-behind : BehindAll (known (s .decls)) new
   unfolding newClass
   class-behind = now-behind t s h new refl
 
@@ -436,7 +437,7 @@ named-holds true false m = refl
 named-holds false w m = refl
 
 declared-holds : (K : List Def) (x m : Bool) (l : Link) (bs : List Link) (d : Def)
-    → LeadsTo K l bs m d → LeadsTo K l bs (x || m) d
+    → Linked K l bs m d → Linked K l bs (x || m) d
 declared-holds K x m l bs d h = record {
   declared = h .declared;
   link = h .link;
@@ -453,7 +454,7 @@ naming-names : (K : List Def) (d : Def) (w m : Bool) → In d K → mayType (d .
     → (isDomain (naming d) && d .abstract) ≡ false → NamesDeclared K (naming d) (w || (d .mandatory || m))
 naming-names K d w m i s a = go (isSort domain (d .sort)) refl s a
   where
-    there : LeadsTo K (linkOf d) (d .bases) (w || (d .mandatory || m)) d
+    there : Linked K (linkOf d) (d .bases) (w || (d .mandatory || m)) d
     there = record { declared = i; link = refl; bases = refl; holds = named-holds (d .mandatory) w m }
 
     go : (c : Bool) → isSort domain (d .sort) ≡ c → (c || isSort D.struct (d .sort)) ≡ true →
@@ -577,7 +578,7 @@ more-names K c a h k =
           (all-right P (c .own) (c .inherited) (h .1)),
     )
 
-more-behind : (K : List Def) (c : Def) (a : Attribute) → Behind K c → Behind K (withAttribute c a)
+more-behind : (K : List Def) (c : Def) (a : Attribute) → BehindAll K c → BehindAll K (withAttribute c a)
 unfolding withAttribute
 more-behind K c a h = h
 
@@ -601,7 +602,7 @@ module _ (t : List ℕ) (s : State) (n : Name) (p : List (List ℕ)) (w : Writte
       (more-fair t k _ l c y a (new-attribute t s c n p w o h f j v) (attribute-number t s c n p w o h)
       (attribute-name t s c n p w o h i))
       (more-names (known (s .decls)) c a z (attribute-names t s c n p w o h g v))
-      (more-behind (known (s .decls)) c a (any-is (Behind (known (s .decls))) (s .open-class) c (h .open-behind) e))
+      (more-behind (known (s .decls)) c a (any-is (BehindAll (known (s .decls))) (s .open-class) c (h .open-behind) e))
 
   fair-member : (o : Option Def) → s .open-class ≡ o → All Unbroken (memberRules s n p w o)
       → FairState t (afterMember s n p w o)
@@ -616,7 +617,7 @@ fair-close t s h (some c) e m z =
     let l = close-more s c e in
     declare-fair t s h c l (def-grows t (length (records s)) _ l c (y .fair))
     (any-is (NamesAll (known (s .decls))) (s .open-class) c (h .open-names) e)
-    (any-is (Behind (known (s .decls))) (s .open-class) c (h .open-behind) e)
+    (any-is (BehindAll (known (s .decls))) (s .open-class) c (h .open-behind) e)
 fair-close t s h none e (some m) z =
     end-fair t s h (m .name) (any-is (λ (d : Def). InText t (d .name)) (s .topic) m (h .topic) z) (ap isFound e)
 fair-close t s h none e none z = h

@@ -11,7 +11,7 @@ use lib.Dec.{eqb}
 use borrow.Author.Tests.{eqb-true}
 use Rattle.rules.specs.All.{In, first, later}
 use Rattle.rules.specs.Bytes.{same}
-use Rattle.rules.specs.Types.{Ty, line, leadsTo, unitOf, unitsFit}
+use Rattle.rules.specs.Types.{Ty, line, leadsTo, unitOf, keepsUnit}
 use Rattle.rules.specs.Declarations.{Def, linkOf, numbersOf, measureOf}
 use Rattle.rules.specs.Judge.{basesOf, isAmong}
 use Rattle.rules.proofs.ByteLaws.{same-refl}
@@ -22,7 +22,7 @@ use Rattle.wellformed.specs.Fairness.{Rising}
 use Rattle.wellformed.proofs.ListLaws.{all-member, all-entry}
 
 -- ---- a unit fits itself
-pub units-self : (x : Ty) → unitsFit x x ≡ true
+pub units-self : (x : Ty) → keepsUnit x x ≡ true
 units-self x = unit-itself (unitOf x)
 
 -- ---- a record number stands for one definition

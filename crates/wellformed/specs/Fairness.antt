@@ -126,7 +126,7 @@ pub record FairOpen (t : List ℕ) (n : ℕ) (c : Def) : Type 0 where
   pub apart : Apart c
 
 -- what an attribute names is declared in K, and makes the attribute mandatory if it is so itself
-pub record LeadsTo (K : List Def) (l : Link) (bs : List Link) (mandatory : Bool) (d : Def) : Type 0 where
+pub record Linked (K : List Def) (l : Link) (bs : List Link) (mandatory : Bool) (d : Def) : Type 0 where
   pub declared : In d K
   pub link : linkOf d ≡ l
   pub bases : d .bases ≡ bs
@@ -140,8 +140,8 @@ UnitIn K x = AnyIs (λ (u : Measure). (d : Def) × In d K × (measureOf d ≡ u)
 abbrev pub NamesDeclared : List Def → Use → Bool → Type 0
 NamesDeclared K (inline x) m = UnitIn K x
 NamesDeclared K (ofDomain l bs) m =
-    (d : Def) × LeadsTo K l bs m d × (isSort D.domain (d .sort) ≡ true) × (d .abstract ≡ false)
-NamesDeclared K (ofStructure l bs) m = (d : Def) × LeadsTo K l bs m d × (isSort D.struct (d .sort) ≡ true)
+    (d : Def) × Linked K l bs m d × (isSort D.domain (d .sort) ≡ true) × (d .abstract ≡ false)
+NamesDeclared K (ofStructure l bs) m = (d : Def) × Linked K l bs m d × (isSort D.struct (d .sort) ≡ true)
 
 abbrev pub NamesAll : List Def → Def → Type 0
 NamesAll K d =
@@ -152,8 +152,8 @@ abbrev pub Rising : List Def → Type 0
 Rising [] = Unit {0}
 Rising (d ∷ l) = All (λ (e : Def). d .number < e .number) l × Rising l
 
-abbrev pub Behind : List Def → Def → Type 0
-Behind K c = All (λ (d : Def). d .number < c .number) K
+abbrev pub BehindAll : List Def → Def → Type 0
+BehindAll K c = All (λ (d : Def). d .number < c .number) K
 
 -- the names that declarations have besides those of definitions; m is the model's
 abbrev pub FairDecl : List ℕ → Name → Decl → Type 0
@@ -169,7 +169,7 @@ pub record FairState (t : List ℕ) (s : State) : Type 0 where
   pub decls : All (FairDecl t (s .model)) (s .decls)
   pub topic : AnyIs (λ (d : Def). InText t (d .name)) (s .topic)
   pub rising : Rising (known (s .decls))
-  pub open-behind : AnyIs (Behind (known (s .decls))) (s .open-class)
+  pub open-behind : AnyIs (BehindAll (known (s .decls))) (s .open-class)
 
 -- ---- where units stand: a class is open exactly where its members are read, and nothing is declared before the model
 pub record Undeclared (s : State) : Type 0 where

@@ -9,7 +9,7 @@ use lib.Dec.{eqb, ltb, leb}
 use borrow.Author.Tests.{lt-ltb, eqb-true, leb-true, le-leb}
 use Rattle.rules.specs.Grammar as G
 use Rattle.rules.specs.Grammar.{WrittenType}
-use Rattle.rules.specs.Types.{Ty, text, numeric, structure, enum, kindOf, fits, unitsFit}
+use Rattle.rules.specs.Types.{Ty, text, numeric, structure, enum, kindOf, fits, keepsUnit}
 use Rattle.rules.specs.Declarations.{Def}
 use Rattle.rules.specs.Book.{Record}
 use Rattle.rules.specs.Judge.{Rule, rule, domainType, isNaming, typeRules}
@@ -50,7 +50,7 @@ module _ (based : Bool) (p : ℕ) (w : Option WrittenType) (x : Option Def) (b :
   module _ (z : q .number ≡ 0) where
     late : rulingOf (plainRules based p w x b)
         ≡ rulingOf (last p based (not (eqb (kindOf (domainType w x b)) (kindOf b))) (plainFits w b)
-        (unitsFit (domainType w x b) b))
+        (keepsUnit (domainType w x b) b))
     unfolding last
     late = ruling-rest (typeRules based p w) _ (type-positive based p w) (ap (λ (y : Ruling). y .number) (sym e) ∙ z)
 
@@ -68,12 +68,12 @@ module _ (based : Bool) (p : ℕ) (w : Option WrittenType) (x : Option Def) (b :
         unfolding last
         plain-17 h = sym (late ∙ rw (n, ← i, j, ← g, h))
 
-        pub plain-22 : f ≡ true → (u : Bool) → u ≡ unitsFit (domainType w x b) b → u ≡ false
+        pub plain-22 : f ≡ true → (u : Bool) → u ≡ keepsUnit (domainType w x b) b → u ≡ false
             → record { number = 22; place = p } ≡ rulingOf (plainRules based p w x b)
         unfolding last
         plain-22 h u l m = sym (late ∙ rw (n, ← i, j, ← g, h, ← l, m))
 
-        pub plain-fine : f ≡ true → (u : Bool) → u ≡ unitsFit (domainType w x b) b → u ≡ true
+        pub plain-fine : f ≡ true → (u : Bool) → u ≡ keepsUnit (domainType w x b) b → u ≡ true
             → record { number = 0; place = 0 } ≡ rulingOf (plainRules based p w x b)
         unfolding last
         plain-fine h u l m = sym (late ∙ rw (n, ← i, j, ← g, h, ← l, m))
@@ -108,7 +108,7 @@ by-parts l o p based k f g h u d v =
 
 -- a written enumeration that does not fit is one over another, without units
 misfit-units : (w : Option WrittenType) (x : Option Def) (b : Ty) → mergeFits w b ≡ false
-    → unitsFit (domainType w x b) b ≡ true
+    → keepsUnit (domainType w x b) b ≡ true
 misfit-units none x b h = never (sym h)
 misfit-units (some (G.text m n)) x b h = never (sym h)
 misfit-units (some (G.numeric q r)) x b h = never (sym h)
@@ -126,7 +126,7 @@ module _ (t : List ℕ) (based : Bool) (p : ℕ) (w : Option WrittenType) (x : O
   written-split =
       by-parts (typeRules based p w) (type-positive based p w) p based
       (not (eqb (kindOf (domainType w x b)) (kindOf b)))
-      (fits (domainType w x b) b) (plainFits w b) (mergeFits w b) (unitsFit (domainType w x b) b)
+      (fits (domainType w x b) b) (plainFits w b) (mergeFits w b) (keepsUnit (domainType w x b) b)
       (λ n k. fits-split t w x b fair r (eqb-true (kindOf (domainType w x b)) (kindOf b) (not-fails k)))
       (misfit-units w x b)
 

@@ -6,7 +6,7 @@ use mathlib.Core.List.{List, [], _∷_, _++_}
 use Prim.Native.Nat.{ℕ, _+_, _≤_}
 use lib.ListN.{length}
 use Rattle.rules.specs.Grammar.{WrittenType}
-use Rattle.rules.specs.Types.{Ty, fits, unitsFit}
+use Rattle.rules.specs.Types.{Ty, fits, keepsUnit}
 use Rattle.rules.specs.Declarations.{Def}
 use Rattle.rules.specs.Book.{Record, bytes}
 use Rattle.rules.specs.Judge.{Rule, rule, domainType, typeRules, kindRule}
@@ -23,7 +23,7 @@ rulesBy f based p w x b =
     typeRules based p w
     ++ (kindRule p based (domainType w x b) b
     ∷ rule 17 p (based && not f)
-    ∷ rule 22 p (based && not (unitsFit (domainType w x b) b))
+    ∷ rule 22 p (based && not (keepsUnit (domainType w x b) b))
     ∷ [])
 
 abbrev pub writtenRules : Bool → ℕ → Option WrittenType → Option Def → Ty → List Rule

@@ -2,6 +2,7 @@
 // for them.
 use enumerations::Size;
 use ground::Ruling;
+use ground::fine;
 use merging::Laid;
 use parts::types::Written;
 use types::Over;
@@ -13,7 +14,7 @@ ghost use Prim.Native.Nat.{ℕ, _+_, _≤_};
 ghost use lib.ListN.{length, take};
 ghost use lib.Dec.{leb, ltb};
 ghost use Rattle.rules.specs.Grammar.{WrittenType};
-ghost use Rattle.rules.specs.Types.{Ty, structure, unitsFit};
+ghost use Rattle.rules.specs.Types.{Ty, structure, keepsUnit};
 ghost use Rattle.rules.specs.Declarations.{Def};
 ghost use Rattle.rules.specs.Book.{typeRecords};
 ghost use Rattle.rules.specs.Judge.{domainType, isNaming};
@@ -39,7 +40,7 @@ fn plain_ruling(w: Written, over: Over) -> Ruling
     ensures { λ r. ⌜ ((t : List ℕ) (v : Option WrittenType) (x : Option Def) (b : Ty) → w .meant ≡ anyOf v
         → AnyIs (Begins (w .place)) v → FairOrNone t b
         → Valued (domainType v x b) (over .own) → Valued b (over .base)
-        → over .keeps ≡ unitsFit (domainType v x b) b
+        → over .keeps ≡ keepsUnit (domainType v x b) b
         → r ≡ rulingOf (plainRules (over .based) (w .place) v x b)) ⌝ }
 {
     let m = w.meant;
@@ -56,19 +57,13 @@ fn plain_ruling(w: Written, over: Over) -> Ruling
         }
         if types::plain_fits(m, own, base) {
             if over.keeps {
-                return Ruling {
-                    number: 0,
-                    place: 0,
-                };
+                return fine();
             }
             return Ruling { number: 22, place };
         }
         return Ruling { number: 17, place };
     }
-    Ruling {
-        number: 0,
-        place: 0,
-    }
+    fine()
 }
 
 // 14 to 17 and 22 of a type over the base's, and its records, behind room for a head where the first `used` bytes end.
@@ -89,7 +84,7 @@ pub fn lay_written(
         → Scratched (now (text .entry)) (now (scratch .entry)) v → Once v → FairOrNone (now (text .entry)) b
         → (over .based ≡ false → b ≡ structure) → Valued (domainType v x b) (over .own)
         → Typed (now (text .entry)) (take used (now (book .entry))) b (over .base)
-        → over .keeps ≡ unitsFit (domainType v x b) b
+        → over .keeps ≡ keepsUnit (domainType v x b) b
         → LaidWhen (ltb 0 (rulingOf (writtenRules (over .based) (w .place) v x b) .number)) (rulingOf (writtenRules
         (over .based) (w .place) v x b))
         (typeRecords (domainType v x b)) (used + headSize) (now (book .entry)) (now (book .exit)) r) ⌝ }

@@ -1,5 +1,5 @@
 use mathlib.Core.Path.{refl, sym, ap, _∙_}
-use Rattle.rules.specs.Types.{Ty, unitsFit}
+use Rattle.rules.specs.Types.{Ty, keepsUnit}
 use Rattle.members.proofs.HeldLaws.{indexed}
 use Rattle.rules.specs.Declarations.{tyOf}
 use Rattle.names.specs.Index.{entry}
@@ -44,7 +44,7 @@ returns c =
             keeps = λ z.
                 c .keeps-unit .ensures t ks (x .known) (x .chained) (r .rising) w (entry ks (b .target)) (tyOf base)
                 e refl u vb
-                ∙ ap (λ (y : Ty). unitsFit y (tyOf base)) (sym (in-place-type w (entry ks (b .target)) base z));
+                ∙ ap (λ (y : Ty). keepsUnit y (tyOf base)) (sym (in-place-type w (entry ks (b .target)) base z));
             sized-own = own-sized t (s .args .front .now) ks ms (s .args .index .now) (s .args .count)
                 (s .args .rows .now) total r (b .target) w base (own-type .result) f g fb v;
             sized-base = sized-base t (tyOf base) (base-type .result) fb vb;

@@ -5,7 +5,7 @@ use Rattle.units.specs.declared.Head.{Head}
 use Rattle.state.proofs.KeepLaws.{none-open}
 use Rattle.state.proofs.JudgeLaws.{small}
 use Rattle.classes.proofs.ClassLaws.{le-zero, class-is, class-heads, head-inside, head-sort, answer-fair}
-use Rattle.classes.proofs.ClassLaws.{answer-broken, answer-fine, class-grows}
+use Rattle.classes.proofs.ClassLaws.{answer-broken, answer-fine}
 use borrow.Author.Needs.{needs}
 use Rattle.classes.proofs.judge_class.Statement.{statement}
 use Rattle.classes.proofs.judge_class.Tie as tie
@@ -79,7 +79,7 @@ returns-2 c =
     (q .fair) (q .stands) (K .fair) in
     answer-fine (start .args .text .now) s b (U.class (classSort k) n p b) (start .args .book .now) _ u
     (start .args .st) _ _ _ _ _ _ z _ _ refl (open-class .ensures .0)
-    (open-class .ensures .1 s k n p b K i (q .fair .0) w (u .base z) f) (class-grows (start .args .st) _)
+    (open-class .ensures .1 s k n p b K i (q .fair .0) w (u .base z) f) refl
 
 pub judge-class-spec : {M : Type 1} → statement M
 judge-class-spec =

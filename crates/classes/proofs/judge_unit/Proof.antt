@@ -5,7 +5,7 @@ use Rattle.units.specs.declared.Head.{Head}
 use Rattle.state.proofs.KeepLaws.{none-open}
 use Rattle.state.proofs.JudgeLaws.{small}
 use Rattle.classes.proofs.ClassLaws.{le-zero, unit-is, unit-heads, head-inside, head-sort, answer-fair}
-use Rattle.classes.proofs.ClassLaws.{answer-broken, answer-fine, unit-grows}
+use Rattle.classes.proofs.ClassLaws.{answer-broken, answer-fine}
 use borrow.Author.Needs.{needs}
 use Rattle.classes.proofs.judge_unit.Statement.{statement}
 use Rattle.classes.proofs.judge_unit.Tie as tie
@@ -76,7 +76,7 @@ returns-2 c =
     (q .stands) (K .fair) in
     answer-fine (start .args .text .now) s b (U.unit n p b) (start .args .book .now) _ u (start .args .st)
     _ _ _ _ _ _ z _ _ refl (declare-unit .ensures .0)
-    (declare-unit .ensures .1 s n p b hs K i (q .fair .0) w (u .base z) f) (unit-grows (start .args .st))
+    (declare-unit .ensures .1 s n p b hs K i (q .fair .0) w (u .base z) f) refl
 
 pub judge-unit-spec : {M : Type 1} → statement M
 judge-unit-spec =

@@ -2,12 +2,12 @@ use mathlib.Core.Path.{refl, sym, ap, _∙_, subst}
 use Prim.Native.Nat.{_+_}
 use lib.ListN.{length}
 use Rattle.rules.specs.Judge as J
-use Rattle.rules.specs.Judge.{orNoDef, resolved, domainType}
+use Rattle.rules.specs.Judge.{orNoDef, resolved, targetIn, domainType}
 use Rattle.rules.specs.Check.{lent, room}
 use Rattle.units.specs.declared.DomainUnit.{DomainUnit}
 use Rattle.state.specs.declared.Judged.the-variants.{Refused}
 use Rattle.state.specs.Keeping.{Answered}
-use Rattle.domains.specs.Stages.{targetIn, declaredIn, recordsOf}
+use Rattle.domains.specs.Stages.{declaredIn, recordsOf}
 use Rattle.domains.proofs.StageLaws.{is-unit, own-sized, laid, whole, refused-head}
 use Rattle.domains.proofs.StageLaws.{refused-type, fine-type, next-fair, still-below}
 use borrow.Author.Needs.{needs}

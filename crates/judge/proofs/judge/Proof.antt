@@ -3,7 +3,6 @@ use Rattle.judge.specs.Judging.{Answers}
 use Rattle.judge.proofs.UnitLaws.{by-header, by-model, by-topic, by-class, by-domain, by-attribute, by-measure}
 use Rattle.judge.proofs.UnitLaws.{by-close, by-mark, a-header, a-model, a-topic, a-class, a-domain, an-attribute}
 use Rattle.judge.proofs.UnitLaws.{a-measure, a-close}
-use native.Mathlib.Omega.{arith}
 use borrow.Author.Needs.{needs}
 use Rattle.judge.proofs.judge.Statement.{statement}
 use Rattle.judge.proofs.judge.Tie as tie
@@ -132,7 +131,7 @@ returns-8 c =
 returns-9 : tie.Need-returns-9
 returns-9 c =
     λ s v k m. by-mark _ s _ (Answers _ _ s _ _ _ _ _) v _ m (c .enum-told .given .1)
-    (record { as-judged = (_, refl, k, record { by-one = omega arith; layout-stays = refl }) })
+    (record { as-judged = (_, refl, k, refl) })
 
 pub judge-spec : {M : Type 1} → statement M
 judge-spec =

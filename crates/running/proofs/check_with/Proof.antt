@@ -1,7 +1,8 @@
 use mathlib.Core.Path.{sym}
+use Prim.Native.Nat.{_≤_}
 use lib.ListN.{length, take, drop}
 use lib.Seq.{length-take-le}
-use Rattle.running.proofs.EndLaws.{ended-fits, tried, loan-less}
+use Rattle.running.proofs.EndLaws.{ended-fits, tried, loan-less, suffice-less}
 use native.Mathlib.Omega.{arith}
 use borrow.Author.Needs.{needs}
 use Rattle.running.proofs.check_with.Statement.{statement}
@@ -16,7 +17,9 @@ run-requires c κs =
     let s = c .before .before .before .before .before .before .before .before .before .before .before .before in
     let least = c .before .before .before .before .before .least in
     let l = length-take-le (least .result) (s .args .book .now) (least .ensures .1) in
-    (loan-less (omega (arith, l, least .ensures .2)) (s .pre .0), (s .pre .1 .0, s .pre .1 .1))
+    let few : length (take (least .result) (s .args .book .now))
+    ≤ s .args .most = omega (arith, l, least .ensures .2) in
+    (loan-less few (s .pre .0), ((suffice-less few (s .pre .1 .0 .0), s .pre .1 .0 .1), s .pre .1 .1))
 
 finish-requires : tie.Need-finish-requires
 finish-requires c κs =

@@ -14,7 +14,7 @@ abbrev Inv-loop : tie.InvT-loop
 Inv-loop text book₀ work₀ hand₀ scratch₀ tables₀ stage₀ book work hand scratch tables stage =
     (length book ≡ length book₀) × (length work ≡ length work₀) × (length hand ≡ length hand₀)
     × (length scratch ≡ length scratch₀) × (length tables ≡ length tables₀)
-    × Suffice (length text) (stage .state .listing .layout) (length work₀)
+    × Suffice (length book₀) (stage .state .listing .layout) (length work₀)
     × Runs text (length book₀) stage book work hand
 
 abbrev μ-loop : tie.MeasureT-loop
@@ -32,7 +32,7 @@ loop-holds c =
       refl,
       refl,
       refl,
-      suffices refl l (s .pre .1 .0 .0),
+      suffices refl refl l (s .pre .1 .0 .0),
       begins _ _ _ _ _ _ (s .args .layout) n (s .pre .0 .text-short) e l refl
           (rw (start .ensures) at (c .before .next .ensures)) (c .nothing .ensures .1 _ _ _ _ _ n),
     )
@@ -43,7 +43,7 @@ step-requires c κs =
     let s = back .before .before .before .before .before in
     let loop = c .before .before .before .before .before .loop in
     let (a, b, d, e, f, g, R) = loop .inv in
-    (loaned a e f (s .pre .0), ((suffices b refl g, d ∙ s .pre .1 .0 .1), runs-sized a R))
+    (loaned a e f (s .pre .0), ((suffices a b refl g, d ∙ s .pre .1 .0 .1), runs-sized a R))
 
 same-length : tie.Need-same-length Inv-loop μ-loop
 same-length c =
@@ -107,7 +107,7 @@ loop-again c =
       k .1 .1 .1 .0 ∙ i .2,
       k .1 .1 .1 .1 .0 ∙ i .3,
       k .1 .1 .1 .1 .1 .0 ∙ i .4,
-      suffices refl e (i .5),
+      suffices refl refl e (i .5),
       R,
     )
 

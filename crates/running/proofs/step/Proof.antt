@@ -1,7 +1,6 @@
 use mathlib.Core.Path.{sym, _∙_, refl}
 use mathlib.Core.List.{[]}
 use Rattle.running.proofs.RunLaws.{held-now, few-records, unread-ends, over-ends, given, turned}
-use native.Mathlib.Omega.{arith}
 use borrow.Author.Needs.{needs}
 use Rattle.running.proofs.step.Statement.{statement}
 use Rattle.running.proofs.step.Tie as tie
@@ -35,8 +34,7 @@ judge-requires c κs =
     let if1 = c .before .before .before .before .before .if1 in
     let R = s .pre .1 .1 in
     let G = given R (read-unit .ensures) (s .pre .0 .text-short) (s2 .given .1) (sym (is-over .ensures) ∙ if1 .left) in
-    let ample = s .pre .1 .0 .0 (s .args .g .state) refl (omega (arith, R .few, R .within))
-    (omega (arith, few-records R, s .pre .0 .book-short)) in (
+    let ample = s .pre .1 .0 .0 (s .args .g .state) refl (few-records R) in (
       loaned refl (read-unit .kept .1 .0) refl (s .pre .0),
       ((ample, s .pre .1 .0 .1), (R .state, G .unit, R .keeps, G .comes)),
     )

@@ -1,3 +1,4 @@
+use mathlib.Core.Path.{_∙_}
 use Rattle.rules.specs.Declarations.{known}
 use Rattle.members.proofs.HeldLaws.{indexed}
 use Rattle.state.specs.Parts.{indexIn}
@@ -19,11 +20,11 @@ named-requires c κs =
 
 returns : tie.Need-returns
 returns c =
-    let start = c .before .before .before .before in (
+    let start = c .before .before .before .before .before in (
       omega arith,
       λ s d b o hs k es e f. (
-        extends-nothing s b (start .args .base) e d (c .enum-told .given .1),
-        leads-nowhere s b (start .args .base) e (c .enum-told .given .1),
+        c .fine .ensures ∙ extends-nothing s b (start .args .base) e d (c .before .enum-told .given .1),
+        leads-nowhere s b (start .args .base) e (c .before .enum-told .given .1),
       ),
     )
 
@@ -49,6 +50,7 @@ extends-spec =
     tie.close
     (tie.spec
     (λ c. search needs)
+    (λ c κs. search needs)
     (λ c. search needs)
     named-requires
     (λ c. search needs)

@@ -1,3 +1,4 @@
+use mathlib.Core.Path.{_∙_}
 use mathlib.Core.Bool.{false}
 use Rattle.state.proofs.SharedLaws.{ruling-none, ruling-sort, ruling-final, ruling-fine}
 use borrow.Author.Needs.{needs}
@@ -25,13 +26,15 @@ returns-3 c =
 
 returns-4 : tie.Need-returns-4
 returns-4 c =
-    let if1 = c .before .before .before .before .before .if1 in
-    let sort-of = c .before .before .before .before .sort-of in
-    let if2 = c .before .before .before .if2 in
-    let flags-of = c .before .before .flags-of in
-    λ t ks n d b w k es q. ruling-fine t ks _ n k d b _ _ w q (if1 .left) _ (sort-of .ensures t) _ es (if2 .left) _
-    (λ d y. c .before .is-final .ensures (d .abstract) (d .final) false (d .mandatory) (flags-of .ensures t d y))
-    (c .if3 .left)
+    let if1 = c .before .before .before .before .before .before .if1 in
+    let sort-of = c .before .before .before .before .before .sort-of in
+    let if2 = c .before .before .before .before .if2 in
+    let flags-of = c .before .before .before .flags-of in
+    let is-final = c .before .before .is-final in
+    λ t ks n d b w k es q.
+    c .fine .ensures ∙ ruling-fine t ks _ n k d b _ _ w q (if1 .left) _ (sort-of .ensures t) _ es (if2 .left) _
+    (λ d y. is-final .ensures (d .abstract) (d .final) false (d .mandatory) (flags-of .ensures t d y))
+    (c .before .if3 .left)
 
 pub extends-ruling-spec : {M : Type 1} → statement M
 extends-ruling-spec =
@@ -43,4 +46,5 @@ extends-ruling-spec =
     (λ c κs. search needs)
     (λ c κs. search needs)
     returns-3
+    (λ c κs. search needs)
     returns-4)

@@ -1,3 +1,4 @@
+use mathlib.Core.Path.{_∙_}
 use Rattle.state.proofs.TargetLaws.{no-reference, target-none, target-fits, target-wrong}
 use borrow.Author.Needs.{needs}
 use Rattle.state.proofs.target_ruling.Statement.{statement}
@@ -12,14 +13,16 @@ returns c =
 
 returns-2 : tie.Need-returns-2
 returns-2 c =
-    let s = c .before .before .before .before .before .before .before .before .before in
-    let reference = c .before .before .before .before .before .before .reference in
-    let first-place = c .before .before .before .before .first-place in
-    let if1 = c .before .before .before .if1 in
-    let sort-of = c .before .before .sort-of in
-    λ t ks n w k v h e g. target-fits ks (s .args .target) w (s .args .reference) e _ (reference .given .1) _
+    let s = c .before .before .before .before .before .before .before .before .before .before in
+    let reference = c .before .before .before .before .before .before .before .reference in
+    let first-place = c .before .before .before .before .before .first-place in
+    let if1 = c .before .before .before .before .if1 in
+    let sort-of = c .before .before .before .sort-of in
+    let may-stand-in = c .before .before .may-stand-in in
+    λ t ks n w k v h e g.
+    c .fine .ensures ∙ target-fits ks (s .args .target) w (s .args .reference) e _ (reference .given .1) _
     (first-place .ensures) t _ n k v (if1 .left) _ (sort-of .ensures t) _
-    (λ d i. c .before .may-stand-in .ensures w d h i) (c .if2 .taken)
+    (λ d i. may-stand-in .ensures w d h i) (c .before .if2 .taken)
 
 returns-3 : tie.Need-returns-3
 returns-3 c =
@@ -34,8 +37,9 @@ returns-3 c =
 
 returns-4 : tie.Need-returns-4
 returns-4 c =
-    let s = c .before .before .before in
-    λ t ks n w k v h e g. no-reference ks (s .args .target) w (s .args .reference) e (c .enum-told .given .1) g
+    let s = c .before .before .before .before in
+    λ t ks n w k v h e g.
+    c .fine2 .ensures ∙ no-reference ks (s .args .target) w (s .args .reference) e (c .before .enum-told .given .1) g
 
 pub target-ruling-spec : {M : Type 1} → statement M
 target-ruling-spec =
@@ -46,7 +50,9 @@ target-ruling-spec =
     returns
     (λ c κs. search needs)
     (λ c κs. search needs)
+    (λ c κs. search needs)
     returns-2
     returns-3
     (λ c. search needs)
+    (λ c κs. search needs)
     returns-4)

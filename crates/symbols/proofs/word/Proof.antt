@@ -38,17 +38,21 @@ returns-2 c =
 
 returns-3 : tie.Need-returns-3
 returns-3 c =
-    let if1 = c .before .before .before .if1 in
-    let a = c .before .before .before .before .before .before .args in
-    let e = c .before .before .before .before .word-end in
-    let k = c .before .before .word-code in
-    let l : a .at + (e .result - a .at)
-    ≤ length (a .text .now) = omega (arith, e .ensures, run-le isWordByte (a .text .now) (a .at + 1) (omega arith)) in
-    rw (← e .ensures)
+    let s = c .before .before .before .before .before .before .before in
+    let word-end = c .before .before .before .before .before .word-end in
+    let if1 = c .before .before .before .before .if1 in
+    let word-code = c .before .before .before .word-code in
+    let if2 = c .before .before .if2 in
+    let l : s .args .at + (word-end .result - s .args .at)
+    ≤ length (s .args .text .now) =
+    omega (arith, word-end .ensures, run-le isWordByte (s .args .text .now) (s .args .at + 1) (omega arith)) in
+    rw (← word-end .ensures)
     (c .make3 .ensures
-    ∙ ap (λ x. made x 5 (a .at) (e .result - a .at)) (k .ensures)
+    ∙ ap (λ x. made x 5 (s .args .at) (word-end .result - s .args .at))
+    (c .before .code-of .ensures ∙ word-code .ensures)
     ∙ sym
-    (word-other (a .text .now) (a .at) (e .result - a .at) l (if1 .left) (λ q. c .before .if2 .left (k .ensures ∙ q))))
+    (word-other (s .args .text .now) (s .args .at) (word-end .result - s .args .at) l (if1 .left)
+    (λ q. if2 .left (word-code .ensures ∙ q))))
 
 pub word-spec : {M : Type 1} → statement M
 word-spec =
@@ -62,5 +66,6 @@ word-spec =
     word-code-requires
     (λ c κs. search needs)
     returns-2
+    (λ c κs. search needs)
     (λ c κs. search needs)
     returns-3)

@@ -8,15 +8,15 @@ use std::path::Path;
 use std::process::Command;
 use std::{env, fs, process};
 
-use auzuplens::Answer;
 use beside::{texts, Checker, LONGEST};
 
-/// What valgrind counts in, and at whose end it writes a file.
-const COUNTED: &str = "count::counted";
+/// Before which valgrind writes what it counted since the call before. (Where a
+/// function ends it cannot tell on every machine.)
+const BETWEEN: &str = "count::between";
 
 #[inline(never)]
-fn counted(checker: Checker, text: &[u8], book: &mut [u8]) -> Answer {
-    checker.check(black_box(text), book)
+fn between() {
+    black_box(());
 }
 
 /// What valgrind runs: both checks of each text, one after the other.
@@ -24,18 +24,20 @@ fn checks() {
     let mut book = vec![0; LONGEST];
     for (_, text) in texts(1) {
         for checker in [Checker::Archive, Checker::Peer] {
-            black_box(counted(checker, &text, &mut book));
+            between();
+            black_box(checker.check(black_box(&text), &mut book));
+            between();
         }
     }
 }
 
-/// Runs this program under valgrind, which writes a file for each check.
+/// Runs this program under valgrind, which writes a file for each check, and one
+/// for what comes before it.
 fn run(folder: &Path) {
     let program = env::current_exe().expect("this program has a place");
     let status = Command::new("valgrind")
         .args(["--quiet", "--tool=callgrind"])
-        .arg(format!("--toggle-collect={COUNTED}"))
-        .arg(format!("--dump-after={COUNTED}"))
+        .arg(format!("--dump-before={BETWEEN}"))
         .arg(format!("--callgrind-out-file={}/check", folder.display()))
         .arg(program)
         .arg("checks")
@@ -45,7 +47,7 @@ fn run(folder: &Path) {
 
 /// The instructions of the check with this number, from 1.
 fn instructions(folder: &Path, number: usize) -> u64 {
-    let file = folder.join(format!("check.{number}"));
+    let file = folder.join(format!("check.{}", 2 * number));
     let written = fs::read_to_string(file).expect("valgrind wrote it");
     let mut lines = written.lines();
     let total = lines.find_map(|line| line.strip_prefix("totals: "));

@@ -1,5 +1,4 @@
 use mathlib.Core.Path.{ap, _∙_}
-use mathlib.Core.Bool.{false}
 use Rattle.state.specs.declared.Listing.{Listing}
 use Rattle.state.specs.Next.{holding}
 use Rattle.state.proofs.WholeLaws.{whole}
@@ -14,7 +13,7 @@ returns c =
     let with-definition = c .before .before .with-definition in
     whole _ _ _ _ _ _ (longer .ensures) (with-definition .ensures)
     (c .holding .ensures
-    ∙ ap (λ (l : Listing). holding (s .args .self .context) false (s .args .self .context .«in_hand») (l .count))
+    ∙ ap (λ (l : Listing). holding (s .args .self .context) 0 (s .args .self .context .«in_hand») (l .count))
     (with-definition .ensures))
 
 pub closed-spec : {M : Type 1} → statement M

@@ -3,8 +3,8 @@ use Rattle.units.specs.declared.Head.{Head}
 use Rattle.classes.proofs.ClassLaws.{taken-by, ruled-taken, ruled-extends, ruled-mixed, ruled-fine}
 use native.Mathlib.Omega.{arith}
 use borrow.Author.Needs.{needs}
-use Rattle.classes.proofs.class_ruling.Statement.{statement}
-use Rattle.classes.proofs.class_ruling.Tie as tie
+use Rattle.classes.proofs.ruling_to_13.Statement.{statement}
+use Rattle.classes.proofs.ruling_to_13.Tie as tie
 
 returns : tie.Need-returns
 returns c =
@@ -75,8 +75,8 @@ returns-4 c =
           (sym (c .if3 .left) ∙ are-mixed .ensures p (ap (λ (u : Head). u .properties) e)) (x .1),
     )
 
-pub class-ruling-spec : {M : Type 1} → statement M
-class-ruling-spec =
+pub ruling-to-13-spec : {M : Type 1} → statement M
+ruling-to-13-spec =
     tie.close
     (tie.spec
     (λ c κs. search needs)

@@ -5,8 +5,8 @@ use Rattle.state.proofs.RoomLaws.{definition-rows}
 use Rattle.classes.proofs.ClassLaws.{class-row, class-narrow, class-record}
 use native.Mathlib.Omega.{arith}
 use borrow.Author.Needs.{needs}
-use Rattle.classes.proofs.write_class.Statement.{statement}
-use Rattle.classes.proofs.write_class.Tie as tie
+use Rattle.classes.proofs.write_head.Statement.{statement}
+use Rattle.classes.proofs.write_head.Tie as tie
 
 base-number-requires : tie.Need-base-number-requires
 unfolding indexIn
@@ -30,7 +30,7 @@ returns c =
     let back = c .before .before .before .before .before .before .before .before .before .before in
     let s = back .before .before .before .before .before .before .before .before .before .before in
     let flags = back .before .before .before .before .before .flags in
-    let class-kind = back .before .before .before .before .class-kind in
+    let head-kind = back .before .before .before .before .head-kind in
     let base-number = back .before .base-number in
     let head-record = back .head-record in
     let put = c .before .before .before .before .before .before .before .put in
@@ -43,12 +43,12 @@ returns c =
       enter .ensures .2,
       λ t ks k. put .ensures
           ∙ class-record (s .args .book .now) (s .args .st .extent .used) (s .args .head)
-          (entry ks (s .args .base)) _ _ _ _ (head-record .ensures) (class-kind .ensures) (flags .ensures .0)
+          (entry ks (s .args .base)) _ _ _ _ (head-record .ensures) (head-kind .ensures) (flags .ensures .0)
           (base-number .ensures t ks (s .args .st .listing .count) (s .pre .1 .1 .0) k),
     )
 
-pub write-class-spec : {M : Type 1} → statement M
-write-class-spec =
+pub write-head-spec : {M : Type 1} → statement M
+write-head-spec =
     tie.close
     (tie.spec
     (λ c κs. search needs)
