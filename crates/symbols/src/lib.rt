@@ -17,7 +17,7 @@ pub struct Cursor {
 // code: 0 the end of the text, 1 a name, 2 a number, 3 a string, 4 `..`, 5 a fault, 40 to 61, 91 and 93 a mark's byte,
 // 64 to 82 a word of the forms; 90 is the last code that a word may have.
 // refusal: the number that refuses the symbol where it is not possible: its own fault's, or 5.
-// Both fill what a place would leave empty behind a byte: bytes without a meaning are copied too, and slowly.
+// Both have four bytes, so that none is left empty before the places: empty ones are copied too, and slowly.
 pub struct Symbol {
     pub code: u32,
     pub refusal: u32,
