@@ -97,7 +97,7 @@ broken-ends t m o s n p e = ap C.answerOf e
 
 -- ---- what has been read: the unit v of the rules, which is u, in the state s; where the next one stands and its
 -- first symbol, further on
-pub record Given (t : List ℕ) (m : ℕ) (g : Stage) (s : State) (p : ℕ) (rs : List ℕ) (u : Unit)
+pub record Given (t : List ℕ) (m : ℕ) (g : Stage) (s : State) (rs : List ℕ) (u : Unit)
     (w : Where) (n : Symbol) : Type 0 where
   pub unit : Option U.Unit
   pub next : U.Where
@@ -106,7 +106,6 @@ pub record Given (t : List ℕ) (m : ℕ) (g : Stage) (s : State) (p : ℕ) (rs 
   pub comes : ComesAny t s unit u rs
   pub at : w ≡ whereOf next
   pub first : n ≡ cut (symbolAt t behind)
-  pub further : p < behind
   pub on : g .next .place < behind
   pub within : behind ≤ length t
   pub left : length t < behind + fuel
@@ -181,7 +180,7 @@ module _ {t : List ℕ} {m : ℕ} {g : Stage} {o w hs : List ℕ} (R : Runs t m 
 
     -- ---- a unit has been read
     pub given : {u : Unit} {w : Where} {n : Symbol} → length t ≤ 65535 → r ≡ Read u w n → isOver here ≡ false
-        → Given t m g (R .state) (R .place) rs u w n
+        → Given t m g (R .state) rs u w n
     given {u} {w} {n} small e v = go (R .fuel) refl (unitAt here t (now R)) refl
         (unit-steps here v .reads t (now R .place) (now R) whole) (S .steps (now R) (cuts-now R))
       where
@@ -193,7 +192,7 @@ module _ {t : List ℕ} {m : ℕ} {g : Stage} {o w hs : List ℕ} (R : Runs t m 
 
         go : (f : ℕ) → R .fuel ≡ f → (q : Result U.Step) → unitAt here t (now R) ≡ q
             → Ends (Stepped t (suc (now R .place))) q → StepIs t rs₀ rs q r
-            → Given t m g (R .state) (R .place) rs u w n
+            → Given t m g (R .state) rs u w n
         go zero h q i b s = absurd (omega (arith, R .left, R .within))
         go (suc k) h (refused f j) i b s = absurd (let q : _≡_ {A = ℕ} 0 1 = cc in omega arith)
         go (suc k) h (done q z′) i b (u′, j, a) =
@@ -212,7 +211,6 @@ module _ {t : List ℕ} {m : ℕ} {g : Stage} {o w hs : List ℕ} (R : Runs t m 
                   (may-stand t here (R .state) (now R) q z′ (R .placed) i));
               at = cc;
               first = cc;
-              further = omega (arith, b .0);
               on = omega (arith, b .0);
               within = b .1;
               left = omega (arith, b .0);
@@ -250,7 +248,7 @@ place-where (U.members a b) = rw (around-where a, behind-where b)
 
 module _ {t : List ℕ} {m : ℕ} {g : Stage} {o w₀ hs : List ℕ}
     (R : Runs t m g o w₀ hs) {rs : List ℕ} {u : Unit} {w : Where} {n : Symbol}
-    (G : Given t m g (R .state) (R .place) rs u w n) where
+    (G : Given t m g (R .state) rs u w n) where
   symbol-lies : Lies (G .behind) (length t) (symbolAt t (G .behind))
   symbol-lies = next-lies t (G .behind) (G .within)
 

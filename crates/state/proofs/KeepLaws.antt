@@ -160,9 +160,6 @@ decl-solid d =
 pub domain-defined : (d : Def) → d .sort ≡ D.domain → definitions (declRecords (def d)) ≡ 1
 domain-defined d e = rw (e, append-nil (typeRecords (d .type))) (ap suc (plain-type (d .type) .undefined))
 
-pub unit-defined : (d : Def) → d .sort ≡ D.unit → definitions (declRecords (def d)) ≡ 0
-unit-defined d e = rw e
-
 pub attribute-defined : (a : Attribute) → definitions (attributeRecords a) ≡ 1
 attribute-defined a = ap suc (plain-use (a .use-of) .undefined)
 
