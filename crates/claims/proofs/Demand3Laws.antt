@@ -47,7 +47,7 @@ use Rattle.claims.proofs.PromiseLaws.{accepted-book}
 use Rattle.claims.proofs.RankingLaws.{texts-ranked}
 use Rattle.claims.proofs.RecordLaws.{record-numbers}
 use Rattle.claims.proofs.MeasuredLaws.{units-declared}
-use Rattle.claims.proofs.StepLaws.{every-reading, booked-bases, inherits-found, found-inherits}
+use Rattle.claims.proofs.StepLaws.{every-reading, booked-bases, sorts-kept, inherits-found, found-inherits}
 
 -- ---- the numbers of the rules before 17
 element-under : (x : Option WrittenType) → ltb (rank (elementRule x .number)) (rank 17) ≡ true
@@ -439,6 +439,7 @@ accepted-reads t g n k a =
       closed = ended-closed t g s h;
       reads = every-reading s r;
       bases = booked-bases s r;
+      sorts = sorts-kept s r;
       numbers = record-numbers t g s h;
       units = units-declared t g s h;
     }

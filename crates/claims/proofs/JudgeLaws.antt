@@ -24,7 +24,7 @@ use Rattle.rules.specs.Judge.{orNoDef, resolved, meant, mergedInto, domainType,
 use Rattle.rules.specs.Judge.{typeRules, declare, opened, inTopic, newTopic, newClass, newDomain, domainTo16}
 use Rattle.rules.specs.Judge.{domainRules, baseOfAttribute, newAttribute, withAttribute, attributeTo16, attributeFrom17}
 use Rattle.rules.specs.Judge.{attributeRules, inheritedAs, memberRules, afterMember, afterClose, rulesOf, nextState}
-use Rattle.rules.specs.Judge.{descends}
+use Rattle.rules.specs.Judge.{descends, extendsRules, classRules}
 use Rattle.rules.specs.All.{All, AnyIs, Unbroken}
 use Rattle.rules.proofs.AllLaws.{all-map, all-append, all-left, all-right, any-is, any-attribute, any-resolved}
 use Rattle.rules.proofs.GrowLaws.{known-append, decls-count, attributes-count, closed-records, open-records, head-some}
@@ -33,8 +33,8 @@ use Rattle.rules.proofs.NumberLaws.{in-order}
 use Rattle.rules.proofs.Tests.{never, not-both, or-l, or-fails, not-fails}
 use Rattle.claims.specs.Readings.{proper, Inside}
 use Rattle.claims.proofs.TypeLaws.{inside, structure-none}
-use Rattle.claims.proofs.StateLaws.{GoodUse, Over, GoodOwn, GoodDef, KnownDef, GoodOpen, Sound, becomes-known}
-use Rattle.claims.proofs.StateLaws.{grow, good-naming, GoodAttribute, OverBase}
+use Rattle.claims.proofs.StateLaws.{GoodUse, Over, GoodOwn, Under, GoodDef, KnownDef, GoodOpen, Sound}
+use Rattle.claims.proofs.StateLaws.{becomes-known, grow, good-naming, GoodAttribute, OverBase}
 use Rattle.claims.proofs.UnitLaws.{Moves, isClass}
 
 -- ---- what a declaration adds
@@ -138,6 +138,7 @@ module _ (s : State) (n : Name) (p : List (List ℕ)) (b : Option Reference) (w 
   new-domain none k q = record {
     proper-type = type-proper false (w .place) (w .type) g Y.structure refl (domain-types none (domain-early none q));
     chained = tt;
+    sorted = tt;
     bare = λ z. refl;
     inherits = refl;
     own = tt;
@@ -147,6 +148,7 @@ module _ (s : State) (n : Name) (p : List (List ℕ)) (b : Option Reference) (w 
     proper-type = type-proper true (w .place) (w .type) g (d .type) (k .good .proper-type)
         (domain-types (some d) (domain-early (some d) q));
     chained = (domain-inside d q, (d, k .again, refl, refl), k .good .chained);
+    sorted = subst (AnyIs (Under domain)) (sym (k .again)) (domain-sort d (domain-early (some d) q));
     bare = λ z. refl;
     inherits = sym (ap (λ (o : Option Def). attributesOf (orNoDef o)) (k .again)
         ∙ k .good .bare (domain-sort d (domain-early (some d) q)));
@@ -164,21 +166,28 @@ module _ (s : State) (n : Name) (p : List (List ℕ)) (b : Option Reference) (w 
   sound-domain o h c k q = new-sound s h c (newDomain s n p w o g) (domain-number o) (new-domain o k q)
 
 -- ---- classes, structures and units
-module _ (s : State) (x : Sort) (n : Name) (p : List (List ℕ)) where
+module _ (s : State) (x : Sort) (n : Name) (p : List (List ℕ)) (b : Option Reference) where
+  -- 11 is kept
+  class-under : (d : Def) → All Unbroken (classRules s x n p b (some d)) → Under x d
+  unfolding classRules extendsRules
+  class-under d q = not-fails (q .1 .1 .0)
+
   new-class : isSort domain x ≡ false → (o : Option Def) → AnyIs (KnownDef (known (s .decls))) o
-      → GoodDef (known (s .decls)) (newClass s x n p o)
+      → All Unbroken (classRules s x n p b o) → GoodDef (known (s .decls)) (newClass s x n p o)
   unfolding newClass
-  new-class z none k = record {
+  new-class z none k q = record {
     proper-type = refl;
     chained = tt;
+    sorted = tt;
     bare = λ y. not-both y z;
     inherits = refl;
     own = tt;
     uses = tt;
   }
-  new-class z (some d) k = record {
+  new-class z (some d) k q = record {
     proper-type = refl;
     chained = (λ v. structure-none v, (d, k .again, refl, refl), k .good .chained);
+    sorted = subst (AnyIs (Under x)) (sym (k .again)) (class-under d q);
     bare = λ y. not-both y z;
     inherits = ap (λ (o : Option Def). attributesOf (orNoDef o)) (sym (k .again));
     own = tt;
@@ -194,21 +203,21 @@ module _ (s : State) (x : Sort) (n : Name) (p : List (List ℕ)) where
   class-number o = refl
 
   sound-class : isSort domain x ≡ false → (o : Option Def) → Sound s → isOpen s ≡ false
-      → AnyIs (KnownDef (known (s .decls))) o
+      → AnyIs (KnownDef (known (s .decls))) o → All Unbroken (classRules s x n p b o)
       → Sound (opened s (newClass s x n p o))
-  sound-class z o h c k =
+  sound-class z o h c k q =
       let e = newClass s x n p o in
       let m = class-number o in
       let i = closed-records s c in
       let j = length-append (declsRecords (s .decls)) (headRecords (e .sort) e) in
       let f = head-some (e .sort) e in
-      opened-sound s h e (new-class z o k) (class-sort z o)
+      opened-sound s h e (new-class z o k q) (class-sort z o)
       (all-map (λ d y. omega arith) (known (s .decls)) (h .before)) (omega arith) (omega arith)
 
   sound-unit : isSort domain x ≡ false → (o : Option Def) → Sound s → isOpen s ≡ false
-      → AnyIs (KnownDef (known (s .decls))) o
+      → AnyIs (KnownDef (known (s .decls))) o → All Unbroken (classRules s x n p b o)
       → Sound (declare s (def (newClass s x n p o)))
-  sound-unit z o h c k = new-sound s h c (newClass s x n p o) (class-number o) (new-class z o k)
+  sound-unit z o h c k q = new-sound s h c (newClass s x n p o) (class-number o) (new-class z o k q)
 
 -- ---- attributes
 pub good-use : (K : List Def) (based : Bool) (p : ℕ) (x : Option WrittenType) (g : Option Def) (b : Use)
@@ -304,6 +313,7 @@ unfolding withAttribute
 with-attribute K c a z h o u = record {
   proper-type = h .proper-type;
   chained = h .chained;
+  sorted = h .sorted;
   bare = λ y. not-both y z;
   inherits = h .inherits;
   own = all-append (GoodOwn (c .inherited)) (c .own) (a ∷ []) (h .own) (o, tt);
@@ -383,7 +393,15 @@ sound-close s h none e none = h
 
 topic-good : (K : List Def) (s : State) (n : Name) → GoodDef K (newTopic s n)
 unfolding newTopic
-topic-good K s n = record { proper-type = refl; chained = tt; bare = λ z. refl; inherits = refl; own = tt; uses = tt }
+topic-good K s n = record {
+  proper-type = refl;
+  chained = tt;
+  sorted = tt;
+  bare = λ z. refl;
+  inherits = refl;
+  own = tt;
+  uses = tt;
+}
 
 topic-number : (s : State) (n : Name) → newTopic s n .number ≡ length (records s)
 unfolding newTopic
@@ -403,11 +421,11 @@ judge-sound s (U.model n x) b h m q = record { defs = tt; before = tt; opened = 
 judge-sound s (U.topic n) b h m q =
     new-sound s h (m .0) (newTopic s n) (topic-number s n) (topic-good (known (s .decls)) s n)
 judge-sound s (U.class c n p r) b h m q =
-    sound-class s c n p (class-no-domain c (m .2)) (resolved s r) h (m .0) (based s h r)
+    sound-class s c n p r (class-no-domain c (m .2)) (resolved s r) h (m .0) (based s h r) q
 judge-sound s (U.domain n p r w) b h m q =
     sound-domain s n p r w (resolved s (referenceIn (w .type))) (resolved s r) h (m .0) (based s h r) q
 judge-sound s (U.attribute n p w) b h m q = sound-member s n p w h (s .open-class) refl q
-judge-sound s (U.unit n p r) b h m q = sound-unit s unit n p refl (resolved s r) h (m .0) (based s h r)
+judge-sound s (U.unit n p r) b h m q = sound-unit s unit n p r refl (resolved s r) h (m .0) (based s h r) q
 judge-sound s (U.close n) b h m q = sound-close s h (s .open-class) refl (s .topic)
 
 -- ---- the open class after a unit

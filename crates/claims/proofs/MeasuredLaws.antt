@@ -32,7 +32,7 @@ use Rattle.rules.proofs.ByteLaws.{same-eq}
 use Rattle.rules.proofs.MeasureLaws.{leads-itself, unit-itself}
 use Rattle.claims.proofs.MeasureLaws.{unit-onward}
 use Rattle.claims.proofs.RunLaws.{Invariant, Ended, reached-keeps, reached-sound}
-use Rattle.claims.proofs.StepLaws.{base-known, known-in, bases-booked}
+use Rattle.claims.proofs.StepLaws.{base-known, known-in, bases-booked, climbed}
 
 -- ---- types whose unit is a declared unit's
 abbrev UnitOf : List Def → Measure → Type 0
@@ -200,16 +200,12 @@ module _ (s : State) (sound : Sound s) where
       let m : l .number ≡ c .number = ap (λ (k : Link). k .number) (sym i) ∙ ap (λ (d : Def). d .number) r in
       let o : bs ≡ c .bases = sym j ∙ ap (λ (d : Def). d .bases) r in rw (m, o)
 
-  climbed : (d e : Def) → There d → Descends s d e → There e
-  climbed d e h itself = h
-  climbed d e h (up {b} r c p) = base-known s sound (b .bases) c p
-
   descends-fits : (d e : Def) → There d → Descends s d e → unitFits (some (measureOf d)) (some (measureOf e)) ≡ true
   descends-fits d e h itself = unit-itself (some (measureOf d))
   descends-fits d e h (up {b} r c p) =
       unit-onward (some (measureOf d)) (some (measureOf b)) (some (measureOf c)) (descends-fits d b h r)
       (or-r (same (line (measureOf b)) (line (measureOf c)))
-      (rw (base-line b c (b .bases) refl (climbed d b h r) p) (leads-itself (line (measureOf c)))))
+      (rw (base-line b c (b .bases) refl (climbed s sound d b h r) p) (leads-itself (line (measureOf c)))))
 
   -- where two lines are one, so are the definitions
   there-descends : (d e : Def) → There e → (x : Def) → There x → (k : List ℕ) → Descends s d x

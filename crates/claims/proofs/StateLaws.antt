@@ -1,6 +1,6 @@
 -- What holds of every state that the units lead to: the values of each definition read at its base, those of each
 -- attribute at its own.
-use mathlib.Core.Path.{_≡_, refl, sym, ap, _∙_}
+use mathlib.Core.Path.{_≡_, refl, sym, ap, _∙_, subst}
 use mathlib.Core.Bool.{Bool, true, false, cond}
 use mathlib.Core.Option.{Option, none, some}
 use mathlib.Core.List.{List, [], _∷_, _++_}
@@ -11,9 +11,9 @@ use lib.Dec.{eqb}
 use borrow.Author.Tests.{eqb-true, eq-eqb}
 use Rattle.rules.specs.Types.{Ty}
 use Rattle.rules.specs.Declarations.{Link, Use, inline, ofDomain, ofStructure, tyOf, Attribute, Def, linkOf}
-use Rattle.rules.specs.Declarations.{attributesOf, attributeAt, isFound, isSort, domain, State, known, lookup}
+use Rattle.rules.specs.Declarations.{attributesOf, attributeAt, isFound, Sort, isSort, domain, State, known, lookup}
 use Rattle.rules.specs.Book.{records}
-use Rattle.rules.specs.Judge.{orNoDef, baseOfAttribute, naming, descends}
+use Rattle.rules.specs.Judge.{orNoDef, baseOfAttribute, mayExtend, naming, descends}
 use Rattle.rules.specs.All.{All, AnyIs, In, first, later}
 use Rattle.rules.proofs.AllLaws.{all-map, all-append}
 use Rattle.claims.specs.Readings.{proper, Inside}
@@ -71,9 +71,13 @@ abbrev pub firstDef : List Def → List Link → Option Def
 firstDef K [] = none
 firstDef K (l ∷ bs) = lookup (hasNumber (l .number)) K
 
+abbrev pub Under : Sort → Def → Type 0
+Under c b = mayExtend c (b .sort) ≡ true
+
 pub record GoodDef (K : List Def) (d : Def) : Type 0 where
   pub proper-type : proper (d .type) ≡ true
   pub chained : Chained K (d .type) (d .bases)
+  pub sorted : AnyIs (Under (d .sort)) (firstDef K (d .bases))
   pub bare : isSort domain (d .sort) ≡ true → attributesOf d ≡ []
   pub inherits : d .inherited ≡ attributesOf (orNoDef (firstDef K (d .bases)))
   pub own : All (GoodOwn (d .inherited)) (d .own)
@@ -128,6 +132,7 @@ module _ (K E : List Def) where
   def-more d h = record {
     proper-type = h .proper-type;
     chained = chained-more (d .type) (d .bases) (h .chained);
+    sorted = subst (AnyIs (Under (d .sort))) (first-more (d .type) (d .bases) (h .chained)) (h .sorted);
     bare = h .bare;
     inherits =
         h .inherits ∙ ap (λ (o : Option Def). attributesOf (orNoDef o)) (first-more (d .type) (d .bases) (h .chained));

@@ -11,19 +11,20 @@ use borrow.Author.Tests.{eqb-true}
 use Rattle.rules.specs.Bytes.{same}
 use Rattle.rules.specs.Types.{Ty, Value, legal, reading}
 use Rattle.rules.specs.Declarations.{Link, Use, inline, ofDomain, ofStructure, tyOf, Attribute, Def, linkOf}
-use Rattle.rules.specs.Declarations.{attributesOf, attributeAt, isFound, State, known}
+use Rattle.rules.specs.Declarations as D
+use Rattle.rules.specs.Declarations.{Sort, isSort, attributesOf, attributeAt, isFound, State, known}
 use Rattle.rules.specs.Book.{baseNumber}
-use Rattle.rules.specs.Judge.{orNoDef, isAmong, isDomain, baseOfAttribute}
-use Rattle.rules.specs.All.{In}
+use Rattle.rules.specs.Judge.{mayExtend, orNoDef, isAmong, isDomain, baseOfAttribute}
+use Rattle.rules.specs.All.{In, AnyIs}
 use Rattle.rules.proofs.AllLaws.{all-left, any-is, any-lookup, apart}
 use Rattle.rules.proofs.Tests.{never, not-both}
 use Rattle.claims.specs.Readings.{readable, Inside}
 use Rattle.claims.specs.Steps.{Declared, numbered, firstOf, baseOf, Climbs, DomainHolds, Inherits, near, far}
 use Rattle.claims.specs.Steps.{Nearest, domainIn, Passes, through, straight, Rises, AttributeHolds, EveryReading}
-use Rattle.claims.specs.Steps.{BookedBases}
+use Rattle.claims.specs.Steps.{BookedBases, Descends, SortsKept}
 use Rattle.claims.proofs.TypeLaws.{structure-none}
 use Rattle.claims.proofs.StateLaws.{in-all, hasNumber, Linked, Chained, GoodUse, Over, GoodOwn, firstDef}
-use Rattle.claims.proofs.StateLaws.{GoodDef, KnownDef, Sound, GoodAttribute, OverBase}
+use Rattle.claims.proofs.StateLaws.{GoodDef, KnownDef, Under, Sound, GoodAttribute, OverBase}
 use Rattle.claims.proofs.JudgeLaws.{inherited-use}
 
 -- ---- one step between types
@@ -63,6 +64,14 @@ own-lacks n (b ∷ l) m h = go (same n (b .name .bytes)) refl (λ q. own-lacks n
         → attributeAt n (b ∷ (l ++ m)) ≡ attributeAt n m
     go true e ih = let q : some b ≡ none = rw e at h in apart q
     go false e ih = rw e (ih (rw e at h))
+
+-- ---- a structure is over a structure
+structure-under : (c b : Sort) → isSort D.struct c ≡ true → mayExtend c b ≡ true → isSort D.struct b ≡ true
+structure-under D.topic b z h = never z
+structure-under D.class b z h = never z
+structure-under D.struct b z h = h
+structure-under D.domain b z h = never z
+structure-under D.unit b z h = never z
 
 module _ (s : State) (sound : Sound s) where
   abbrev K : List Def
@@ -349,4 +358,25 @@ module _ (s : State) (sound : Sound s) where
     nearest = based-nearest;
     flagged = λ c i a j.
         (extended-nearest c i a j, λ q. own-in a (q .0) (q .1) .extended ∙ ap isFound (nearest-found a (q .0) (q .1)));
+  }
+
+  -- ---- sorts
+  sorted-base : (d b : Def) → KnownDef K d → baseOf s d ≡ some b → Under (d .sort) b
+  sorted-base d b h e = any-is (Under (d .sort)) (firstOf s (d .bases)) b
+      (subst (AnyIs (Under (d .sort))) (sym (first-same (d .bases))) (h .good .sorted)) e
+
+  pub climbed : (d e : Def) → KnownDef K d → Descends s d e → KnownDef K e
+  climbed d e h Descends.itself = h
+  climbed d e h (Descends.up {b} r c p) = base-known (b .bases) c p
+
+  structures-up : (d e : Def) → KnownDef K d → isSort D.struct (d .sort) ≡ true → Descends s d e
+      → isSort D.struct (e .sort) ≡ true
+  structures-up d e h z Descends.itself = z
+  structures-up d e h z (Descends.up {b} r c p) =
+      structure-under (b .sort) (c .sort) (structures-up d b h z r) (sorted-base b c (climbed d b h r) p)
+
+  pub sorts-kept : SortsKept s
+  sorts-kept = record {
+    bases = λ d b i e. sorted-base d b (known-in d i) e;
+    structures = λ d e i z r. structures-up d e (known-in d i) z r;
   }

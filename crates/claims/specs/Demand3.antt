@@ -15,18 +15,19 @@ use Rattle.rules.specs.Judge as J
 use Rattle.rules.specs.Judge.{judge, resolved, domainType, attributeUse, targetIn, isNaming, descends}
 use Rattle.rules.specs.Check.{Given, kept, run, accepting, refusing, check}
 use Rattle.claims.specs.Readings.{Outside, NumberOutside, UnitOutside, UnitsDescend, UnitsKept}
-use Rattle.claims.specs.Steps.{Inherits, EveryReading, BookedBases, RecordNumbers, UnitsDeclared}
+use Rattle.claims.specs.Steps.{Inherits, EveryReading, BookedBases, RecordNumbers, SortsKept, UnitsDeclared}
 use Rattle.claims.specs.Reached.{Judges}
 use Rattle.claims.specs.Ranking.{rank}
 
 -- ---- accepted: the text declares a state, with every class closed; every legal value reads legally at every base;
--- the bases are the book's, and the units of numbers are declared
+-- the bases are the book's and of sorts that may be extended, and the units of numbers are declared
 pub record ModelReads (t : List ℕ) (g : Given) : Type 0 where
   pub state : State
   pub runs : run t g ≡ kept state
   pub closed : state .open-class ≡ none
   pub reads : EveryReading state
   pub bases : BookedBases state
+  pub sorts : SortsKept state
   pub numbers : RecordNumbers state
   pub units : UnitsDeclared state
 

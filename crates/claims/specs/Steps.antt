@@ -11,9 +11,9 @@ use lib.Dec.{eqb}
 use Rattle.rules.specs.All.{AnyIs, In}
 use Rattle.rules.specs.Types.{Measure, unitFits, Ty, unitOf, Value, legal, reading}
 use Rattle.rules.specs.Declarations.{Link, Use, inline, ofDomain, ofStructure, tyOf, Attribute, Def, def, State, known}
-use Rattle.rules.specs.Declarations.{lookup, attributeAt, unit, isSort, measureOf}
+use Rattle.rules.specs.Declarations.{lookup, attributeAt, struct, unit, isSort, measureOf}
 use Rattle.rules.specs.Book.{Record, baseNumber, records, declRecords, attributeRecords}
-use Rattle.rules.specs.Judge.{isDomain}
+use Rattle.rules.specs.Judge.{isDomain, mayExtend}
 
 abbrev pub Declared : State → Def → Type 0
 Declared s d = In d (known (s .decls))
@@ -114,15 +114,21 @@ pub record RecordNumbers (s : State) : Type 0 where
   pub attribute : (c : Def) → Declared s c → (a : Attribute) → In a (c .own)
       → StandsAt s (a .number) (attributeRecords a)
 
+-- ---- from a definition up along what it extends
+pub data Descends (s : State) (d : Def) : Def → Type 0 where
+  itself : Descends s d d
+  up : {b : Def} → Descends s d b → (c : Def) → baseOf s b ≡ some c → Descends s d c
+
+-- what it extends is of a sort that its own may extend; so what a structure descends from are structures
+pub record SortsKept (s : State) : Type 0 where
+  pub bases : (d b : Def) → Declared s d → baseOf s d ≡ some b → mayExtend (d .sort) (b .sort) ≡ true
+  pub structures : (d e : Def) → Declared s d → isSort struct (d .sort) ≡ true → Descends s d e
+      → isSort struct (e .sort) ≡ true
+
 -- ---- units of numbers: the one of a type, if it has one, is a declared unit's
 abbrev pub Measured : State → Ty → Type 0
 Measured s t =
     AnyIs (λ (u : Measure). (d : Def) × Declared s d × (isSort unit (d .sort) ≡ true) × (measureOf d ≡ u)) (unitOf t)
-
--- from a unit up along what it extends
-pub data Descends (s : State) (d : Def) : Def → Type 0 where
-  itself : Descends s d d
-  up : {b : Def} → Descends s d b → (c : Def) → baseOf s b ≡ some c → Descends s d c
 
 -- and one may stand where another is asked for exactly if it is that one or descends from it
 pub record UnitsDeclared (s : State) : Type 0 where

@@ -5,4 +5,4 @@ use Rattle.computed.proofs.Computing.{computing}
 
 pub attribute-count : AttributeCount
 unfolding computing
-attribute-count = record { last = refl; one-more = refl; there-already = refl }
+attribute-count = record { last = λ c. refl; one-more = λ c. refl; there-already = λ c. refl }

@@ -26,8 +26,7 @@ taken-hold = (refl, (refl, (refl, (refl, (refl, (refl, (refl, (refl, (refl, (ref
 
 pub references-hold : All Holds references
 unfolding computing
-references-hold =
-    (refl, (refl, (refl, (refl, (refl, (refl, (refl, (refl, (refl, (refl, (refl, (refl, (refl, tt)))))))))))))
+references-hold = (refl, (refl, (refl, (refl, (refl, (refl, (refl, (refl, (refl, (refl, (refl, (refl, tt))))))))))))
 
 pub flagged-hold : All Holds flagged
 unfolding computing

@@ -15,8 +15,7 @@ written-hold = (refl, (refl, (refl, (refl, (refl, (refl, (refl, (refl, (refl, (r
 
 pub named-hold : All Holds named
 unfolding computing
-named-hold =
-    (refl, (refl, (refl, (refl, (refl, (refl, (refl, (refl, (refl, (refl, (refl, (refl, (refl, tt)))))))))))))
+named-hold = (refl, (refl, (refl, (refl, (refl, (refl, (refl, (refl, (refl, (refl, tt))))))))))
 
 pub domains-hold : All Holds domains
 unfolding computing

@@ -81,7 +81,6 @@ references =
     ∷ gives "STRUCTURE S=a:S;END S;" 10 54
     ∷ gives "CLASS A=END A;CLASS C=a:A;END C;" 11 64
     ∷ gives "TOPIC T=CLASS C=a:T;END C;END T;" 11 58
-    ∷ gives "STRUCTURE S=END S;DOMAIN E EXTENDS S=1..2;" 11 75
     ∷ passes "TOPIC T=DOMAIN B=1..2;E EXTENDS M.T.B=1..2;END T;" 71 2
     ∷ gives "TOPIC T=DOMAIN B=1..2;END T;DOMAIN E EXTENDS N.T.B=1..2;" 10 85
     ∷ []

@@ -38,8 +38,8 @@ written =
     ∷ gives "UNIT a;CLASS C=x:NUMERIC[a];END C;" 13 55
     ∷ []
 
--- 9: one name space with all others; 10: known from its closing `;` on; 11: only units in brackets and behind a unit's
--- EXTENDS, and only there
+-- 9: one name space with all others; 10: known from its closing `;` on; 11: in brackets only a unit, and no unit in
+-- place of a type (OverStructures has which sort extends which)
 abbrev pub named : List Case
 named =
     gives "UNIT a;DOMAIN a=1..2;" 9 54
@@ -49,11 +49,8 @@ named =
     ∷ gives "DOMAIN D=1..2[m];" 10 54
     ∷ gives "UNIT a;DOMAIN D=1..2[M.a.a];" 10 61
     ∷ gives "TOPIC T=UNIT b;END T;DOMAIN D=1..2[b];" 10 75
-    ∷ gives "UNIT a;CLASS C EXTENDS a=END C;" 11 63
-    ∷ gives "UNIT a;STRUCTURE S EXTENDS a=END S;" 11 67
     ∷ gives "UNIT a;CLASS C=x:a;END C;" 11 57
-    ∷ gives "DOMAIN D=1..2;UNIT a EXTENDS D;" 11 69
-    ∷ gives "TOPIC T=UNIT a EXTENDS T;END T;" 11 63
+    ∷ gives "DOMAIN D=1..2;E=1..2[D];" 11 61
     ∷ gives "UNIT a;DOMAIN C(FINAL)=1..2;D EXTENDS C=1..2[C];" 11 85
     ∷ []
 

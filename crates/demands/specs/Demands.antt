@@ -1,7 +1,8 @@
 -- The user's three demands, of what the program answers. `check_text` promises Gives: of a text t and a lent buffer of
 -- m bytes, r is its answer, in the program's own type, and b is the buffer when it returns. It has no precondition:
 -- every text and every buffer gets an answer (`answer` in this crate's code has the promise in these words). `run` is
--- document 01 with No. 1 of document 02 as a definition (crate rules): it keeps a state where no unit is refused.
+-- document 01 with No. 1 and No. 2 of document 02 as a definition (crate rules): it keeps a state where no unit is
+-- refused.
 use mathlib.Core.Path.{_≡_}
 use mathlib.Core.Logic.{_↔_}
 use mathlib.Core.Bool.{true, false}

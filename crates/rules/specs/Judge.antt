@@ -261,9 +261,9 @@ abbrev pub afterTopic : State → Name → State
 afterTopic s n = inTopic (declare s (def (newTopic s n))) (some (newTopic s n))
 
 -- ---- classes, structures and units: c is the sort, r the reference after EXTENDS, base what it leads to
--- "Types and bases", and document 02, No. 1: only what is of the same sort
+-- "Types and bases", and document 02, No. 1 and No. 2: only what is of the same sort, and a class a structure too
 abbrev pub mayExtend : Sort → Sort → Bool
-mayExtend c b = isSort c b
+mayExtend c b = (isSort class c && isSort D.struct b) || isSort c b
 
 unfoldable pub newClass : State → Sort → Name → List (List ℕ) → Option Def → Def
 newClass s c n p base = record {

@@ -6,14 +6,15 @@ use mathlib.Core.List.{List}
 use Prim.Native.Nat.{ℕ, zero, suc, _≤_}
 use native.Mathlib.Omega.{arith}
 use lib.ListN.{length}
-use lib.Dec.{ltb}
-use borrow.Author.Tests.{lt-ltb, eq-eqb, ne-eqb}
+use lib.Dec.{ltb, eqb}
+use borrow.Author.Tests.{lt-ltb, ne-eqb}
 use Rattle.ground.proofs.RulingLaws.{Positive}
 use Rattle.rules.specs.Names as R
 use Rattle.rules.specs.Grammar as G
+use Rattle.rules.specs.Declarations as D
 use Rattle.rules.specs.Declarations.{Def, Sort, sortNumber, isFound, State, resolve}
 use Rattle.rules.specs.Book.{noBase, baseNumber}
-use Rattle.rules.specs.Judge.{hasTwice, isAbstract, isFinal, firstPlace, basesOf, resolved, extendsRules}
+use Rattle.rules.specs.Judge.{hasTwice, isAbstract, isFinal, firstPlace, basesOf, resolved, mayExtend, extendsRules}
 use Rattle.ground.specs.declared.Reference.{Reference}
 use Rattle.ground.specs.declared.Reference.the-variants.{Bare, InModel, InTopic}
 use Rattle.enumerations.specs.Standing.{InText}
@@ -68,21 +69,49 @@ first-of (G.inModel m n) = refl
 first-of (G.inTopic m p n) = refl
 
 -- ---- 10 to 12
+module _ (c b : Sort) (k : ℕ) (e : k ≡ sortNumber c) (j : ℕ) (f : j ≡ sortNumber b) where
+  pub same-sort : j ≡ k → true ≡ mayExtend c b
+  same-sort h = rw (sym f ∙ h ∙ e) (go c)
+    where
+      go : (c : Sort) → true ≡ mayExtend c c
+      go D.topic = refl
+      go D.class = refl
+      go D.struct = refl
+      go D.domain = refl
+      go D.unit = refl
+
+  pub class-over : ¬ (j ≡ k) → k ≡ 1 → eqb j 2 ≡ mayExtend c b
+  class-over h z = rw (sym e ∙ z, sym f) (go b f)
+    where
+      go : (b : Sort) → j ≡ sortNumber b → eqb j 2 ≡ (eqb 2 j || eqb 1 j)
+      go D.topic f = rw f
+      go D.class f = absurd (h (f ∙ sym z))
+      go D.struct f = rw f
+      go D.domain f = rw f
+      go D.unit f = rw f
+
+  pub other-sort : ¬ (j ≡ k) → ¬ (k ≡ 1) → false ≡ mayExtend c b
+  other-sort h z = rw (
+    ne-eqb 1 (sortNumber c) (λ y. z (e ∙ sym y)),
+    ne-eqb (sortNumber c) (sortNumber b)
+        (λ y. h (f ∙ sym y ∙ sym e)),
+  )
+
 module _ (c : Sort) (b : G.Reference) (d : Def) (place : ℕ) (q : place ≡ firstPlace b) where
-  of-sort : ¬ (sortNumber c ≡ sortNumber (d .sort))
+  of-sort : mayExtend c (d .sort) ≡ false
       → record { number = 11; place = place } ≡ rulingOf (extendsRules c (some b) (some d))
   unfolding extendsRules
-  of-sort u = rw (q, ne-eqb (sortNumber c) (sortNumber (d .sort)) u)
+  of-sort u = rw (q, u)
 
-  of-final : sortNumber c ≡ sortNumber (d .sort) → d .final ≡ true
+  of-final : mayExtend c (d .sort) ≡ true → d .final ≡ true
       → record { number = 12; place = place } ≡ rulingOf (extendsRules c (some b) (some d))
   unfolding extendsRules
-  of-final u f = rw (q, eq-eqb (sortNumber c) (sortNumber (d .sort)) u, f)
+  of-final u f = rw (q, u, f)
 
-  of-fine : sortNumber c ≡ sortNumber (d .sort) → d .final ≡ false
+  of-fine : mayExtend c (d .sort) ≡ true → d .final ≡ false
       → record { number = 0; place = 0 } ≡ rulingOf (extendsRules c (some b) (some d))
   unfolding extendsRules
-  of-fine u f = rw (eq-eqb (sortNumber c) (sortNumber (d .sort)) u, f)
+  of-fine u f = rw (u, f)
 
 module _ (t : List ℕ) (ks : List Def) (x : List ℕ) (count : ℕ) (k : Known t ks x count) (c : Sort) (b : G.Reference)
     (p place : ℕ) (w : p ≤ count) (q : place ≡ firstPlace b) where
@@ -91,31 +120,30 @@ module _ (t : List ℕ) (ks : List Def) (x : List ℕ) (count : ℕ) (k : Known 
   ruling-none z = rw (z, q)
 
   module _ (z : ¬ (p ≡ 0)) (f : ℕ) (ef : (d : Def) → Says t d (row definitionWidth x p) → f ≡ sortNumber (d .sort))
-      (sort : ℕ) (es : sort ≡ sortNumber c) where
+      (m : Bool) (em : (o : Sort) → f ≡ sortNumber o → m ≡ mayExtend c o) where
     behind : (d : Def) × (entry ks p ≡ some d)
     behind = let a = k .all in entry-there ks p (omega arith) (omega arith)
 
-    at : (r : Ruling) → ((d : Def) → Says t d (row definitionWidth x p) → f ≡ sortNumber (d .sort)
+    at : (r : Ruling) → ((d : Def) → Says t d (row definitionWidth x p) → m ≡ mayExtend c (d .sort)
         → r ≡ rulingOf (extendsRules c (some b) (some d))) → r ≡ rulingOf (extendsRules c (some b) (entry ks p))
     at r h =
         let (d, e) = behind in
         let y = k .says p d e in
-        h d y (ef d y) ∙ ap (λ (o : Option Def). rulingOf (extendsRules c (some b) o)) (sym e)
+        h d y (em (d .sort) (ef d y)) ∙ ap (λ (o : Option Def). rulingOf (extendsRules c (some b) o)) (sym e)
 
-    pub ruling-sort : ¬ (f ≡ sort)
+    pub ruling-sort : m ≡ false
         → record { number = 11; place = place } ≡ rulingOf (extendsRules c (some b) (entry ks p))
-    ruling-sort u = at (record { number = 11; place = place })
-        (λ d y g. of-sort c b d place q (λ v. u (g ∙ sym v ∙ sym es)))
+    ruling-sort u = at (record { number = 11; place = place }) (λ d y g. of-sort c b d place q (sym g ∙ u))
 
-    module _ (u : f ≡ sort) (v : Bool) (ev : (d : Def) → Says t d (row definitionWidth x p) → v ≡ d .final) where
+    module _ (u : m ≡ true) (v : Bool) (ev : (d : Def) → Says t d (row definitionWidth x p) → v ≡ d .final) where
       pub ruling-final : v ≡ true → record { number = 12; place = place }
           ≡ rulingOf (extendsRules c (some b) (entry ks p))
       ruling-final h = at (record { number = 12; place = place })
-          (λ d y g. of-final c b d place q (sym es ∙ sym u ∙ g) (sym (ev d y) ∙ h))
+          (λ d y g. of-final c b d place q (sym g ∙ u) (sym (ev d y) ∙ h))
 
       pub ruling-fine : v ≡ false → record { number = 0; place = 0 } ≡ rulingOf (extendsRules c (some b) (entry ks p))
       ruling-fine h = at (record { number = 0; place = 0 })
-          (λ d y g. of-fine c b d place q (sym es ∙ sym u ∙ g) (sym (ev d y) ∙ h))
+          (λ d y g. of-fine c b d place q (sym g ∙ u) (sym (ev d y) ∙ h))
 
 -- all have a number
 pub extends-positive : (c : Sort) (b : Option G.Reference) (o : Option Def) → Positive (extendsRules c b o)

@@ -21,8 +21,8 @@ ghost use Rattle.rules.specs.Declarations as D;
 ghost use Rattle.rules.specs.Declarations.{Def, Sort, sortNumber, isFound, atHand, resolve, known};
 ghost use Rattle.rules.specs.Book.{baseNumber};
 ghost use Rattle.rules.specs.Book.{bit as Book·bit, flags as Book·flags};
-ghost use Rattle.rules.specs.Judge.{firstPlace, hasTwice, isAbstract, isFinal, resolved, basesOf, extendsRules};
-ghost use Rattle.rules.specs.Judge.{referenceIn, mayStandIn};
+ghost use Rattle.rules.specs.Judge.{firstPlace, hasTwice, isAbstract, isFinal, resolved, basesOf, mayExtend};
+ghost use Rattle.rules.specs.Judge.{extendsRules, referenceIn, mayStandIn};
 ghost use Rattle.names.specs.Index.{entry, Known, Rows};
 ghost use Rattle.names.specs.References.{bytesOf, Inside, AllInside};
 ghost use Rattle.parts.specs.Forms.{flagsOf, referenceOf, optionalOf, anyOf};
@@ -381,6 +381,19 @@ pub struct Extension {
     pub base: usize,
 }
 
+// By the numbers of their sorts: what is of the same sort, and a class a structure too.
+fn may_extend(sort: usize, base: usize) -> bool
+    ensures { λ r. ⌜ ((c b : Sort) → sort ≡ sortNumber c → base ≡ sortNumber b → r ≡ mayExtend c b) ⌝ }
+{
+    if base == sort {
+        return true;
+    }
+    if sort == sorts::CLASS {
+        return base == sorts::STRUCTURE;
+    }
+    false
+}
+
 // 10 to 12 of what extends, by the number of its sort, and of what its reference at a place names.
 fn extends_ruling(index: &[u16], sort: usize, base: usize, place: usize) -> Ruling
     requires { ⌜ Rows (now index) base ⌝ }
@@ -391,13 +404,13 @@ fn extends_ruling(index: &[u16], sort: usize, base: usize, place: usize) -> Ruli
     if base == 0 {
         return Ruling { number: 10, place };
     }
-    if names::sort_of(index, base) != sort {
-        return Ruling { number: 11, place };
+    if may_extend(sort, names::sort_of(index, base)) {
+        if names::is_final(names::flags_of(index, base)) {
+            return Ruling { number: 12, place };
+        }
+        return fine();
     }
-    if names::is_final(names::flags_of(index, base)) {
-        return Ruling { number: 12, place };
-    }
-    fine()
+    Ruling { number: 11, place }
 }
 
 // Of what extends, by the number of its sort.
