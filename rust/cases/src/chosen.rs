@@ -9,13 +9,14 @@ fn model(units: &str) -> Vec<u8> {
     format!("{HEAD}{units}END M.").into_bytes()
 }
 
-/// A class of `own` attributes over one of `inherited`, of other names.
-fn attributes(inherited: usize, own: usize) -> String {
+/// A class of `own` attributes over a class or structure of `inherited`, of other
+/// names.
+fn attributes(sort: &str, inherited: usize, own: usize) -> String {
     let list = |prefix: &str, count| -> String {
         (0..count).map(|i| format!("{prefix}{i}:TEXT;")).collect()
     };
     format!(
-        "CLASS A={}END A;CLASS B EXTENDS A={}END B;",
+        "{sort} A={}END A;CLASS B EXTENDS A={}END B;",
         list("a", inherited),
         list("b", own)
     )
@@ -76,7 +77,11 @@ fn bodies() -> Vec<(String, String)> {
     ];
     let crowd = |(inherited, own)| {
         let word = format!("{inherited} attributes inherited, {own} own");
-        (word, attributes(inherited, own))
+        (word, attributes("CLASS", inherited, own))
+    };
+    let over_structure = |(inherited, own)| {
+        let word = format!("{inherited} attributes from a structure, {own} own");
+        (word, attributes("STRUCTURE", inherited, own))
     };
     let deep = |(depth, wide): (usize, usize)| {
         let base = nested(depth, wide, 0);
@@ -92,6 +97,7 @@ fn bodies() -> Vec<(String, String)> {
     bodies.extend([20, 60, 120].map(long));
     bodies.extend([50, 150, 300].map(two));
     bodies.extend([20, 60].map(measured));
+    bodies.extend([(20, 20), (200, 57)].map(over_structure));
     bodies
 }
 

@@ -1,13 +1,16 @@
-//! What a case says of units of numbers, by its text and its answer: the ways in
-//! which request No. 1 can show, so that they can be counted.
+//! What a case says of units of numbers and of classes over structures, by its
+//! text and its answer: the ways in which requests No. 1 and No. 2 can show, so
+//! that they can be counted.
+
+mod over_structures;
 
 use std::ops::Range;
 
 use crate::Case;
 use peer::{Answer, UnitAt};
 
-/// Every flavour.
-pub const FLAVOURS: [&str; 41] = [
+/// Every flavour: of request No. 1, then of No. 2.
+pub const FLAVOURS: [&str; 60] = [
     "a unit",
     "a unit in a topic",
     "a unit that is ABSTRACT",
@@ -49,20 +52,48 @@ pub const FLAVOURS: [&str; 41] = [
     "22 at an attribute, the unit missing",
     "22 at an attribute, a unit added",
     "22 at an attribute, the unit no descendant",
+    "a class over a structure",
+    "a class over a class over a structure",
+    "an attribute over a structure's",
+    "MANDATORY alone over a structure's attribute",
+    "256 attributes, some from a structure",
+    "4 at an attribute, others from a structure",
+    "9 at an attribute that a class has from a structure",
+    "11 at a structure that extends a class",
+    "11 at a structure that extends a class over a structure",
+    "11 at an attribute typed by a class over a structure",
+    "11 at an attribute typed by a class below the base's structure",
+    "12 at a class that extends a FINAL structure",
+    "12 at an attribute over a structure's",
+    "16 at an attribute over a structure's",
+    "17 at an attribute over a structure's",
+    "18 at an attribute over a structure's",
+    "19 at a class over a structure",
+    "19 at an attribute over a structure's",
+    "22 at an attribute over a structure's",
+];
+
+/// The flavours that take a longer text than a small case has.
+pub const LARGE_ONLY: [&str; 2] = [
+    "256 attributes, some from a structure",
+    "4 at an attribute, others from a structure",
 ];
 
 /// The flavours of a case.
 pub fn flavours(case: &Case) -> Vec<&'static str> {
     let mut buffer = vec![0; case.buffer_len];
     let answer = peer::check(&case.text, &mut buffer);
-    let marked = case.text.contains(&b'[') || case.text.contains(&b']');
-    if !marked && !case.text.windows(4).any(|word| word == b"UNIT") {
-        return Vec::new();
-    }
     let view = View::new(&case.text);
     match answer {
-        Answer::Accepted { book_len, .. } => view.accepted(&buffer[..book_len]),
-        Answer::Refused { number, place } => view.refused(number, place),
+        Answer::Accepted { book_len, .. } => {
+            let book = &buffer[..book_len];
+            [view.accepted(book), over_structures::accepted(&view, book)].concat()
+        }
+        Answer::Refused { number, place } => [
+            view.refused(number, place),
+            over_structures::refused(&view, number, place),
+        ]
+        .concat(),
     }
 }
 
@@ -108,9 +139,17 @@ impl<'t> View<'t> {
     }
 
     /// The unit that holds a place, at or behind its name.
-    fn unit(&self, place: usize) -> UnitAt {
+    fn unit(&self, place: usize) -> Option<UnitAt> {
         let before = self.units.partition_point(|unit| unit.place <= place);
-        self.units[before - 1]
+        self.units[..before].last().copied()
+    }
+
+    /// The names of a reference, which begins at this symbol.
+    fn names(&self, first: usize) -> Vec<&'t [u8]> {
+        let dots = (0..2).take_while(|dot| self.symbol(first + 1 + 2 * dot) == b".");
+        (0..=dots.count())
+            .map(|part| self.symbol(first + 2 * part))
+            .collect()
     }
 
     /// Whether a unit of numbers of this name stands before the place.
@@ -149,10 +188,9 @@ impl<'t> View<'t> {
         if number == 5 {
             return self.impossible(at);
         }
-        if number < 7 {
+        let Some(unit) = self.unit(place).filter(|_| number >= 7) else {
             return Vec::new();
-        }
-        let unit = self.unit(place);
+        };
         match number {
             9 => self.taken(unit, place).into_iter().collect(),
             10 | 11 => {
@@ -194,9 +232,8 @@ impl<'t> View<'t> {
 
     /// A reference that is unknown, or of a wrong sort, at this symbol.
     fn reference(&self, number: u8, unit: UnitAt, at: usize) -> Option<&'static str> {
-        let dots = (0..2).take_while(|dot| self.symbol(at + 1 + 2 * dot) == b".");
-        let name = self.symbol(at + 2 * dots.count());
-        let of_measure = self.is_measure(name, self.symbols[at].0);
+        let names = self.names(at);
+        let of_measure = self.is_measure(names[names.len() - 1], self.symbols[at].0);
         match (number, unit.kind, self.symbol(at - 1)) {
             (10, "unit", _) => Some("10 after a unit's EXTENDS"),
             (11, "unit", _) => Some("11 after a unit's EXTENDS"),

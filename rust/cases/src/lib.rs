@@ -13,7 +13,7 @@ pub mod stored;
 mod stretched;
 
 pub use chosen::chosen;
-pub use flavours::{flavours, FLAVOURS};
+pub use flavours::{flavours, FLAVOURS, LARGE_ONLY};
 use peer::Answer;
 pub use random::Random;
 use sketch::{Fault, Sketch, Style};
@@ -61,7 +61,7 @@ fn text(random: &mut Random, style: Style, definitions: usize) -> Vec<u8> {
     };
     // Some faults are planned while the model is drawn up, the rest is done
     // to its symbols or bytes afterwards.
-    let planned = (0..damages).filter(|_| random.chance(3, 4)).count();
+    let planned = (0..damages).filter(|_| random.chance(5, 6)).count();
     let faults = (0..planned).map(|_| Fault::any(random)).collect();
     let mut sketch = Sketch::new(random, style, faults);
     let mut symbols = sketch.model(definitions);
@@ -86,10 +86,10 @@ fn buffer_len(random: &mut Random, text: &[u8]) -> usize {
         1 => random.below(80),
         2..=11 => {
             let book = book_len(text).unwrap_or_else(|| random.below(500));
-            match random.below(6) {
+            match random.below(7) {
                 0..=2 => book,
                 3 => book.saturating_sub(1),
-                4 => random.below(book + 1),
+                4 | 5 => random.below(book + 1),
                 _ => book + 1 + random.below(20),
             }
         }

@@ -1,9 +1,11 @@
 //! Draws up a model that passes, but for the faults that are planned.
 
+mod classes;
 mod measures;
 
 use crate::random::Random;
 use crate::shapes::{extension, fresh, fresh_range, Shape};
+use classes::Class;
 use measures::{Measure, Typed};
 
 #[derive(Clone, Copy, Debug, PartialEq, Eq)]
@@ -26,6 +28,8 @@ pub enum Fault {
     Unfounded,
     WrongSort,
     FinalBase,
+    /// An attribute over a FINAL one.
+    FinalAttribute,
     Properties,
     Numeric,
     AbstractDomain,
@@ -49,39 +53,46 @@ pub enum Fault {
     /// Two references at fault in one unit.
     TwoReferences,
     Brackets,
+    /// A structure that extends a class.
+    OverClass,
+    /// An attribute that names a class.
+    ClassAsType,
 }
 
 impl Fault {
     /// Each fault with its weight, more where it seldom finds an occasion.
-    const ALL: [(Fault, usize); 26] = {
+    const ALL: [(Fault, usize); 29] = {
         use Fault::*;
         [
             (Large, 2),
             (Version, 2),
             (End, 2),
-            (Taken, 6),
+            (Taken, 7),
             (Doubled, 2),
-            (Inherited, 3),
+            (Inherited, 7),
             (Unknown, 2),
             (Unfounded, 2),
             (WrongSort, 4),
-            (FinalBase, 4),
+            (FinalBase, 7),
+            (FinalAttribute, 11),
             (Properties, 3),
             (Numeric, 2),
             (AbstractDomain, 3),
             (Unsound, 2),
             (Rootless, 2),
-            (Kind, 4),
-            (Beyond, 5),
-            (Astray, 13),
-            (Unmeasured, 9),
-            (Measured, 8),
-            (Foreign, 14),
-            (BeyondForeign, 5),
-            (NoMeasure, 10),
-            (NotMeasured, 5),
-            (TwoReferences, 14),
+            (Kind, 10),
+            (Beyond, 7),
+            (Astray, 21),
+            (Unmeasured, 11),
+            (Measured, 10),
+            (Foreign, 18),
+            (BeyondForeign, 6),
+            (NoMeasure, 17),
+            (NotMeasured, 6),
+            (TwoReferences, 20),
             (Brackets, 2),
+            (OverClass, 9),
+            (ClassAsType, 14),
         ]
     };
 
@@ -105,15 +116,6 @@ struct Domain {
     is_abstract: bool,
     is_final: bool,
     held: Typed,
-}
-
-struct Class {
-    name: String,
-    topic: Option<usize>,
-    base: Option<usize>,
-    is_structure: bool,
-    is_final: bool,
-    attributes: Vec<Attribute>,
 }
 
 #[derive(Clone)]
@@ -147,9 +149,10 @@ const NAMES: [&str; 12] = [
 ];
 
 /// What small models are made of.
-const PLANS: [&str; 28] = [
-    "D", "DD", "DD", "DDD", "DC", "CC", "CC", "DCC", "DCC", "DDC", "SC", "SS", "SCC", "T", "DT",
-    "TD", "UD", "UU", "UDD", "UUDD", "UC", "UCC", "UT", "TU", "DUD", "UDCC", "UUDD", "UUCC",
+const PLANS: [&str; 34] = [
+    "D", "DD", "DD", "DDD", "DC", "CC", "CC", "DCC", "DCC", "DDC", "SC", "SC", "SC", "SS", "SCC",
+    "SCC", "SCC", "DSC", "USC", "T", "DT", "TD", "UD", "UU", "UDD", "UUDD", "UC", "UCC", "UT",
+    "TU", "DUD", "UDCC", "UUDD", "UUCC",
 ];
 
 pub struct Sketch<'r> {
@@ -194,7 +197,7 @@ impl<'r> Sketch<'r> {
             (0..1 + self.random.below(3)).for_each(|_| self.definition('U', 0));
         }
         self.definitions(definitions);
-        if self.style == Style::Large && self.random.chance(1, 150) {
+        if self.style == Style::Large && self.random.chance(1, 50) {
             self.crowded_class();
         }
         self.end("M", ".");
@@ -268,10 +271,16 @@ impl<'r> Sketch<'r> {
             let plan = self.plan();
             return plan.chars().for_each(|letter| self.definition(letter, 0));
         }
+        // A class where a type belongs shows the more, the more classes there are.
+        let letters = if self.faults.contains(&Fault::ClassAsType) {
+            b"UDCCCCCSSST"
+        } else {
+            b"UDDDDCCCSST"
+        };
         let mut left = count;
         while left > 0 {
             left -= 1;
-            let letter = char::from(b"UDDDDDCCCST"[self.random.below(11)]);
+            let letter = char::from(letters[self.random.below(11)]);
             self.definition(letter, left);
             if letter == 'T' {
                 left /= 2;
@@ -282,20 +291,22 @@ impl<'r> Sketch<'r> {
     /// The definitions of a small model, fit for the first planned fault.
     fn plan(&mut self) -> &'static str {
         let plans: &[&str] = match self.faults.first() {
-            Some(Fault::Astray) => &["DCC", "DCC", "DDCC", "SSCC"],
+            Some(Fault::Astray) => &["DCC", "DSC", "DSC", "DDSC", "SSCC", "SSSC"],
             Some(Fault::WrongSort) => &["DCC", "DSS", "SDD", "TDD", "CSC", "TDC"],
-            Some(Fault::FinalBase) => &["DD", "CC", "SS", "DDD"],
-            Some(Fault::Kind | Fault::Beyond) => &["DD", "DDD", "CC", "DCC", "DD"],
-            Some(Fault::Inherited) => &["CC", "SS"],
+            Some(Fault::FinalBase) => &["DD", "CC", "SS", "DDD", "SC", "SC", "SC"],
+            Some(Fault::Kind | Fault::Beyond) => &["DD", "DDD", "CC", "DCC", "SC", "SC", "SC"],
+            Some(Fault::Inherited | Fault::FinalAttribute) => &["CC", "SS", "SC", "SC", "SC"],
             Some(Fault::AbstractDomain) => &["DC", "DS"],
             Some(Fault::Taken) => &["UU", "UD", "DU", "UC", "UT", "DD", "CD", "DC", "TD"],
-            Some(Fault::Unmeasured | Fault::BeyondForeign) => &["UDD", "UCC", "UCC", "UDCC", "UDD"],
-            Some(Fault::Measured) => &["UDD", "DUD", "UCC", "CUC", "UCC"],
-            Some(Fault::Foreign) => &["UUDD", "UUCC", "UUCC"],
-            Some(Fault::NoMeasure) => &["UU", "DUU", "UD", "CUD", "UC", "CUC", "DUC", "SUC"],
+            Some(Fault::Unmeasured | Fault::BeyondForeign) => &["UDD", "UCC", "USC", "UDSC", "UDD"],
+            Some(Fault::Measured) => &["UDD", "DUD", "UCC", "SUC", "USC"],
+            Some(Fault::Foreign) => &["UUDD", "UUCC", "UUSC"],
+            Some(Fault::NoMeasure) => &["UU", "DUU", "UD", "CUD", "UC", "CUC", "DUC", "DUC"],
             Some(Fault::NotMeasured) => &["UD", "UC", "US", "UDC"],
             Some(Fault::TwoReferences) => &["CD", "UDD", "UCD", "DUD", "UC", "DD", "DD"],
             Some(Fault::Brackets) => &["UD", "UC", "UDD"],
+            Some(Fault::OverClass) => &["CS", "SCS", "SCS"],
+            Some(Fault::ClassAsType) => &["SCC", "SCC", "SCCC"],
             _ => &PLANS,
         };
         self.random.pick(plans)
@@ -646,56 +657,20 @@ impl<'r> Sketch<'r> {
         self.in_brackets(measure);
     }
 
-    fn class(&mut self, is_structure: bool) {
-        let name = self.new_name();
-        let base = self.class_base(is_structure);
-        let is_final = self.rarely(Fault::FinalBase);
-        let is_abstract = !is_final && self.random.chance(1, 6);
-        self.put(if is_structure { "STRUCTURE" } else { "CLASS" });
-        self.put(&name);
-        let named = base.map(|number| {
-            (
-                self.classes[number].name.clone(),
-                self.classes[number].topic,
-            )
-        });
-        self.rest_of_head(is_abstract, is_final, named);
-        self.put("=");
-        if self.random.chance(1, 5) {
-            self.put("ATTRIBUTE");
-        }
-        let inherited = base.map_or(Vec::new(), |number| self.classes[number].attributes.clone());
-        let attributes = self.attributes(inherited);
-        self.end(&name, ";");
-        self.classes.push(Class {
-            name,
-            topic: self.open,
-            base,
-            is_structure,
-            is_final,
-            attributes,
-        });
-    }
-
-    fn class_base(&mut self, is_structure: bool) -> Option<usize> {
-        let classes = self.classes.iter().enumerate();
-        let fitting: Vec<(usize, bool)> = classes
-            .filter(|(_, class)| class.is_structure == is_structure)
-            .map(|(number, class)| (number, class.is_final))
-            .collect();
-        self.base_among(&fitting, 5)
-    }
-
     fn attributes(&mut self, inherited: Vec<Attribute>) -> Vec<Attribute> {
         let mut all = inherited.clone();
         let often = if self.small() { 5 } else { 4 };
         for (position, base) in inherited.iter().enumerate() {
-            let allowed = !base.is_final || self.fault(Fault::FinalBase);
+            let allowed = !base.is_final || self.fault(Fault::FinalAttribute);
             if allowed && self.random.chance(often, 6) {
                 all[position] = self.extended_attribute(base);
             }
         }
         let own = match (self.small(), inherited.is_empty()) {
+            // A structure without attributes leaves room for classes with some.
+            (true, _) if self.faults.contains(&Fault::ClassAsType) => {
+                usize::from(!self.classes.is_empty())
+            }
             (true, true) if self.wants_measures() => 1,
             (true, true) => usize::from(self.random.chance(3, 4)),
             (true, false) => usize::from(self.random.chance(1, 4)),
@@ -720,7 +695,7 @@ impl<'r> Sketch<'r> {
         if !known.is_empty() && self.fault(Fault::Taken) {
             name = known[self.random.below(known.len())].name.clone();
         }
-        let is_final = self.rarely(Fault::FinalBase);
+        let is_final = self.rarely(Fault::FinalAttribute);
         self.put(&name);
         let holds = if self.random.chance(1, 4) && self.fault(Fault::TwoReferences) {
             self.put("( EXTENDED ) : 1 .. 2 [");
@@ -751,6 +726,7 @@ impl<'r> Sketch<'r> {
         }
         let holds = match self.random.below(6) {
             _ if self.wants_measures() && self.random.chance(2, 3) => None,
+            _ if self.faults.contains(&Fault::ClassAsType) => self.named_structure(),
             0 | 1 => self.named_domain(None),
             2 | 3 => self.named_structure(),
             _ => None,
@@ -812,21 +788,8 @@ impl<'r> Sketch<'r> {
         Some(Holds::Domain(number))
     }
 
-    fn named_structure(&mut self) -> Option<Holds> {
-        let fitting: Vec<usize> = (0..self.classes.len())
-            .filter(|&number| self.classes[number].is_structure)
-            .collect();
-        let number = *self.random.any(&fitting)?;
-        let (name, topic) = (
-            self.classes[number].name.clone(),
-            self.classes[number].topic,
-        );
-        self.reference(&name, topic);
-        Some(Holds::Structure(number))
-    }
-
     fn extended_attribute(&mut self, base: &Attribute) -> Attribute {
-        let is_final = self.rarely(Fault::FinalBase);
+        let is_final = self.rarely(Fault::FinalAttribute);
         let chosen: &[&str] = if is_final {
             &["EXTENDED", "FINAL"]
         } else {
@@ -895,37 +858,6 @@ impl<'r> Sketch<'r> {
         );
         self.reference(&name, topic);
         Holds::Domain(number)
-    }
-
-    fn descendant_structure(&mut self, ancestor: usize) -> Holds {
-        let bases: Vec<Option<usize>> = self.classes.iter().map(|class| class.base).collect();
-        let fitting = descendants(&bases, ancestor);
-        let number = self.random.any(&fitting).copied().unwrap_or(ancestor);
-        let (name, topic) = (
-            self.classes[number].name.clone(),
-            self.classes[number].topic,
-        );
-        self.reference(&name, topic);
-        Holds::Structure(number)
-    }
-
-    /// A class with 255 to 257 attributes, perhaps in two steps.
-    fn crowded_class(&mut self) {
-        let count = 255 + self.random.below(3);
-        let split = if self.random.chance(1, 2) {
-            self.random.below(count)
-        } else {
-            count
-        };
-        self.put("CLASS Crowd =");
-        for number in 0..count {
-            if number == split {
-                self.put("END Crowd ; CLASS Crowd2 EXTENDS Crowd =");
-            }
-            self.put(&format!("c{number} : TEXT ;"));
-        }
-        let name = if split < count { "Crowd2" } else { "Crowd" };
-        self.end(name, ";");
     }
 }
 

@@ -2,7 +2,7 @@
 
 use std::collections::HashMap;
 
-use cases::{flavours, gen, gen_small, Case, FLAVOURS, SMALL};
+use cases::{flavours, gen, gen_small, Case, FLAVOURS, LARGE_ONLY, SMALL};
 use peer::{check, name_part, show_name, units, Answer};
 
 /// Checks with a buffer of this length, full of other bytes before.
@@ -159,32 +159,32 @@ fn reaches_every_refusal(tally: &[usize; 23]) {
     }
 }
 
-/// Each flavour of units of numbers comes in one of a thousand cases.
-fn reaches_every_flavour(case: impl Fn(u64) -> Case) {
+/// Each of these flavours comes in one of a thousand cases, and no other comes.
+fn reaches_every_flavour(case: impl Fn(u64) -> Case, wanted: &[&str]) {
     const CASES: u64 = 100_000;
     let mut found: HashMap<&str, u64> = HashMap::new();
     for flavour in (0..CASES).flat_map(|seed| flavours(&case(seed))) {
         *found.entry(flavour).or_default() += 1;
     }
-    let count = |flavour| found.remove(flavour).unwrap_or(0);
-    let counts = FLAVOURS.map(count);
-    let few = FLAVOURS
+    let counts = wanted
         .iter()
-        .zip(counts)
-        .filter(|(_, count)| *count < CASES / 1_000);
-    let few: Vec<_> = few.collect();
+        .map(|flavour| (flavour, found.remove(flavour).unwrap_or(0)));
+    let few: Vec<_> = counts.filter(|(_, count)| *count < CASES / 1_000).collect();
     assert!(few.is_empty(), "{few:?}");
     assert!(found.is_empty(), "not listed: {found:?}");
 }
 
 #[test]
 fn large_cases_reach_every_flavour() {
-    reaches_every_flavour(gen);
+    reaches_every_flavour(gen, &FLAVOURS);
 }
 
 #[test]
 fn small_cases_reach_every_flavour() {
-    reaches_every_flavour(gen_small);
+    let mut wanted = FLAVOURS.to_vec();
+    wanted.retain(|flavour| !LARGE_ONLY.contains(flavour));
+    assert_eq!(wanted.len() + LARGE_ONLY.len(), FLAVOURS.len());
+    reaches_every_flavour(gen_small, &wanted);
 }
 
 #[test]

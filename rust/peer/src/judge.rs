@@ -275,7 +275,8 @@ impl<'t, 'j, 'b> Judge<'t, 'j, 'b> {
         Ok(())
     }
 
-    /// Refusals 10 to 12 for the base of a class or structure.
+    /// Refusals 10 to 12 for the base of a class, which is a class or a
+    /// structure, or of a structure, which is a structure.
     fn class_base(&self, head: &ClassHead) -> Result<Option<u32>, Refusal> {
         let Some(reference) = &head.base else {
             return Ok(None);
@@ -283,7 +284,7 @@ impl<'t, 'j, 'b> Judge<'t, 'j, 'b> {
         let fits = if head.is_structure {
             Known::is_structure
         } else {
-            Known::is_class
+            Known::is_class_or_structure
         };
         let [base] = self.sorts([(Some(reference), fits)])?;
         let number = base.map(Known::number);

@@ -1,6 +1,7 @@
 //! A checker for model texts in a part of INTERLIS 2.4, after the rules of
-//! document 01 and of request No. 1 in document 02. It is read and written independently of the proved checker,
-//! to be compared with it and to be the baseline of its speed.
+//! document 01 and of requests No. 1 and No. 2 in document 02. It is read and
+//! written independently of the proved checker, to be compared with it and to be
+//! the baseline of its speed.
 #![forbid(unsafe_code)]
 
 mod book;

@@ -34,8 +34,8 @@ impl Known {
         matches!(self, Known::Structure(_))
     }
 
-    pub fn is_class(self) -> bool {
-        matches!(self, Known::Class(_))
+    pub fn is_class_or_structure(self) -> bool {
+        matches!(self, Known::Class(_) | Known::Structure(_))
     }
 
     /// Whether an attribute may name it.

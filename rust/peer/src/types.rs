@@ -22,8 +22,9 @@ pub enum Type {
     Numeric,
     /// Where the whole enumeration opens among the pieces.
     Enumeration(usize),
-    /// The structure's or domain's number among its like.
+    /// The structure's number among classes and structures.
     Structure(u32),
+    /// The domain's number among domains.
     Domain(u32),
 }
 

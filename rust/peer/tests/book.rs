@@ -158,6 +158,42 @@ fn bases_are_record_numbers() {
 }
 
 #[test]
+fn classes_over_structures() {
+    holds(
+        "STRUCTURE S=END S;CLASS C(ABSTRACT)EXTENDS S=END C;",
+        "1:M 5:S/0/-1 16 4:C/1/1 16",
+    );
+    holds(
+        "TOPIC T=STRUCTURE S(ABSTRACT)=a:1..9;b:TEXT;END S;END T;\
+         CLASS C(FINAL)EXTENDS M.T.S=b(EXTENDED):TEXT*5;c:TEXT;a(EXTENDED,FINAL):1..8;END C;",
+        "1:M 2:T 5:S/1/-1 6:a/0/-1 10:0/1/9 6:b/0/-1 8:0 16 3 \
+         4:C/2/2 6:b/4/5 8:5 6:c/0/-1 8:0 6:a/6/3 10:0/1/8 16",
+    );
+    // Through a structure and a class between: the nearest attribute is the base.
+    holds(
+        "STRUCTURE R=a:1..9;b:1..9;END R;STRUCTURE S EXTENDS R=a(EXTENDED):1..8;END S;\
+         CLASS C EXTENDS S=END C;CLASS D EXTENDS C=a(EXTENDED):1..7;b(EXTENDED):1..7;END D;",
+        "1:M 5:R/0/-1 6:a/0/-1 10:0/1/9 6:b/0/-1 10:0/1/9 16 5:S/0/1 6:a/4/2 10:0/1/8 16 \
+         4:C/0/7 16 4:D/0/11 6:a/4/8 10:0/1/7 6:b/4/4 10:0/1/7 16",
+    );
+}
+
+#[test]
+fn mandatory_over_structures() {
+    holds(
+        "UNIT u;DOMAIN D=(x);STRUCTURE R=END R;\
+         STRUCTURE S=a:D;b:R;c:(y);d:1..2[u];e:MANDATORY TEXT;END S;\
+         CLASS C EXTENDS S=a(EXTENDED):MANDATORY;b(EXTENDED):MANDATORY;c(EXTENDED):MANDATORY;\
+         d(EXTENDED):MANDATORY;e(EXTENDED):TEXT*5;END C;",
+        "1:M 18:u/0/-1 7:D/0/-1 13:0 14:x 15 5:R/0/-1 16 \
+         5:S/0/-1 6:a/0/-1 17:2 6:b/0/-1 12:6 6:c/0/-1 13:0 14:y 15 6:d/0/-1 10:0/1/2 19:1 \
+         6:e/8/-1 8:0 16 \
+         4:C/0/8 6:a/12/9 17:2 6:b/12/11 12:6 6:c/12/13 13:0 14:y 15 6:d/12/17 10:0/1/2 19:1 \
+         6:e/12/20 8:5 16",
+    );
+}
+
+#[test]
 fn mandatory_in_effect() {
     holds(
         "DOMAIN A=MANDATORY TEXT;B EXTENDS A=TEXT*5;C=TEXT;D EXTENDS C=MANDATORY;",

@@ -143,12 +143,13 @@ fn order_within_a_unit() {
 const KNOWN: &str = "UNIT a;b EXTENDS a;c(ABSTRACT)EXTENDS b;d;";
 
 /// A domain and an attribute with this type over one with that.
-fn over(base: &str, extension: &str) -> [String; 4] {
+fn over(base: &str, extension: &str) -> [String; 5] {
     let then = "END C;CLASS E EXTENDS C=x(EXTENDED):";
     [
         format!("{KNOWN}DOMAIN D={base};E EXTENDS D={extension};"),
         format!("{KNOWN}DOMAIN D={base};E EXTENDS D=MANDATORY;F EXTENDS E={extension};"),
         format!("{KNOWN}CLASS C=x:{base};{then}{extension};END E;"),
+        format!("{KNOWN}STRUCTURE C=x:{base};{then}{extension};END E;"),
         format!("{KNOWN}DOMAIN D={base};CLASS C=x:D;{then}{extension};END E;"),
     ]
 }

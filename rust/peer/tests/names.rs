@@ -140,10 +140,10 @@ fn wrong_sorts() {
     for sort in ["T", "C", "S", "M.T", "M.C", "M.S"] {
         refused(11, &format!("{known}X EXTENDS ^{sort}=TEXT;"));
     }
-    for sort in ["T", "D", "S"] {
+    for sort in ["T", "D", "M.D"] {
         refused(11, &format!("{known}CLASS X EXTENDS ^{sort}="));
     }
-    for sort in ["T", "D", "C"] {
+    for sort in ["T", "D", "C", "M.C"] {
         refused(11, &format!("{known}STRUCTURE X EXTENDS ^{sort}="));
     }
     for sort in ["T", "C", "M.T"] {
@@ -159,6 +159,7 @@ fn final_bases() {
     refused(12, "DOMAIN A(FINAL)=TEXT;B EXTENDS ^A=TEXT;");
     refused(12, "CLASS A(FINAL)=END A;CLASS B EXTENDS ^M.A=");
     refused(12, "STRUCTURE A(FINAL)=END A;STRUCTURE B EXTENDS ^A=");
+    refused(12, "STRUCTURE A(FINAL)=END A;CLASS B EXTENDS ^A=");
     refused(
         12,
         "CLASS A=a(FINAL):TEXT;END A;CLASS B EXTENDS A=^a(EXTENDED):TEXT;",

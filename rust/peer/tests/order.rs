@@ -7,16 +7,23 @@ use common::*;
 /// Definitions that the faulty units build on.
 const KNOWN: &str = "TOPIC T=END T;DOMAIN D=TEXT*5;F(FINAL)=TEXT*5;A(ABSTRACT)=TEXT*5;\
                      N(ABSTRACT)=NUMERIC;E=(a,b:FINAL);CLASS X(FINAL)=END X;\
-                     CLASS B=t:TEXT*5;f(FINAL):TEXT*5;e:(a,b:FINAL);d:D;END B;";
+                     STRUCTURE Z(FINAL)=END Z;";
+
+/// What the base of a class holds.
+const HELD: &str = "B=t:TEXT*5;f(FINAL):TEXT*5;e:(a,b:FINAL);d:D;END B;";
 
 #[track_caller]
 fn domain(number: u8, unit: &str) {
     refused(number, &format!("{KNOWN}DOMAIN {unit}"));
 }
 
+/// An attribute of a class over a class, and over a structure.
 #[track_caller]
 fn attribute(number: u8, unit: &str) {
-    refused(number, &format!("{KNOWN}CLASS C EXTENDS B={unit}"));
+    for sort in ["CLASS", "STRUCTURE"] {
+        let before = format!("{KNOWN}{sort} {HELD}");
+        refused(number, &format!("{before}CLASS C EXTENDS B={unit}"));
+    }
 }
 
 #[track_caller]
@@ -64,6 +71,8 @@ fn nine_before_ten_to_nineteen() {
     attribute(9, "q(EXTENDED):(x,^x);");
     attribute(9, "^t(FINAL,FINAL):T;");
     class(9, "CLASS ^D EXTENDS Q=");
+    class(9, "CLASS ^D EXTENDS Z=");
+    class(9, "STRUCTURE ^D EXTENDS X=");
 }
 
 #[test]
@@ -88,6 +97,7 @@ fn eleven_before_twelve_to_nineteen() {
 fn twelve_before_thirteen_to_nineteen() {
     domain(12, "q(FINAL,ABSTRACT) EXTENDS ^F=5..4;");
     class(12, "CLASS q(FINAL,FINAL) EXTENDS ^X=");
+    class(12, "CLASS q(FINAL,ABSTRACT) EXTENDS ^M.Z=");
     attribute(12, "^f(EXTENDED,EXTENDED):5..4;");
     attribute(12, "^f(EXTENDED):NUMERIC;");
     attribute(12, "^f(EXTENDED):A;");

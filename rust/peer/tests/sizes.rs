@@ -113,9 +113,15 @@ fn own_attributes_256() {
     }
 }
 
+/// Of a class, from a class or from a structure.
 #[test]
 fn inherited_attributes_256() {
-    let base = format!("CLASS B={}END B;", attributes("a", 200));
+    inherited_from("CLASS");
+    inherited_from("STRUCTURE");
+}
+
+fn inherited_from(sort: &str) {
+    let base = format!("{sort} B={}END B;", attributes("a", 200));
     let more = attributes("b", 56);
     let head = "CLASS C EXTENDS B=";
     passes(&format!("{base}{head}{more}END C;"));
@@ -127,7 +133,7 @@ fn inherited_attributes_256() {
     passes(&format!("{base}{head}{extended}{more}END C;"));
     refused(4, &format!("{base}{head}{extended}{more}^c:TEXT;END C;"));
     // A full base passes its attributes on, through an empty class too.
-    let full = format!("CLASS B={}END B;", attributes("a", 256));
+    let full = format!("{sort} B={}END B;", attributes("a", 256));
     let chain = format!("{full}CLASS D EXTENDS B=END D;CLASS C EXTENDS D=");
     passes(&format!("{chain}END C;"));
     refused(4, &format!("{chain}^c:TEXT;END C;"));

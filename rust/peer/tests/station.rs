@@ -61,6 +61,8 @@ fn refusals_stand_where_the_comments_say() {
         ("unrelated.ili", "OwnTemperature;\n  END"),
         ("kelvin.ili", "0 .. 40 [Kelvin]"),
         ("no-unit.ili", "5 .. 30;"),
+        ("colder-class.ili", "-25 .. 40"),
+        ("turned-round.ili", "HeatedReading ="),
         ("unknown.ili", "HousingTemperatur ="),
         ("unfinished.ili", "END TimeServers."),
     ];

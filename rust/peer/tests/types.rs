@@ -3,25 +3,34 @@
 mod common;
 use common::*;
 
-/// A class K with attribute a of one type, and L over it with another.
 #[track_caller]
-fn attribute_over(definitions: &str, base: &str, extension: &str) -> Vec<u8> {
-    passes(&classes(definitions, base, extension))
+fn attribute_over(definitions: &str, base: &str, extension: &str) {
+    for body in classes(definitions, base, extension) {
+        passes(&body);
+    }
 }
 
 #[track_caller]
 fn attribute_never_over(number: u8, definitions: &str, base: &str, extension: &str) {
-    refused(
-        number,
-        &classes(definitions, base, &format!("^{extension}")),
-    );
+    for body in classes(definitions, base, &format!("^{extension}")) {
+        refused(number, &body);
+    }
 }
 
-fn classes(definitions: &str, base: &str, extension: &str) -> String {
-    format!(
-        "{definitions} CLASS K=a:{base};END K;\
-         CLASS L EXTENDS K=a(EXTENDED):{extension};END L;"
-    )
+/// K with attribute a of one type, and L over it with another: two classes, two
+/// structures, and a class over a structure.
+fn classes(definitions: &str, base: &str, extension: &str) -> [String; 3] {
+    let sorts = [
+        ("CLASS", "CLASS"),
+        ("STRUCTURE", "STRUCTURE"),
+        ("STRUCTURE", "CLASS"),
+    ];
+    sorts.map(|(k, l)| {
+        format!(
+            "{definitions} {k} K=a:{base};END K;\
+             {l} L EXTENDS K=a(EXTENDED):{extension};END L;"
+        )
+    })
 }
 
 #[track_caller]
@@ -39,8 +48,9 @@ fn domain_never_over(number: u8, base: &str, extension: &str) {
     );
     attribute_never_over(number, "", base, extension);
     attribute_never_over(number, &format!("DOMAIN A={base};"), "A", extension);
-    let written = format!("^{extension}");
-    refused(number, &classes("", base, &format!("MANDATORY {written}")));
+    for body in classes("", base, &format!("MANDATORY ^{extension}")) {
+        refused(number, &body);
+    }
 }
 
 #[test]
@@ -48,6 +58,7 @@ fn properties_in_conflict() {
     refused(13, "CLASS ^C(FINAL,FINAL)=");
     refused(13, "CLASS ^C(ABSTRACT,FINAL)=");
     refused(13, "STRUCTURE ^C(FINAL,ABSTRACT)=");
+    refused(13, "STRUCTURE S=END S;CLASS ^C(ABSTRACT,FINAL)EXTENDS S=");
     refused(13, "DOMAIN ^A(ABSTRACT,ABSTRACT)=TEXT;");
     refused(13, "DOMAIN ^A(FINAL,ABSTRACT)=NUMERIC;");
     refused(13, "CLASS C=^a(FINAL,FINAL):TEXT;");
@@ -119,10 +130,9 @@ fn kinds() {
         attribute_never_over(16, &both, "D", "S");
         attribute_never_over(16, &both, "S", "M.D");
     }
-    refused(
-        16,
-        &classes("STRUCTURE S=END S;", "S", "MANDATORY ^(FINAL)"),
-    );
+    for body in classes("STRUCTURE S=END S;", "S", "MANDATORY ^(FINAL)") {
+        refused(16, &body);
+    }
 }
 
 #[test]

@@ -1,5 +1,5 @@
 //! Prints how often the cases of a range of seeds get each answer, and each
-//! flavour of units of numbers.
+//! flavour of units of numbers and of classes over structures.
 //!
 //! `tally [--small] [count] [first seed]`
 

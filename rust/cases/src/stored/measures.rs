@@ -2,7 +2,7 @@
 //! close to them, and each way of writing a unit, a domain and an attribute with
 //! each way of writing what it is over.
 
-use super::together::{each, on_both, room};
+use super::together::{behind, each, on_both, room};
 use super::{Stored, HEAD, ROOM};
 
 /// The examples: on each line a number and a body with a mark.
@@ -116,13 +116,6 @@ const ATTRIBUTE_BASES: [&str; 4] = ["1..9", "1..9[u]", "D", "TEXT"];
 
 const NAMED: [&str; 5] = ["D", "E", "F", "G", "u"];
 
-/// A unit of the text behind what is known, on both buffers.
-fn behind(known: &str, unit: &str) -> Vec<Stored> {
-    let before = format!("{HEAD}{known}");
-    let small = room(&format!("{before}END M."));
-    on_both(&format!("{before}{unit}END M."), small)
-}
-
 fn declared() -> Vec<Stored> {
     let heads = each(&["q", "A"], &UNIT_PROPERTIES);
     let one = |((name, properties), base): ((&str, &str), &str)| {
@@ -174,11 +167,7 @@ fn buffers() -> Vec<Stored> {
 }
 
 pub fn measures() -> Vec<Stored> {
-    let example = |line: &str| {
-        let (number, body) = line.split_once(' ').expect("a number and a body");
-        Stored::body(number.parse().expect("a number"), body)
-    };
-    let mut all: Vec<Stored> = EXAMPLES.lines().map(example).collect();
+    let mut all: Vec<Stored> = EXAMPLES.lines().map(Stored::line).collect();
     all.extend(
         FORMS
             .iter()

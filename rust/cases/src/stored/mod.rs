@@ -1,11 +1,12 @@
 //! The cases that are stored for the proved checker's program `cases`, with what
 //! is known of their answers beforehand: document 01's examples, both sides of
-//! its sizes, units of numbers, faults that stand together in one unit, the
-//! manual's models within the part, and generated ones.
+//! its sizes, units of numbers, classes over structures, faults that stand
+//! together in one unit, the manual's models within the part, and generated ones.
 
 mod examples;
 mod manual;
 mod measures;
+mod over_structures;
 mod sizes;
 mod together;
 
@@ -52,6 +53,12 @@ impl Stored {
     fn body(number: u8, body: &str) -> Self {
         Stored::marked(number, &format!("{HEAD}{body}END M."))
     }
+
+    /// A line with a number and a body.
+    fn line(line: &str) -> Self {
+        let (number, body) = line.split_once(' ').expect("a number and a body");
+        Stored::body(number.parse().expect("a number"), body)
+    }
 }
 
 /// So many seeds of generated texts.
@@ -88,6 +95,7 @@ pub fn stored() -> Vec<Stored> {
     let mut all = examples::examples();
     all.extend(sizes::sizes());
     all.extend(measures::measures());
+    all.extend(over_structures::over_structures());
     all.extend(together::together());
     all.extend(manual::manual());
     all.extend(reserved());

@@ -126,6 +126,13 @@ pub(super) fn on_both(text: &str, small: Option<usize>) -> Vec<Stored> {
     [Some(ROOM), small].into_iter().flatten().map(on).collect()
 }
 
+/// A unit of the text behind what is known, on both buffers.
+pub(super) fn behind(known: &str, unit: &str) -> Vec<Stored> {
+    let before = format!("{HEAD}{known}");
+    let small = room(&format!("{before}END M."));
+    on_both(&format!("{before}{unit}END M."), small)
+}
+
 /// Each of some ways with each of others.
 pub(super) fn each<A: Clone, B: Clone>(some: &[A], others: &[B]) -> Vec<(A, B)> {
     let pairs = some
