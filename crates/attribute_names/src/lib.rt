@@ -1,6 +1,5 @@
 // The name of an attribute and what it refers to: 4 by count, 9, 10 and 11.
 use ground::Ruling;
-use ground::broken;
 use ground::fine;
 use members::MOST;
 use parts::types::Written;
@@ -65,17 +64,17 @@ fn name_ruling(
 {
     if slot == 0 {
         if MOST <= in_hand {
-            return broken(4, place);
+            return Ruling { number: 4, place };
         }
         return fine();
     }
     if members::is_own(hand, slot, class) {
-        return broken(9, place);
+        return Ruling { number: 9, place };
     }
     if extended {
         return fine();
     }
-    broken(9, place)
+    Ruling { number: 9, place }
 }
 
 // The same, and the slot.
@@ -145,7 +144,7 @@ fn reference_ruling(
         → r ≡ rulingOf (referenceRules place extended (isFound (entry ms base)) v (entry ks target))) ⌝ }
 {
     if is_lost(extended, base) {
-        return broken(10, place);
+        return Ruling { number: 10, place };
     }
     let m = w.meant;
     let r = w.reference;

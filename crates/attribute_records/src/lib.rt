@@ -2,7 +2,6 @@
 use attribute_types::Uses;
 use enumerations::Size;
 use ground::Ruling;
-use ground::broken;
 use ground::fine;
 use parts::types::Meant;
 use state::State;
@@ -83,15 +82,15 @@ fn descent_ruling(
         return fine();
     }
     if fitting::differ(own, base) {
-        return broken(16, place);
+        return Ruling { number: 16, place };
     }
     if is_descendant(index, st.listing.count, u.named, u.kept) {
         return fine();
     }
     if types::fits_in_book(text, front, own, base, tables) {
-        return broken(18, place);
+        return Ruling { number: 18, place };
     }
-    broken(17, place)
+    Ruling { number: 17, place }
 }
 
 // ---- records

@@ -2,7 +2,6 @@
 use attribute_names::Bonds;
 use fitting::Typing;
 use ground::Ruling;
-use ground::broken;
 use ground::fine;
 use ground::sorts;
 use parts::types::Meant;
@@ -174,16 +173,16 @@ fn head_ruling(
         (attributeUse w (entry ks target) (orNoAttribute (entry ms q) .use-of)) (entry ks target))) ⌝ }
 {
     if is_last(rows, q) {
-        return broken(12, place);
+        return Ruling { number: 12, place };
     }
     if twice {
-        return broken(13, place);
+        return Ruling { number: 13, place };
     }
     if fitting::is_numeric(own) {
-        return broken(13, place);
+        return Ruling { number: 13, place };
     }
     if is_abstract_domain(index, target) {
-        return broken(13, place);
+        return Ruling { number: 13, place };
     }
     fine()
 }

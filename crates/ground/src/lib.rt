@@ -40,12 +40,6 @@ pub fn fine() -> Ruling
     }
 }
 
-pub fn broken(number: u8, place: usize) -> Ruling
-    ensures { λ r. ⌜ r ≡ record { number = number; place = place } ⌝ }
-{
-    Ruling { number, place }
-}
-
 // ---- tests
 pub fn either(a: bool, b: bool) -> bool
     ensures { λ r. ⌜ r ≡ (a || b) ⌝ }

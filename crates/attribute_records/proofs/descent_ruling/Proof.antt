@@ -21,17 +21,16 @@ returns c =
 
 returns-2 : tie.Need-returns-2
 returns-2 c =
-    let s = c .before .before .before .before .before .before .before .before .before .before in
-    let if1 = c .before .before .before .if1 in
-    let differ = c .before .before .differ in
+    let s = c .before .before .before .before .before .before .before .before .before in
+    let if1 = c .before .before .if1 in
     λ ks ms y total d o r e m eb f eu to tv.
-    let ei = differ .ensures (tyOf (naming d)) (tyOf (orNoAttribute o .use-of))
+    let ei = c .before .differ .ensures (tyOf (naming d)) (tyOf (orNoAttribute o .use-of))
     (typed-valued (s .args .text .now) (s .args .front .now) (tyOf (naming d)) (s .args .u .over .own) to)
     (typed-valued (s .args .text .now) (s .args .front .now) (tyOf (orNoAttribute o .use-of))
     (s .args .u .over .base) tv) in
     let f1 = eb ∙ lt-ltb 0 (s .args .u .base) (omega (arith, if1 .left)) in
-    c .broken .ensures ∙ descent-kind (s .args .place) (isFound o) (naming d) (orNoAttribute o .use-of) f1
-    (differ .result) ei (c .before .if2 .taken)
+    descent-kind (s .args .place) (isFound o) (naming d) (orNoAttribute o .use-of) f1
+    (c .before .differ .result) ei (c .if2 .taken)
 
 returns-3 : tie.Need-returns-3
 returns-3 c =
@@ -56,13 +55,13 @@ returns-3 c =
 returns-4 : tie.Need-returns-4
 returns-4 c =
     let back = c .before .before .before .before .before .before .before .before .before .before in
-    let s = back .before .before .before .before .before .before .before in
-    let if1 = back .if1 in
-    let differ = c .before .before .before .before .before .before .before .before .before .differ in
-    let if2 = c .before .before .before .before .before .before .before .before .if2 in
-    let is-descendant = c .before .before .before .before .before .before .before .is-descendant in
-    let if3 = c .before .before .before .before .before .before .if3 in
-    let fits-in-book = c .before .before .before .before .fits-in-book in
+    let s = back .before .before .before .before .before .before in
+    let if1 = c .before .before .before .before .before .before .before .before .before .if1 in
+    let differ = c .before .before .before .before .before .before .before .before .differ in
+    let if2 = c .before .before .before .before .before .before .before .if2 in
+    let is-descendant = c .before .before .before .before .before .before .is-descendant in
+    let if3 = c .before .before .before .before .before .if3 in
+    let fits-in-book = c .before .before .before .fits-in-book in
     λ ks ms y total d o r e m eb f eu to tv.
     let ei = differ .ensures (tyOf (naming d)) (tyOf (orNoAttribute o .use-of))
     (typed-valued (s .args .text .now) (s .args .front .now) (tyOf (naming d)) (s .args .u .over .own) to)
@@ -75,20 +74,19 @@ returns-4 c =
     let el = fits-in-book .ensures (tyOf (naming d)) (tyOf (orNoAttribute o .use-of))
     (fair-naming (s .args .text .now) d (r .types (s .args .u .named) d e))
     (any-fair (s .args .text .now) o f) to tv h in
-    c .broken2 .ensures
-    ∙ descent-other (s .args .place) (isFound o) (naming d) (orNoAttribute o .use-of) f1 (differ .result) ei (if2 .left)
-    (is-descendant .result) ej (if3 .left) (fits-in-book .result) el (c .before .if4 .taken)
+    descent-other (s .args .place) (isFound o) (naming d) (orNoAttribute o .use-of) f1 (differ .result) ei (if2 .left)
+    (is-descendant .result) ej (if3 .left) (fits-in-book .result) el (c .if4 .taken)
 
 returns-5 : tie.Need-returns-5
 returns-5 c =
     let back = c .before .before .before .before .before .before .before .before .before .before in
-    let s = back .before .before .before .before .before .before .before in
-    let if1 = back .if1 in
-    let differ = c .before .before .before .before .before .before .before .before .before .differ in
-    let if2 = c .before .before .before .before .before .before .before .before .if2 in
-    let is-descendant = c .before .before .before .before .before .before .before .is-descendant in
-    let if3 = c .before .before .before .before .before .before .if3 in
-    let fits-in-book = c .before .before .before .before .fits-in-book in
+    let s = back .before .before .before .before .before .before in
+    let if1 = c .before .before .before .before .before .before .before .before .before .if1 in
+    let differ = c .before .before .before .before .before .before .before .before .differ in
+    let if2 = c .before .before .before .before .before .before .before .if2 in
+    let is-descendant = c .before .before .before .before .before .before .is-descendant in
+    let if3 = c .before .before .before .before .before .if3 in
+    let fits-in-book = c .before .before .before .fits-in-book in
     λ ks ms y total d o r e m eb f eu to tv.
     let ei = differ .ensures (tyOf (naming d)) (tyOf (orNoAttribute o .use-of))
     (typed-valued (s .args .text .now) (s .args .front .now) (tyOf (naming d)) (s .args .u .over .own) to)
@@ -101,9 +99,8 @@ returns-5 c =
     let el = fits-in-book .ensures (tyOf (naming d)) (tyOf (orNoAttribute o .use-of))
     (fair-naming (s .args .text .now) d (r .types (s .args .u .named) d e))
     (any-fair (s .args .text .now) o f) to tv h in
-    c .broken3 .ensures
-    ∙ descent-unfit (s .args .place) (isFound o) (naming d) (orNoAttribute o .use-of) f1 (differ .result) ei (if2 .left)
-    (is-descendant .result) ej (if3 .left) (fits-in-book .result) el (c .before .if4 .left)
+    descent-unfit (s .args .place) (isFound o) (naming d) (orNoAttribute o .use-of) f1 (differ .result) ei (if2 .left)
+    (is-descendant .result) ej (if3 .left) (fits-in-book .result) el (c .if4 .left)
 
 pub descent-ruling-spec : {M : Type 1} → statement M
 descent-ruling-spec =
@@ -112,15 +109,12 @@ descent-ruling-spec =
     (λ c κs. search needs)
     returns
     (λ c κs. search needs)
-    (λ c κs. search needs)
     returns-2
     (λ c κs. search needs)
     (λ c κs. search needs)
     returns-3
     (λ c κs. search needs)
-    (λ c κs. search needs)
     (λ c. search needs)
     returns-4
-    (λ c κs. search needs)
     (λ c. search needs)
     returns-5)
