@@ -1,7 +1,7 @@
--- Document 01, "Types and bases", and document 02, No. 1 (units), as claims about `check`: what is accepted reads
--- legally all the way up, in number and unit; 17 and 22 refuse only where a value shows it, 17 by its number and 22 by
--- its unit, and nothing is accepted where one does. A unit of the text, a declaration, is a U.Unit; the unit of a
--- number is a Measure.
+-- Document 01, "Types and bases", and document 02, No. 1 (units) and No. 2 (classes over structures), as claims about
+-- `check`: what is accepted reads legally all the way up, in number and unit; 17 and 22 refuse only where a value shows
+-- it, 17 by its number and 22 by its unit, and nothing is accepted where one does. A unit of the text, a declaration,
+-- is a U.Unit; the unit of a number is a Measure.
 use mathlib.Core.Path.{_≡_}
 use mathlib.Core.Bool.{false, _&&_}
 use mathlib.Core.Option.{none, some}

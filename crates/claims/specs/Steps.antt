@@ -1,5 +1,5 @@
 -- Document 01, "Types and bases": the base steps of what a text declares, and what a value reads as along them. A step
--- is read off the declarations by record number, as the book gives it; nothing here asks how a declaration was judged.
+-- is read off the declarations by record number, as the book gives it; no step asks how a declaration was judged.
 use mathlib.Core.Path.{_≡_}
 use mathlib.Core.Logic.{_⊎_, _↔_}
 use mathlib.Core.Bool.{true, false}
@@ -45,7 +45,7 @@ pub record DomainHolds (s : State) (b : Def) (w : Value) : Type 0 where
       → (x : Value) × (reading (c .type) w ≡ some x) × (legal (c .type) x ≡ true)
 
 -- ---- attributes: the base is the nearest inherited one
--- a is the own attribute with the name n of the first class that has one, from the base of c on
+-- a is the own attribute with the name n of the first class or structure that has one, from the base of c on
 pub data Inherits (s : State) (n : List ℕ) (a : Attribute) : Def → Type 0 where
   near : {c : Def} (b : Def) → baseOf s c ≡ some b → attributeAt n (b .own) ≡ some a → Inherits s n a c
   far : {c : Def} (b : Def) → baseOf s c ≡ some b → attributeAt n (b .own) ≡ none → Inherits s n a b → Inherits s n a c
@@ -119,7 +119,7 @@ pub data Descends (s : State) (d : Def) : Def → Type 0 where
   itself : Descends s d d
   up : {b : Def} → Descends s d b → (c : Def) → baseOf s b ≡ some c → Descends s d c
 
--- what it extends is of a sort that its own may extend; so what a structure descends from are structures
+-- what it extends is of a sort that its own may extend; so a structure descends from structures alone
 pub record SortsKept (s : State) : Type 0 where
   pub bases : (d b : Def) → Declared s d → baseOf s d ≡ some b → mayExtend (d .sort) (b .sort) ≡ true
   pub structures : (d e : Def) → Declared s d → isSort struct (d .sort) ≡ true → Descends s d e

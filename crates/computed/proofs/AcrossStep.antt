@@ -32,6 +32,7 @@ across-step = record {
   runs = refl;
   from = refl;
   to = refl;
+  value = refl;
   nearest = step;
   rises = Rises.up Rises.start _ _ step (straight refl refl);
 }

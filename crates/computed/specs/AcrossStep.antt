@@ -6,8 +6,8 @@ use mathlib.Core.Option.{none}
 use Prim.Native.String.{String}
 use lib.IntN.{pos}
 use Rattle.rules.specs.Bytes.{ascii}
-use Rattle.rules.specs.Types.{number}
-use Rattle.rules.specs.Declarations.{Attribute, class, struct, isSort, Def, State, atHome, attributeAt}
+use Rattle.rules.specs.Types.{number, legal}
+use Rattle.rules.specs.Declarations.{tyOf, Attribute, class, struct, isSort, Def, State, atHome, attributeAt}
 use Rattle.rules.specs.Judge.{orNoDef, orNoAttribute}
 use Rattle.rules.specs.Check.{kept}
 use Rattle.claims.specs.Steps.{Nearest, Rises}
@@ -23,12 +23,13 @@ defined s n = orNoDef (atHome s none (ascii n))
 abbrev pub attributeOf : Def → Attribute
 attributeOf d = orNoAttribute (attributeAt (ascii "a") (d .own))
 
--- 0.5 reads 1
+-- 0.5, which is legal in the class, reads 1
 pub record AcrossStep : Type 0 where
   pub state : State
   pub runs : outcome units 65535 ≡ kept state
   pub from : isSort class (defined state "C" .sort) ≡ true
   pub to : isSort struct (defined state "S" .sort) ≡ true
+  pub value : legal (tyOf (attributeOf (defined state "C") .use-of)) (number 1 (pos 5) none) ≡ true
   pub nearest : Nearest state (attributeOf (defined state "C")) (attributeOf (defined state "S"))
   pub rises : Rises state (attributeOf (defined state "C")) (number 1 (pos 5) none)
       (attributeOf (defined state "S")) (number 0 (pos 1) none)

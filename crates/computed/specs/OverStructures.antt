@@ -6,7 +6,7 @@ use Prim.Native.Nat.{ℕ}
 use Rattle.rules.specs.Check.{lent, accepting, check}
 use Rattle.computed.specs.Cases.{Case, passes, gives, modelOf}
 
--- what extends a class, a structure, a domain, a unit and a topic: a class and a structure; a domain and a unit
+-- over a class, a structure, a domain, a unit and a topic, in this order: a class, then a structure
 abbrev pub sorts : List Case
 sorts =
     passes "CLASS B=END B;CLASS C EXTENDS B=END C;" 30 2
@@ -21,6 +21,7 @@ sorts =
     ∷ gives "TOPIC B=STRUCTURE S EXTENDS B=END S;END B;" 11 68
     ∷ []
 
+-- likewise a domain, then a unit
 abbrev pub otherSorts : List Case
 otherSorts =
     gives "CLASS B=END B;DOMAIN D EXTENDS B=1..2;" 11 71
@@ -63,7 +64,7 @@ attributes =
     ∷ gives "UNIT u;STRUCTURE S=a:1..9[u];END S;CLASS C EXTENDS S=a(EXTENDED):1..9;END C;" 22 105
     ∷ []
 
--- ---- the record of a class over a structure, written by hand: a record a line, with its number
+-- ---- the book of a class over a structure, written by hand: a record a line, with its number
 abbrev pub text : List ℕ
 text = modelOf "STRUCTURE S=a:1..9;END S;CLASS C EXTENDS S=a(EXTENDED):1..8;END C;"
 

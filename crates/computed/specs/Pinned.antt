@@ -1,5 +1,6 @@
 -- Document 01, "Symbols", "Grammar", "Sizes", "Names", "Types and bases", "Refusals in order": each number from 2 to 19
--- by itself, and beside it what is near and passes. Example has 7, and Order the rules that meet in one unit.
+-- by itself, and beside it what is near and passes. Example has 7, Order the rules that meet in one unit, and
+-- OverStructures 11 of EXTENDS.
 use mathlib.Core.List.{List, [], _∷_}
 use Prim.Native.Nat.{ℕ, zero, suc}
 use Prim.Native.String.{String, _++_}

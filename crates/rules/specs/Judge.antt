@@ -1,5 +1,6 @@
 -- Document 01, "Names", "Types and bases" and "Refusals in order", 4 (attribute count) and 7 to 18, and document 02,
--- No. 1, 22: the rules of each unit in the order of their numbers, and the state after a unit that breaks none.
+-- No. 1 (22) and No. 2 (11): the rules of each unit in the order of their numbers, and the state after a unit that
+-- breaks none.
 use mathlib.Core.Bool.{Bool, true, false, cond, not, _&&_, _||_}
 use mathlib.Core.Option.{Option, none, some}
 use mathlib.Core.List.{List, [], _∷_, _++_}
@@ -261,7 +262,7 @@ abbrev pub afterTopic : State → Name → State
 afterTopic s n = inTopic (declare s (def (newTopic s n))) (some (newTopic s n))
 
 -- ---- classes, structures and units: c is the sort, r the reference after EXTENDS, base what it leads to
--- "Types and bases", and document 02, No. 1 and No. 2: only what is of the same sort, and a class a structure too
+-- "Types and bases", and document 02, No. 1 and No. 2: a class may extend a structure, and each sort its own
 abbrev pub mayExtend : Sort → Sort → Bool
 mayExtend c b = (isSort class c && isSort D.struct b) || isSort c b
 

@@ -381,7 +381,7 @@ pub struct Extension {
     pub base: usize,
 }
 
-// By the numbers of their sorts: what is of the same sort, and a class a structure too.
+// By the numbers of their sorts: each its own, and a class a structure.
 fn may_extend(sort: usize, base: usize) -> bool
     ensures { λ r. ⌜ ((c b : Sort) → sort ≡ sortNumber c → base ≡ sortNumber b → r ≡ mayExtend c b) ⌝ }
 {

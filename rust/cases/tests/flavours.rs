@@ -33,6 +33,11 @@ fn of_accepted_texts() {
     let structure = "STRUCTURE S=a:TEXT;END S;CLASS C EXTENDS S=";
     has(&format!("{structure}END C;"), &over[1..]);
     has(&format!("{structure}END C;CLASS D EXTENDS C=END D;"), &over);
+    // Each once.
+    has(
+        &format!("{structure}END C;CLASS D EXTENDS S=END D;"),
+        &over[1..],
+    );
     let attribute = "an attribute over a structure's";
     let extended = "a(EXTENDED):TEXT;END C;";
     has(&format!("{structure}{extended}"), &[over[1], attribute]);
@@ -71,6 +76,11 @@ fn of_heads() {
     has(&format!("{topics}B=END C;END U;"), &last);
     has(&format!("{topics}M.U.B=END C;END U;"), &last);
     has(&format!("{topics}M.T.B=END C;END U;"), &[]);
+    // Behind a closed topic, and at the model's level.
+    let structure = "STRUCTURE S(FINAL)=END S;CLASS C EXTENDS";
+    has(&format!("TOPIC T=END T;{structure} S=END C;"), &last);
+    let same = "TOPIC T=CLASS S=END S;END T;";
+    has(&format!("{same}{structure} M.S=END C;"), &last);
 }
 
 #[test]
@@ -116,6 +126,10 @@ fn of_attributes_typed_by_classes() {
     let extended = |attribute: &str| format!("{known}CLASS L EXTENDS K={attribute};END L;");
     has(&extended("x(EXTENDED):C"), &[typed, below]);
     has(&extended("y(EXTENDED):C"), &[typed]);
+    // Over a TEXT of a length that is the structure's record number.
+    let text = "STRUCTURE S=END S;CLASS C EXTENDS S=END C;CLASS K=x:TEXT*1;END K;";
+    let over_text = "CLASS L EXTENDS K=x(EXTENDED):C;END L;";
+    has(&format!("{text}{over_text}"), &[typed]);
     has(&extended("z:1..2[C]"), &["11 in an attribute's brackets"]);
 }
 
@@ -131,14 +145,26 @@ fn of_counts_and_buffers() {
     has(&class("STRUCTURE", ""), &[over]);
     has(&class("STRUCTURE", "b:TEXT;"), &[full, over]);
     has(&class("CLASS", "b:TEXT;"), &[]);
+    let own = attributes(256);
+    has(
+        &format!("STRUCTURE S=END S;CLASS C EXTENDS S={own}END C;"),
+        &[over],
+    );
     let more = "4 at an attribute, others from a structure";
     has(&class("STRUCTURE", "b:TEXT;c:TEXT;"), &[more]);
     has(&class("CLASS", "b:TEXT;c:TEXT;"), &[]);
+    // 4 of a number, behind a head and behind an attribute.
     has(&class("STRUCTURE", "b:1234567890123456789..2;"), &[]);
+    has(
+        "STRUCTURE S=a:TEXT;END S;CLASS C EXTENDS S=b:TEXT;c:1234567890123456789..2;END C;",
+        &[],
+    );
     let small = "STRUCTURE S=a:TEXT;END S;CLASS C EXTENDS S=a(EXTENDED):TEXT;END C;";
     let on = |length: usize| found_in(small, length);
     assert!(on(33).is_empty());
     assert_eq!(on(44), ["19 at a class over a structure"]);
     assert_eq!(on(60), ["19 at an attribute over a structure's"]);
     assert!(on(61).is_empty());
+    let class = small.replacen("STRUCTURE", "CLASS", 1);
+    assert!(found_in(&class, 44).is_empty());
 }

@@ -53,7 +53,7 @@ fn a_class_is_no_type() {
     }
 }
 
-/// Naming a class that descends from the base's structure is 11, never 18.
+/// Naming a class is 11, never 18, also one that descends from the base's structure.
 #[test]
 fn a_class_is_no_type_over_a_structure() {
     let over = |named: &str| {

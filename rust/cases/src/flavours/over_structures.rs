@@ -49,8 +49,9 @@ impl<'t> Book<'t> {
         successors(Some(class), |&class| self.base(class))
     }
 
-    fn is_over_structure(&self, record: usize) -> bool {
-        self.kind(record) == CLASS && self.chain(record).any(|base| self.kind(base) == STRUCTURE)
+    /// Whether a class descends from a structure.
+    fn is_over_structure(&self, class: usize) -> bool {
+        self.chain(class).any(|base| self.kind(base) == STRUCTURE)
     }
 
     /// The class or structure whose head is the last one before a record.
@@ -207,10 +208,10 @@ fn head(view: &View, book: &Book, number: u8, unit: UnitAt) -> Option<&'static s
     let extends = view.part(view.number_at(unit.place), b"EXTENDS", b"=")?;
     let base = book.named(&view.names(extends.start + 1))?;
     match (number, unit.kind, book.kind(base)) {
-        (11, "structure", _) if book.is_over_structure(base) => {
+        (11, "structure", CLASS) if book.is_over_structure(base) => {
             Some("11 at a structure that extends a class over a structure")
         }
-        (11, "structure", _) => Some("11 at a structure that extends a class"),
+        (11, "structure", CLASS) => Some("11 at a structure that extends a class"),
         (12, "class", STRUCTURE) => Some("12 at a class that extends a FINAL structure"),
         (19, "class", STRUCTURE) => Some("19 at a class over a structure"),
         _ => None,

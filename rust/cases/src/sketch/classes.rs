@@ -111,7 +111,7 @@ impl Sketch<'_> {
         self.structure(fitting.unwrap_or(ancestor))
     }
 
-    /// A class with 255 to 257 attributes, perhaps in two steps.
+    /// A class or structure with 255 to 257 attributes, or a class over one.
     pub(super) fn crowded_class(&mut self) {
         let count = 255 + self.random.below(3).max(self.random.below(3));
         let split = if self.random.chance(3, 4) {

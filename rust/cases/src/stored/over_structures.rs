@@ -71,8 +71,8 @@ const TYPES: [&str; 18] = [
     "U",
 ];
 
-/// The attribute of the structure, and the one that the class writes instead of
-/// one that extends it.
+/// The structure's attribute, and what the class writes that is at fault by its
+/// name or properties: 9, 10, 12, 13.
 const NAMES: [(&str, &str); 4] = [
     ("b", "b"),
     ("b", "q(EXTENDED)"),
@@ -88,7 +88,7 @@ fn open(attribute: &str, over: &str) -> String {
 fn attributes() -> Vec<Stored> {
     let extended = |(over, written): (&str, &str)| {
         let open = open("b", over);
-        // The small buffer has room for all but the END.
+        // The small buffer has room up to K's head, so that the attribute is 19.
         let small = room(&format!("{open}END K;END M.")).map(|length| length - 1);
         on_both(&format!("{open}b(EXTENDED):{written};END K;END M."), small)
     };
