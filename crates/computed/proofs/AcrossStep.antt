@@ -4,8 +4,8 @@ use Rattle.rules.specs.All.{first, later}
 use Rattle.rules.specs.Declarations.{State}
 use Rattle.rules.specs.Check.{Outcome, kept, unread, ruledOut}
 use Rattle.claims.specs.Steps.{Nearest, near, straight, Rises}
-use Rattle.computed.specs.Cases.{outcome}
-use Rattle.computed.specs.AcrossStep.{units, defined, attributeOf, AcrossStep}
+use Rattle.computed.specs.Cases.{outcome, defined}
+use Rattle.computed.specs.AcrossStep.{units, attributeOf, AcrossStep}
 use Rattle.computed.proofs.Computing.{computing}
 
 abbrev stateOf : Outcome → State

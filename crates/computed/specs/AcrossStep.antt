@@ -7,17 +7,14 @@ use Prim.Native.String.{String}
 use lib.IntN.{pos}
 use Rattle.rules.specs.Bytes.{ascii}
 use Rattle.rules.specs.Types.{number, legal}
-use Rattle.rules.specs.Declarations.{tyOf, Attribute, class, struct, isSort, Def, State, atHome, attributeAt}
-use Rattle.rules.specs.Judge.{orNoDef, orNoAttribute}
+use Rattle.rules.specs.Declarations.{tyOf, Attribute, class, struct, isSort, Def, State, attributeAt}
+use Rattle.rules.specs.Judge.{orNoAttribute}
 use Rattle.rules.specs.Check.{kept}
 use Rattle.claims.specs.Steps.{Nearest, Rises}
-use Rattle.computed.specs.Cases.{outcome}
+use Rattle.computed.specs.Cases.{outcome, defined}
 
 abbrev pub units : String
 units = "STRUCTURE S=a:1..9;END S;CLASS C EXTENDS S=a(EXTENDED):0.5..9.4;END C;"
-
-abbrev pub defined : State → String → Def
-defined s n = orNoDef (atHome s none (ascii n))
 
 -- its own attribute a
 abbrev pub attributeOf : Def → Attribute

@@ -8,7 +8,7 @@ use Prim.Native.Nat.{ℕ}
 use Prim.Native.String.{String}
 use Rattle.rules.specs.Bytes.{ascii}
 use Rattle.rules.specs.Types.{Ty, structure, Value, legal, reading}
-use Rattle.rules.specs.Declarations.{atHome}
+use Rattle.rules.specs.Declarations.{Def, State, atHome}
 use Rattle.rules.specs.Judge.{orNoDef}
 use Rattle.rules.specs.Check as C
 use Rattle.rules.specs.Check.{Outcome, kept, unread, ruledOut, accepting, refusing, answerOf, run}
@@ -30,9 +30,13 @@ modelOf u = ascii "INTERLIS 2.4;MODEL M AT \"u\" VERSION \"1\"=" ++ (ascii u ++ 
 abbrev pub outcome : String → ℕ → Outcome
 outcome u m = run (modelOf u) (C.lent m)
 
+-- what the model itself defines under a name
+abbrev pub defined : State → String → Def
+defined s n = orNoDef (atHome s none (ascii n))
+
 -- the type of a domain of the model; a structure, which has no values, where the text is refused or has no such domain
-abbrev pub typeIn : Outcome → List ℕ → Ty
-typeIn (kept s) n = orNoDef (atHome s none n) .type
+abbrev pub typeIn : Outcome → String → Ty
+typeIn (kept s) n = defined s n .type
 typeIn (unread s f p) n = structure
 typeIn (ruledOut s k p) n = structure
 
@@ -43,5 +47,5 @@ abbrev pub Holds : Case → Type 0
 Holds (passes u l c) = answerOf (outcome u 65535) ≡ accepting l c
 Holds (gives u n p) = answerOf (outcome u 65535) ≡ refusing n p
 Holds (givesIn m u n p) = answerOf (outcome u m) ≡ refusing n p
-Holds (readsAt u e v b w) = let o = outcome u 65535 in ReadsTo (typeIn o (ascii e)) v (typeIn o (ascii b)) w
-Holds (strays u e v w) = let t = typeIn (outcome u 65535) (ascii e) in (legal t v ≡ true) × (legal t w ≡ false)
+Holds (readsAt u e v b w) = let o = outcome u 65535 in ReadsTo (typeIn o e) v (typeIn o b) w
+Holds (strays u e v w) = let t = typeIn (outcome u 65535) e in (legal t v ≡ true) × (legal t w ≡ false)

@@ -10,14 +10,7 @@ const EXAMPLES: &str = include_str!("../../cases/src/stored/units.txt");
 
 #[test]
 fn every_example_of_the_request() {
-    assert_eq!(EXAMPLES.lines().count(), 40);
-    for line in EXAMPLES.lines() {
-        let (number, body) = line.split_once(' ').expect("a number and a body");
-        match number.parse().expect("a number") {
-            0 => drop(passes_text(&format!("{HEAD}{body}END M."))),
-            number => refused_text(number, &format!("{HEAD}{body}END M.")),
-        }
-    }
+    examples(EXAMPLES, 40);
 }
 
 #[test]

@@ -3,21 +3,13 @@
 
 mod common;
 use common::*;
-use peer::Answer;
 
 /// A number and a body with a mark on each line; 0 is acceptance.
 const EXAMPLES: &str = include_str!("../../cases/src/stored/classes.txt");
 
 #[test]
 fn every_example_of_the_request() {
-    assert_eq!(EXAMPLES.lines().count(), 7);
-    for line in EXAMPLES.lines() {
-        let (number, body) = line.split_once(' ').expect("a number and a body");
-        match number.parse().expect("a number") {
-            0 => drop(passes_text(&format!("{HEAD}{body}END M."))),
-            number => refused_text(number, &format!("{HEAD}{body}END M.")),
-        }
-    }
+    examples(EXAMPLES, 7);
 }
 
 /// C over the structure S, D over C, E over D, and K over nothing.
@@ -114,11 +106,5 @@ fn buffers_for_a_class_over_a_structure() {
         (61, place("S=a(") - 1),
         (62, place("END C")),
     ];
-    for room in 0..80 {
-        let (found, book) = answer_in(text.as_bytes(), room);
-        match ends.iter().find(|(end, _)| *end > room) {
-            Some(&(_, place)) => assert_eq!(found, Answer::Refused { number: 19, place }),
-            None => assert_eq!(book.len(), 62),
-        }
-    }
+    every_buffer(&text, &ends);
 }

@@ -1,6 +1,8 @@
 //! Classes and structures in a sketch: their bases, and the structures that
 //! attributes name.
 
+use std::iter::successors;
+
 use super::{descendants, Attribute, Fault, Holds, Sketch};
 
 pub struct Class {
@@ -8,8 +10,6 @@ pub struct Class {
     pub topic: Option<usize>,
     base: Option<usize>,
     is_structure: bool,
-    /// Of a class that descends from a structure.
-    over_structure: bool,
     is_final: bool,
     attributes: Vec<Attribute>,
 }
@@ -36,14 +36,11 @@ impl Sketch<'_> {
         let inherited = base.map_or(Vec::new(), |number| self.classes[number].attributes.clone());
         let attributes = self.attributes(inherited);
         self.end(&name, ";");
-        let over = base.map(|number| &self.classes[number]);
-        let below = over.is_some_and(|base| base.is_structure || base.over_structure);
         self.classes.push(Class {
             name,
             topic: self.open,
             base,
             is_structure,
-            over_structure: below && !is_structure,
             is_final,
             attributes,
         });
@@ -64,12 +61,19 @@ impl Sketch<'_> {
         self.base_among(&fitting, 5)
     }
 
+    /// Whether a class descends from a structure.
+    fn is_over_structure(&self, class: usize) -> bool {
+        let mut chain = successors(Some(class), |&class| self.classes[class].base);
+        chain.any(|base| self.classes[base].is_structure)
+    }
+
     /// One of the classes among these, rather one over a structure.
     fn class_among(&mut self, mut numbers: Vec<usize>) -> Option<usize> {
         numbers.retain(|&number| !self.classes[number].is_structure);
-        let over = |number: &usize| self.classes[*number].over_structure;
-        if self.random.chance(1, 2) && numbers.iter().any(over) {
-            numbers.retain(over);
+        let mut over = numbers.clone();
+        over.retain(|&number| self.is_over_structure(number));
+        if self.random.chance(1, 2) && !over.is_empty() {
+            numbers = over;
         }
         self.random.any(&numbers).copied()
     }

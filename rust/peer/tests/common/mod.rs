@@ -64,6 +64,33 @@ fn shortened(text: &str) -> String {
     text.chars().take(300).collect()
 }
 
+/// Each line is an example: a number and a body with a mark, or 0 and one that is
+/// accepted.
+pub fn examples(lines: &str, count: usize) {
+    assert_eq!(lines.lines().count(), count);
+    for line in lines.lines() {
+        let (number, body) = line.split_once(' ').expect("a number and a body");
+        match number.parse().expect("a number") {
+            0 => drop(passes_text(&format!("{HEAD}{body}END M."))),
+            number => refused_text(number, &format!("{HEAD}{body}END M.")),
+        }
+    }
+}
+
+/// On a buffer of every length the text is refused by 19 at the place of the first
+/// record that does not fit, or accepted. Of each unit: where its records end, and
+/// its place.
+pub fn every_buffer(text: &str, ends: &[(usize, usize)]) {
+    let most = ends[ends.len() - 1].0;
+    for room in 0..most + 15 {
+        let (found, book) = answer_in(text.as_bytes(), room);
+        match ends.iter().find(|(end, _)| *end > room) {
+            Some(&(_, place)) => assert_eq!(found, Answer::Refused { number: 19, place }),
+            None => assert_eq!(book.len(), most),
+        }
+    }
+}
+
 /// Bytes from hexadecimal digits; blanks are passed over.
 pub fn bytes(hexadecimal: &str) -> Vec<u8> {
     let digits: Vec<u32> = hexadecimal.chars().filter_map(|c| c.to_digit(16)).collect();
