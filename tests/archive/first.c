@@ -44,7 +44,10 @@ int main(void)
 
     expect("reading", (unsigned long long)auzuplens_reading(45, 2, 1), 5);
     expect("no refusal", auzuplens_reading_refusal(45, 2, 1), 0);
-    expect("reading that is refused", (unsigned long long)auzuplens_reading(100000000000000000, 0, 1), 0);
-    expect("its refusal", auzuplens_reading_refusal(100000000000000000, 0, 1), 21);
+    int64_t power = 1;
+    for (int i = 0; i < 17; i++)
+        power *= 10;
+    expect("reading that is refused", (unsigned long long)auzuplens_reading(power, 0, 1), 0);
+    expect("its refusal", auzuplens_reading_refusal(power, 0, 1), 21);
     return wrong;
 }

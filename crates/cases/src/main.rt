@@ -5,7 +5,7 @@
 use answers::Answer;
 use libc::STDIN_FILENO;
 use libc::STDOUT_FILENO;
-ghost use Prim.Native.Nat.{_≤_};
+ghost use Prim.Native.Nat.{_+_, _*_, _^_, _≤_, _<_};
 ghost use Rattle.io.specs.Counts.{Counts};
 
 fn least(a: usize, b: usize) -> usize
@@ -26,19 +26,21 @@ fn within(n: usize, s: &[u8]) -> usize
 fn digit(b: u8) -> usize
     ensures { λ r. ⌜ r ≤ 9 ⌝ }
 {
-    if b < 48 {
+    if b < b'0' {
         return 0;
     }
-    if 57 < b {
+    if b'9' < b {
         return 0;
     }
-    (b - 48) as usize
+    (b - b'0') as usize
 }
 
-fn thousands(a: u8, b: u8, c: u8) -> usize
-    ensures { λ r. ⌜ r ≤ 999 ⌝ }
+// A number with three digits behind it.
+fn with_three(n: usize, a: u8, b: u8, c: u8) -> usize
+    requires { ⌜ n < 10 ^ 3 ⌝ }
+    ensures { λ r. ⌜ r < (n + 1) * 10 ^ 3 ⌝ }
 {
-    digit(a) * 100 + digit(b) * 10 + digit(c)
+    ((n * 10 + digit(a)) * 10 + digit(b)) * 10 + digit(c)
 }
 
 // The hexadecimal digit for a number below 16.
@@ -128,8 +130,8 @@ fn next_case(text: &mut [u8], buffer: &mut [u8]) -> bool {
     if io::read_full(STDIN_FILENO, &mut h) < 14 {
         return false;
     }
-    let of_text = thousands(h[0], h[1], h[2]) * 1000 + thousands(h[3], h[4], h[5]);
-    let of_buffer = thousands(h[7], h[8], h[9]) * 1000 + thousands(h[10], h[11], h[12]);
+    let of_text = with_three(with_three(0, h[0], h[1], h[2]), h[3], h[4], h[5]);
+    let of_buffer = with_three(with_three(0, h[7], h[8], h[9]), h[10], h[11], h[12]);
     let t = within(of_text, text);
     let m = within(of_buffer, buffer);
     let got = io::read_full(STDIN_FILENO, &mut text[..t]);
@@ -143,7 +145,8 @@ fn next_case(text: &mut [u8], buffer: &mut [u8]) -> bool {
 fn main() {
     let mut text = [0u8; 65536];
     let mut buffer = [0u8; 131072];
-    let mut left: usize = 1000000;
+    // At most so many cases, so that the loop ends.
+    let mut left: usize = 1048576;
     while 0 < left {
         left -= 1;
         if next_case(&mut text, &mut buffer) {

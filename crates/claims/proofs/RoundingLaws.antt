@@ -9,7 +9,7 @@ use lib.IntN.{ℤ, pos, negsuc, _+ℤ_, _*ℤ_}
 use lib.Signed.{_≤ℤ_, ≤ℤ-refl}
 use lib.Dec.{ltb, leb→le}
 use Rattle.rules.specs.Numbers as N
-use Rattle.rules.specs.Numbers.{rounded, readNumber, tooGreat}
+use Rattle.rules.specs.Numbers.{mostDecimals, rounded, readNumber, tooGreat}
 use Rattle.rules.proofs.NumberLaws.{mul→shr, shr→mul, ten-pos}
 use Rattle.claims.specs.Rounding.{RoundsTo, Rounding, OtherRoundings, TwoSteps}
 
@@ -42,7 +42,7 @@ only v m u w h k = ≤ℤ-antisym (k u .1 (h u .0 (≤ℤ-refl u))) (h w .1 (k w
 
 operation : (v : ℤ) (d db : ℕ) (w : ℤ) → readNumber v d db ≡ N.reads w → w ≡ N.reading d db v
 unfolding readNumber
-operation v d db w = go (ltb 17 d || (ltb 17 db || tooGreat v)) (tooGreat (N.reading d db v))
+operation v d db w = go (ltb mostDecimals d || (ltb mostDecimals db || tooGreat v)) (tooGreat (N.reading d db v))
   where
     go : (s t : Bool) → cond s (N.notRead 20) (cond t (N.notRead 21) (N.reads (N.reading d db v))) ≡ N.reads w
         → w ≡ N.reading d db v

@@ -23,8 +23,10 @@ readings = record {
   half = refl;
   half-below = refl;
   below-half = refl;
+  most-decimals = refl;
   decimals = refl;
   base-decimals = refl;
+  most-magnitude = refl;
   magnitude = refl;
   nothing = refl;
 }

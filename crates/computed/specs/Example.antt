@@ -31,15 +31,17 @@ pub record Checks : Type 0 where
   pub no-text : check [] (lent 3) ≡ record { answer = refusing 5 0; buffer = 0 ∷ 0 ∷ 0 ∷ [] }
   pub version : check (ascii "INTERLIS 2.40;") (lent 0) ≡ record { answer = refusing 7 9; buffer = [] }
 
--- 10^17 and one less at one decimal more; halves on both sides of zero; what is given too large
+-- 10^17 and one less at one decimal more; halves on both sides of zero; both sides of what may be given
 pub record Reads : Type 0 where
   pub too-great : readNumber (pos (10 ^ 17)) 0 1 ≡ notRead 21
-  pub greatest : readNumber (pos (10 ^ 17 - 1)) 0 1 ≡ reads (pos 999999999999999990)
+  pub greatest : readNumber (pos (10 ^ 17 - 1)) 0 1 ≡ reads (pos (10 ^ 18 - 10))
   pub half : readNumber (pos 5) 1 0 ≡ reads (pos 1)
   pub half-below : readNumber (negsuc 4) 1 0 ≡ reads (pos 0)
   pub below-half : readNumber (negsuc 5) 1 0 ≡ reads (negsuc 0)
+  pub most-decimals : readNumber (pos 1) 17 17 ≡ reads (pos 1)
   pub decimals : readNumber (pos 1) 18 0 ≡ notRead 20
   pub base-decimals : readNumber (pos 1) 0 18 ≡ notRead 20
+  pub most-magnitude : readNumber (negsuc (10 ^ 18 - 2)) 0 0 ≡ reads (negsuc (10 ^ 18 - 2))
   pub magnitude : readNumber (negsuc (10 ^ 18 - 1)) 0 0 ≡ notRead 20
   pub nothing : readValue (notRead 21) ≡ pos 0
 

@@ -6,7 +6,7 @@ use Prim.Native.Nat.{ℕ, _-_, _≤_, _<_, _^_}
 use lib.ListN.{length, take, replicate}
 use lib.IntN.{ℤ, natAbs}
 use lib.Signed.{shrZ}
-use Rattle.rules.specs.Numbers.{Read, reads, readNumber}
+use Rattle.rules.specs.Numbers.{mostDecimals, magnitudeLimit, Read, reads, readNumber}
 use Rattle.rules.specs.Book.{definitions}
 use Rattle.rules.specs.Show.{recordsFrom}
 use Rattle.rules.specs.Check.{lent, accepting, refusing, Checked}
@@ -83,10 +83,11 @@ KeepsReading f = (v : ℤ) (d b : ℕ) → f v d b ≡ readNumber v d b
 
 -- where the base has fewer decimals, the digits stay as they are, or those too many are left away
 abbrev pub Unrounded : ReadingWay → Type 0
-Unrounded f = (v : ℤ) (d b : ℕ) → b < d → d ≤ 17 → natAbs v < 10 ^ 18 → f v d b ≡ reads v
+Unrounded f = (v : ℤ) (d b : ℕ) → b < d → d ≤ mostDecimals → natAbs v < magnitudeLimit → f v d b ≡ reads v
 
 abbrev pub CutOff : ReadingWay → Type 0
-CutOff f = (v : ℤ) (d b : ℕ) → b < d → d ≤ 17 → natAbs v < 10 ^ 18 → f v d b ≡ reads (shrZ v (10 ^ (d - b)))
+CutOff f =
+    (v : ℤ) (d b : ℕ) → b < d → d ≤ mostDecimals → natAbs v < magnitudeLimit → f v d b ≡ reads (shrZ v (10 ^ (d - b)))
 
 pub record Shut : Type 0 where
   -- there is a way that keeps it

@@ -5,7 +5,7 @@ use mathlib.Core.Logic.{inl, inr}
 use mathlib.Core.Bool.{true, false}
 use mathlib.Core.Option.{Option, some}
 use mathlib.Core.List.{List, [], _∷_}
-use Prim.Native.Nat.{ℕ, _≤_, _<_, _^_}
+use Prim.Native.Nat.{ℕ, _≤_, _<_}
 use native.Mathlib.Omega.{arith}
 use lib.ListN.{length}
 use lib.IntN.{ℤ, pos, negsuc, natAbs}
@@ -13,7 +13,7 @@ use lib.Signed.{leZ}
 use lib.Dec.{eqb}
 use borrow.Author.Tests.{le-ltb, lt-leb, leb-true}
 use Rattle.rules.specs.Numbers as N
-use Rattle.rules.specs.Numbers.{Range, inRange, reads, readNumber}
+use Rattle.rules.specs.Numbers.{mostDecimals, magnitudeLimit, Range, inRange, reads, readNumber}
 use Rattle.rules.specs.Types.{Measure, Ty, numeric, structure, Value, number, inBounds, legal, reading}
 use Rattle.rules.specs.Declarations.{Link, Use, inline, ofDomain, ofStructure, tyOf, Attribute, Def, State, known}
 use Rattle.rules.specs.Declarations.{attributeAt}
@@ -47,19 +47,25 @@ abbrev ranged : Range → Option Measure → Ty
 ranged r i = numeric (some r) i
 
 range-small : (r : Range) (i : Option Measure) (v : ℤ) (u : Option Measure) → FairRange r
-    → legal (ranged r i) (number (r .decimals) v u) ≡ true → natAbs v < 10 ^ 18
+    → legal (ranged r i) (number (r .decimals) v u) ≡ true → natAbs v < magnitudeLimit
 range-small r i v u f e =
     let b : inBounds (some r) (r .decimals) v ≡ true = split {x = inBounds (some r) (r .decimals) v} e .0 in
     let i : inRange r v ≡ true = split {x = eqb (r .decimals) (r .decimals)} b .1 in
     let (a, b) = split {x = leZ (r .low) v} i in
-    between-small (r .low) v (r .high) (10 ^ 18) (f .1) (f .2) a b
+    between-small (r .low) v (r .high) magnitudeLimit (f .1) (f .2) a b
 
 -- neither 20 nor 21
-read-small : (v : ℤ) (d db : ℕ) → d ≤ 17 → db ≤ 17 → natAbs v < 10 ^ 18 → natAbs (N.reading d db v) < 10 ^ 18
+read-small : (v : ℤ) (d db : ℕ) → d ≤ mostDecimals → db ≤ mostDecimals → natAbs v < magnitudeLimit
+    → natAbs (N.reading d db v) < magnitudeLimit
     → readNumber v d db ≡ reads (N.reading d db v)
 unfolding readNumber
 read-small v d db a b c e =
-    rw (le-ltb 17 d a, le-ltb 17 db b, lt-leb (10 ^ 18) (natAbs v) c, lt-leb (10 ^ 18) (natAbs (N.reading d db v)) e)
+    rw (
+      le-ltb mostDecimals d a,
+      le-ltb mostDecimals db b,
+      lt-leb magnitudeLimit (natAbs v) c,
+      lt-leb magnitudeLimit (natAbs (N.reading d db v)) e,
+    )
 
 -- ---- types: what is small, and each of whose legal values has a legal reading at another
 abbrev Reads : Ty → Ty → Type 0

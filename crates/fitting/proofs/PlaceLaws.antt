@@ -14,7 +14,7 @@ use mir.Val.{SFits, toZ}
 use mir.Facts.{toZ-pos}
 use lib.Dec.{lit<, eqb, leb}
 use borrow.Author.Tests.{lt-ltb, le-ltb, le-leb}
-use Rattle.rules.specs.Numbers.{Range}
+use Rattle.rules.specs.Numbers.{magnitudeLimit, Range}
 use Rattle.rules.specs.Enumerations.{final}
 use Rattle.rules.specs.Types.{Measure, Ty, text, numeric, structure, enum}
 use Rattle.rules.specs.Book.{bit, lowFirst, twos, lengthOr, bytes, numberRecord, unitRecords, typeRecords, openRecord}
@@ -55,16 +55,16 @@ eight : (n : ℕ) → n < 18446744073709551616
     → (lowHalf n + lowHalf (rest4 n) * 4294967296 ≡ n) × (lowHalf n < 4294967296) × (lowHalf (rest4 n) < 4294967296)
 eight n h = let a = four n in let b = four (rest4 n) in (omega arith, omega arith, omega arith)
 
-signed-low : (l h n : ℕ) → n < 10 ^ 18 → l + h * 4294967296 ≡ n → signedOf l h ≡ pos n
+signed-low : (l h n : ℕ) → n < magnitudeLimit → l + h * 4294967296 ≡ n → signedOf l h ≡ pos n
 signed-low l h n s e = rw (lt-ltb h 2147483648 (omega arith), e)
 
-signed-high : (l h n : ℕ) → suc n < 10 ^ 18 → l < 4294967296 → h < 4294967296
+signed-high : (l h n : ℕ) → suc n < magnitudeLimit → l < 4294967296 → h < 4294967296
     → l + h * 4294967296 ≡ 2 ^ 64 - suc n → signedOf l h ≡ negsuc n
 signed-high l h n s p q e =
     let z : 4294967295 - l + (4294967295 - h) * 4294967296 ≡ n = omega arith in
     rw (le-ltb h 2147483648 (omega arith), z)
 
-signed-back : (v : ℤ) → natAbs v < 10 ^ 18 → signedOf (lowHalf (twos v)) (lowHalf (rest4 (twos v))) ≡ v
+signed-back : (v : ℤ) → natAbs v < magnitudeLimit → signedOf (lowHalf (twos v)) (lowHalf (rest4 (twos v))) ≡ v
 signed-back (pos n) s = signed-low _ _ n s (eight n (omega arith) .0)
 signed-back (negsuc n) s = let e = eight (2 ^ 64 - suc n) (omega arith) in signed-high _ _ n s (e .1) (e .2) (e .0)
 
@@ -140,7 +140,7 @@ module _ (b : List ℕ) (i : ℕ) (h : i ≤ length b) where
       let r : read4 b (i + 1) ≡ n = read4-at b _ i 1 e ∙ low-four n s in
       rw (le-leb (i + 5) (length b) l, r)
 
-  range-there : (d : ℕ) (v w : ℤ) (more : List ℕ) → natAbs v < 10 ^ 18 → natAbs w < 10 ^ 18 →
+  range-there : (d : ℕ) (v w : ℤ) (more : List ℕ) → natAbs v < magnitudeLimit → natAbs w < magnitudeLimit →
       drop i b ≡ (10 ∷ d ∷ (lowFirst 8 (twos v) ++ lowFirst 8 (twos w))) ++ more
       → rangeAt b i ≡ typing.Range d v w (unitAt b (i + 18))
   unfolding rangeAt

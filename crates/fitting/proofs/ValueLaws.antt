@@ -3,14 +3,14 @@ use mathlib.Core.Path.{_≡_, refl, sym, _∙_}
 use mathlib.Core.Bool.{Bool, true, false, cond, not}
 use mathlib.Core.Option.{Option, none, some}
 use mathlib.Core.List.{List}
-use Prim.Native.Nat.{ℕ, _+_, _≤_, _<_, _^_}
+use Prim.Native.Nat.{ℕ, _+_, _≤_, _<_}
 use native.Mathlib.Omega.{arith}
 use lib.IntN.{ℤ, pos, negsuc, natAbs}
 use lib.Signed.{leZ}
 use lib.Dec.{eqb}
 use borrow.Author.Tests.{ne-eqb}
 use Rattle.rules.specs.Texts.{lengthFits}
-use Rattle.rules.specs.Numbers.{Range}
+use Rattle.rules.specs.Numbers.{mostDecimals, magnitudeLimit, Range}
 use Rattle.rules.specs.Types.{Ty, text, numeric, structure, enum, kindOf, unitOf, boundsFit, fits}
 use Rattle.rules.specs.Declarations.{Def, measureIn}
 use Rattle.rules.specs.Book.{lengthOr}
@@ -50,12 +50,12 @@ fair-or-none t structure h = absurd h
 
 -- ---- bounds
 -- a signed number that is read back
-pub held-small : (z : ℤ) → natAbs z < 10 ^ 18 → held z ≡ z
+pub held-small : (z : ℤ) → natAbs z < magnitudeLimit → held z ≡ z
 held-small (pos n) h = kept (pos n) (omega arith)
 held-small (negsuc n) h = kept (negsuc n) (omega arith)
 
 pub sized-range : {c : Typing} (d : ℕ) (l h : ℤ) (u : ℕ) → Sized c → c ≡ typing.Range d l h u
-    → (d ≤ 17) × (natAbs l < 10 ^ 18) × (natAbs h < 10 ^ 18)
+    → (d ≤ mostDecimals) × (natAbs l < magnitudeLimit) × (natAbs h < magnitudeLimit)
 sized-range d l h u s e = rw e at s
 
 module _ (d e : ℕ) (l b h c : ℤ) (u : ℕ) (base : Typing) (k : base ≡ typing.Range e b c u) where

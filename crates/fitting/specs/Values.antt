@@ -2,9 +2,10 @@
 use mathlib.Core.Path.{_≡_}
 use mathlib.Core.Option.{Option, none, some}
 use mathlib.Core.List.{List}
-use Prim.Native.Nat.{ℕ, _+_, _≤_, _<_, _^_}
+use Prim.Native.Nat.{ℕ, _+_, _≤_, _<_}
 use lib.IntN.{natAbs}
 use Rattle.rules.specs.Numbers as N
+use Rattle.rules.specs.Numbers.{mostDecimals, magnitudeLimit}
 use Rattle.rules.specs.Types.{Measure, Ty, text, numeric, structure, enum, unitOf}
 use Rattle.rules.specs.Book.{lengthOr}
 use Rattle.rules.specs.All.{AnyIs}
@@ -37,10 +38,10 @@ Typed t b (numeric r u) c = c ≡ numberBy r u
 Typed t b (enum e) c = (p : ℕ) × (c ≡ Enumeration p) × Stands t b e p
 Typed t b structure c = c ≡ Structure
 
--- bounds are of at most 18 digits
+-- decimals and bounds are within the limits
 abbrev pub Sized : Typing → Type 0
 Sized (Text k n) = Unit {0}
-Sized (Range d l h u) = (d ≤ 17) × (natAbs l < 10 ^ 18) × (natAbs h < 10 ^ 18)
+Sized (Range d l h u) = (d ≤ mostDecimals) × (natAbs l < magnitudeLimit) × (natAbs h < magnitudeLimit)
 Sized (Numeric u) = Unit {0}
 Sized (Enumeration p) = Unit {0}
 Sized Structure = Unit {0}

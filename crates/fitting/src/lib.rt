@@ -5,10 +5,11 @@ use crate::reading::typing_at;
 ghost use mathlib.Core.Path.{_≡_};
 ghost use mathlib.Core.Bool.{not};
 ghost use mathlib.Core.List.{List, _∷_};
-ghost use Prim.Native.Nat.{ℕ, _≤_, _<_, _^_};
+ghost use Prim.Native.Nat.{ℕ, _≤_, _<_};
 ghost use lib.ListN.{length};
 ghost use lib.IntN.{natAbs};
 ghost use lib.Dec.{eqb};
+ghost use Rattle.rules.specs.Numbers.{mostDecimals, magnitudeLimit};
 ghost use Rattle.rules.specs.Types.{Ty, kindOf};
 ghost use Rattle.rules.specs.Book.{Record, typeRecords};
 ghost use Rattle.rules.specs.Declarations.{Def, measureIn};
@@ -166,7 +167,8 @@ fn text_fits(own: u64, base: Typing) -> bool
 }
 
 fn range_fits(own_decimals: u64, own_low: i64, own_high: i64, base: Typing) -> bool
-    requires { ⌜ («own_decimals» ≤ 17) × (natAbs «own_low» < 10 ^ 18) × (natAbs «own_high» < 10 ^ 18) ⌝ }
+    requires { ⌜ («own_decimals» ≤ mostDecimals) × (natAbs «own_low» < magnitudeLimit)
+        × (natAbs «own_high» < magnitudeLimit) ⌝ }
     requires { ⌜ Sized base ⌝ }
     ensures { λ r. ⌜ r ≡ rangeFitsBy «own_decimals» «own_low» «own_high» base ⌝ }
 {

@@ -1,7 +1,7 @@
 -- The quotient towards the lesser number, from the machine's quotient and remainder, which go towards zero.
 use mathlib.Core.Path.{_≡_, refl, sym, ap, _∙_}
 use mathlib.Core.Bool.{true, false}
-use Prim.Native.Nat.{ℕ, zero, suc, _+_, _*_, _/_, _%_, _^_, _≤_, _<_}
+use Prim.Native.Nat.{ℕ, zero, suc, _+_, _*_, _/_, _%_, _≤_, _<_}
 use native.Mathlib.Nat.{div-add-mod', mod-lt, div-eq-of-lt-le, div-le-self, lt-of-le-of-lt}
 use native.Mathlib.Omega.{arith}
 use lib.IntN.{ℤ, pos, negsuc, negℤ, _-ℤ_, -ℤ-one}
@@ -10,6 +10,7 @@ use borrow.Author.Tests.{le-ltb}
 use mir.Syntax.{w64}
 use mir.Val.{SFits, toZ}
 use mir.Facts.{toZ-ofZ}
+use Rattle.rules.specs.Numbers.{magnitudeLimit}
 use Rattle.rules.proofs.Tests.{never, not-both}
 use Rattle.numbers.proofs.SignedLaws.{held, Holds, holds, plain}
 
@@ -49,7 +50,7 @@ mag-quot (negsuc a) m = mag-neg (suc a / m) a (div-le-self (suc a) m)
 below : {x z : ℤ} → mag z ≤ mag x → SFits w64 x → SFits w64 z
 below h f = record { sfits = lt-of-le-of-lt h (f .sfits) }
 
-module _ (x : ℤ) (m : ℕ) (f : SFits w64 x) (h : (0 < m) × (m < 10 ^ 18)) where
+module _ (x : ℤ) (m : ℕ) (f : SFits w64 x) (h : (0 < m) × (m < magnitudeLimit)) where
   pub quotient : Holds (quotZ (held x) (toZ w64 m)) (quotZ x (pos m))
   quotient = holds (rw (toZ-ofZ f, plain m (h .1))) (below (mag-quot x m) f)
 

@@ -1,4 +1,4 @@
--- Signed numbers in 64 bits: what an operation on magnitudes below 10 ^ 18 gives is what the number calls for.
+-- Signed numbers in 64 bits: what an operation on magnitudes below the limit gives is what the number calls for.
 use mathlib.Core.Path.{_≡_, refl, sym}
 use mathlib.Core.Bool.{Bool, true, false, cond}
 use Prim.Native.Nat.{ℕ, zero, suc, _+_, _-_, _*_, _^_, _≤_, _<_}
@@ -10,6 +10,7 @@ use lib.Dec.{T, ltb}
 use mir.Syntax.{w64}
 use mir.Val.{Fits, SFits, toZ, ofZ}
 use mir.Facts.{toZ-ofZ, toZ-pos}
+use Rattle.rules.specs.Numbers.{magnitudeLimit}
 use Rattle.rules.proofs.Tests.{not-both}
 
 -- ---- magnitudes
@@ -51,20 +52,22 @@ kept z h = toZ-ofZ (record { sfits = h })
 pub holds : {z w : ℤ} → z ≡ w → SFits w64 w → Holds z w
 holds e f = (rw e f, rw e (toZ-ofZ f))
 
-pub plain : (n : ℕ) → n < 10 ^ 18 → toZ w64 n ≡ pos n
+pub plain : (n : ℕ) → n < magnitudeLimit → toZ w64 n ≡ pos n
 plain n h = toZ-pos w64 (omega arith)
 
-pub negated : (n : ℕ) → n < 10 ^ 18 → Holds (pos 0 -ℤ toZ w64 n) (negℤ (pos n))
-negated n h = holds (rw (plain n h, +ℤ-idl)) (fits _ (omega (arith, abs-neg n)))
+-- of the limit itself too
+pub negated : (n : ℕ) → n ≤ magnitudeLimit → Holds (pos 0 -ℤ toZ w64 n) (negℤ (pos n))
+negated n h = holds (rw (toZ-pos w64 {n = n} (omega arith), +ℤ-idl)) (fits _ (omega (arith, abs-neg n)))
 
 module _ (v : ℤ) (f : SFits w64 v) where
-  pub raised : (h : ℕ) → natAbs v < 10 ^ 18 → h < 10 ^ 18 → Holds (held v +ℤ toZ w64 h) (v +ℤ pos h)
+  pub raised : (h : ℕ) → natAbs v < magnitudeLimit → h < magnitudeLimit → Holds (held v +ℤ toZ w64 h) (v +ℤ pos h)
   raised h k l = holds (rw (toZ-ofZ f, plain h l)) (fits _ (omega (arith, abs-add v h)))
 
-  pub lowered : natAbs v < 10 ^ 18 → Holds (held v -ℤ pos 1) (predℤ v)
+  pub lowered : natAbs v < magnitudeLimit → Holds (held v -ℤ pos 1) (predℤ v)
   lowered k = holds (rw (toZ-ofZ f, -ℤ-one)) (fits _ (omega (arith, abs-pred v)))
 
-  pub multiplied : (p : ℕ) → natAbs v * p < 10 ^ 18 → p < 10 ^ 18 → Holds (held v *ℤ toZ w64 p) (v *ℤ pos p)
+  pub multiplied : (p : ℕ) → natAbs v * p < magnitudeLimit → p < magnitudeLimit
+      → Holds (held v *ℤ toZ w64 p) (v *ℤ pos p)
   multiplied p k l = holds (rw (toZ-ofZ f, plain p l)) (fits _ (omega (arith, abs-mul v p)))
 
 -- ---- the magnitude of a number below zero: one more than that of the next number, turned round

@@ -1,4 +1,4 @@
--- "Sizes": a number symbol has at most 18 digits, one of them before the dot, hence at most 17 decimals.
+-- "Sizes": a number symbol is within the limits of digits and, as one digit stands before the dot, of decimals.
 use mathlib.Core.Path.{_≡_, refl, sym, ap}
 use mathlib.Core.Logic.{⊎-elim}
 use mathlib.Core.Bool.{Bool, true, false, cond, _&&_, _||_}
@@ -14,9 +14,9 @@ use Rattle.rules.specs.Bytes.{is, isLetter, isDigit, isWordByte, isOneOf, span}
 use Rattle.rules.specs.Symbols.{Kind, Symbol, Quote, Gap, number, symbol, tag, closed, bad, endless, upTo, open-at, gap}
 use Rattle.rules.specs.Symbols.{apart, quote}
 use Rattle.rules.specs.Symbols.{digitCount, unsignedLength, wordKind, numberKind, aString, isMarkByte, symbolOf, beyond}
-use Rattle.rules.specs.Symbols.{symbolAt}
+use Rattle.rules.specs.Symbols.{symbolAt, mostDigits}
 use Rattle.rules.specs.Reserved.{forms, table}
-use Rattle.rules.specs.Numbers.{decimalsOf}
+use Rattle.rules.specs.Numbers.{mostDecimals, decimalsOf}
 use Rattle.rules.proofs.Tests.{never, split, or-split}
 use Rattle.rules.proofs.SymbolLaws.{either}
 
@@ -109,8 +109,8 @@ few-signed b (d ∷ s) p =
 
 -- ---- number symbols
 pub record Sized (b : List ℕ) : Type 0 where
-  pub digits : digitCount b ≤ 18
-  pub decimals : decimalsOf b ≤ 17
+  pub digits : digitCount b ≤ mostDigits
+  pub decimals : decimalsOf b ≤ mostDecimals
 
 -- a record, so that antt reads the symbol off it
 record SizedNumber (y : Symbol) : Type 0 where
@@ -127,11 +127,9 @@ word-tag b =
 
 counted : {p : ℕ} (b : List ℕ) → decimalsOf b < digitCount b → SizedNumber (symbol (numberKind b) p b)
 counted {p} b h =
-    either (λ k. SizedNumber (symbol k p b)) (ltb 18 (digitCount b)) (λ _. other (λ q. omega arith))
-    (λ e. record {
-      sized = λ _.
-          record { digits = ltb-false 18 (digitCount b) e; decimals = omega (arith, ltb-false 18 (digitCount b) e) };
-    })
+    either (λ k. SizedNumber (symbol k p b)) (ltb mostDigits (digitCount b)) (λ _. other (λ q. omega arith))
+    (λ e. let l = ltb-false mostDigits (digitCount b) e in
+    record { sized = λ _. record { digits = l; decimals = omega (arith, l) } })
 
 string-sized : (k : ℕ) (s : List ℕ) (q : Quote) → SizedNumber (aString k s q)
 string-sized k s (closed n) = other (λ q. omega arith)

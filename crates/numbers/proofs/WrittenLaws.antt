@@ -1,4 +1,4 @@
--- The number that a symbol writes, byte by byte: with at most 18 digits it is below 10 ^ 18.
+-- The number that a symbol writes, byte by byte: with no more digits than "Sizes" allows it is below the limit.
 use mathlib.Core.Path.{_≡_, refl, sym, _∙_}
 use mathlib.Core.Bool.{Bool, true, false, cond, _&&_}
 use mathlib.Core.List.{List, [], _∷_}
@@ -11,8 +11,8 @@ use lib.Seq.{drop-cons}
 use lib.Dec.{eqb, leb, eqb·suc-zero}
 use lib.IntN.{natAbs, pos, negℤ}
 use Rattle.rules.specs.Bytes.{is, isDigit}
-use Rattle.rules.specs.Symbols.{digitCount}
-use Rattle.rules.specs.Numbers.{digits, valueOf, decimalsOf}
+use Rattle.rules.specs.Symbols.{mostDigits, digitCount}
+use Rattle.rules.specs.Numbers.{magnitudeLimit, digits, valueOf, decimalsOf}
 use Rattle.rules.proofs.Tests.{split}
 use Rattle.numbers.proofs.PowerLaws.{ten-most, ten-more}
 use Rattle.numbers.proofs.SignedLaws.{abs-neg}
@@ -26,31 +26,31 @@ withDot d b left = cond (eqb d 0 && is "." b) left d
 
 -- ---- there is room for the digits to come
 pub record Room (s : List ℕ) (n : ℕ) : Type 0 where
-  pub few : digitCount s ≤ 18
-  pub small : n < 10 ^ (18 - digitCount s)
+  pub few : digitCount s ≤ mostDigits
+  pub small : n < 10 ^ (mostDigits - digitCount s)
 
 room-by : (t : Bool) (b : ℕ) (s : List ℕ) (n : ℕ) → (t ≡ true → b ≤ 57)
-    → cond t (suc (digitCount s)) (digitCount s) ≤ 18
-    → n < 10 ^ (18 - cond t (suc (digitCount s)) (digitCount s)) → Room s (cond t (n * 10 + (b - 48)) n)
+    → cond t (suc (digitCount s)) (digitCount s) ≤ mostDigits
+    → n < 10 ^ (mostDigits - cond t (suc (digitCount s)) (digitCount s)) → Room s (cond t (n * 10 + (b - 48)) n)
 room-by false b s n d f h = record { few = f; small = h }
 room-by true b s n d f h =
-    let e : 18 - digitCount s ≡ 18 - suc (digitCount s) + 1 = omega arith in
+    let e : mostDigits - digitCount s ≡ mostDigits - suc (digitCount s) + 1 = omega arith in
     record { few = omega arith; small = rw (e, ten-more) (omega (arith, d refl)) }
 
 room-next : (b : ℕ) (s : List ℕ) (n : ℕ) → Room (b ∷ s) n → Room s (withDigit n b)
 room-next b s n r = room-by (isDigit b) b s n (λ p. leb-true b 57 (split {x = leb 48 b} p .1)) (r .few) (r .small)
 
-room-small : (s : List ℕ) (n : ℕ) → Room s n → n < 10 ^ 18
-room-small s n r = omega (arith, r .small, ten-most (18 - digitCount s) 18 (omega arith))
+room-small : (s : List ℕ) (n : ℕ) → Room s n → n < magnitudeLimit
+room-small s n r = omega (arith, r .small, ten-most (mostDigits - digitCount s) mostDigits (omega arith))
 
-digits-small : (s : List ℕ) (n : ℕ) → Room s n → digits s n < 10 ^ 18
+digits-small : (s : List ℕ) (n : ℕ) → Room s n → digits s n < magnitudeLimit
 digits-small [] n r = r .small
 digits-small (b ∷ s) n r = digits-small s (withDigit n b) (room-next b s n r)
 
-room-first : (s : List ℕ) → digitCount s ≤ 18 → Room s 0
-room-first s h = record { few = h; small = omega (arith, ten-most 0 (18 - digitCount s) (omega arith)) }
+room-first : (s : List ℕ) → digitCount s ≤ mostDigits → Room s 0
+room-first s h = record { few = h; small = omega (arith, ten-most 0 (mostDigits - digitCount s) (omega arith)) }
 
-pub written-small : (s : List ℕ) → digitCount s ≤ 18 → digits s 0 < 10 ^ 18
+pub written-small : (s : List ℕ) → digitCount s ≤ mostDigits → digits s 0 < magnitudeLimit
 written-small s h = digits-small s 0 (room-first s h)
 
 -- ---- the decimals: d so far, or those to come
@@ -73,10 +73,10 @@ pub record Scanned (s t : List ℕ) (n d : ℕ) : Type 0 where
   pub value : digits s 0 ≡ digits t n
   pub decimals : decimalsOf s ≡ decimalsFrom d t
 
-pub scanned-first : (s : List ℕ) → digitCount s ≤ 18 → Scanned s s 0 0
+pub scanned-first : (s : List ℕ) → digitCount s ≤ mostDigits → Scanned s s 0 0
 scanned-first s h = record { room = room-first s h; value = refl; decimals = refl }
 
-pub scanned-small : {s t : List ℕ} {n d : ℕ} → Scanned s t n d → n < 10 ^ 18
+pub scanned-small : {s t : List ℕ} {n d : ℕ} → Scanned s t n d → n < magnitudeLimit
 scanned-small x = room-small _ _ (x .room)
 
 scanned-one : (s t : List ℕ) (b n d : ℕ) → Scanned s (b ∷ t) n d → Scanned s t (withDigit n b) (withDot d b (length t))
@@ -103,7 +103,7 @@ by-sign : (t : Bool) (n : ℕ) → natAbs (cond t (negℤ (pos n)) (pos n)) ≡ 
 by-sign true n = abs-neg n
 by-sign false n = refl
 
-pub value-small : (s : List ℕ) → digitCount s ≤ 18 → natAbs (valueOf s) < 10 ^ 18
+pub value-small : (s : List ℕ) → digitCount s ≤ mostDigits → natAbs (valueOf s) < magnitudeLimit
 value-small s h = rw (by-sign (is "-" (getD s 0 0)) (digits s 0)) (written-small s h)
 
 pub value-is : (s : List ℕ) {t : Bool} {n : ℕ} → t ≡ is "-" (getD s 0 0) → n ≡ digits s 0

@@ -1,4 +1,5 @@
-// Numbers: what a number symbol writes, a number's reading at a base, and whether a bound fits the base's.
+// Numbers: what a number symbol writes, powers of ten, a number's reading at a base, and whether a bound fits the
+// base's.
 ghost use mathlib.Core.Path.{_≡_};
 ghost use mathlib.Core.Bool.{cond, _&&_};
 ghost use Prim.Native.Nat.{_+_, _-_, _*_, _≤_, _<_, _^_};
@@ -7,14 +8,14 @@ ghost use lib.IntN.{pos, natAbs, _*ℤ_};
 ghost use lib.Signed.{ltZ, shrZ};
 ghost use lib.Dec.{eqb};
 ghost use Rattle.rules.specs.Bytes.{is, isDigit};
-ghost use Rattle.rules.specs.Symbols.{digitCount};
-ghost use Rattle.rules.specs.Numbers.{digits, valueOf, decimalsOf};
+ghost use Rattle.rules.specs.Symbols.{mostDigits, digitCount};
+ghost use Rattle.rules.specs.Numbers.{mostDecimals, magnitudeLimit, digits, valueOf, decimalsOf};
 ghost use Rattle.rules.specs.Numbers.{rounded as Numbers·rounded};
 ghost use Rattle.numbers.specs.Answer.{numberOf, readingOf, Promised};
 ghost use Rattle.numbers.specs.Bounds.{lowFits, highFits};
 
-// The greatest magnitude within scope: 18 digits.
-const MOST: u64 = 999999999999999999;
+// "Sizes": how many decimals a number has at most.
+const MOST_DECIMALS: u64 = 17;
 
 // The number that a symbol writes, without its dot, and its count of decimals.
 pub struct Number {
@@ -57,22 +58,29 @@ impl Reading {
     }
 }
 
-fn ten_to(n: u64) -> u64
-    requires { ⌜ n ≤ 17 ⌝ }
+// One, multiplied by ten n times.
+pub fn ten_to(n: u64) -> u64
+    requires { ⌜ n ≤ mostDecimals ⌝ }
     ensures { λ r. ⌜ r ≡ 10 ^ n ⌝ }
 {
-    let mut p = 1;
-    let mut i = 0;
-    while i < n {
-        p *= 10;
-        i += 1;
+    let mut power = 1;
+    for _ in 0..n {
+        power *= 10;
     }
-    p
+    power
+}
+
+// The least magnitude out of scope, 10^18: one digit stands before the most decimals. A constant could neither call
+// `ten_to` nor have a contract.
+pub fn magnitude_limit() -> u64
+    ensures { λ r. ⌜ r ≡ magnitudeLimit ⌝ }
+{
+    ten_to(MOST_DECIMALS) * 10
 }
 
 // x / m towards the lesser number; the machine divides towards zero.
 fn floor_div(x: i64, m: u64) -> i64
-    requires { ⌜ (0 < m) × (m < 10 ^ 18) ⌝ }
+    requires { ⌜ (0 < m) × (m < magnitudeLimit) ⌝ }
     ensures { λ r. ⌜ r ≡ shrZ x m ⌝ }
 {
     let d = m as i64;
@@ -83,8 +91,8 @@ fn floor_div(x: i64, m: u64) -> i64
 
 // Halves go to the greater number, below zero too.
 fn rounded(v: i64, m: u64) -> i64
-    requires { ⌜ natAbs v < 10 ^ 18 ⌝ }
-    requires { ⌜ (0 < m) × (m < 10 ^ 18) ⌝ }
+    requires { ⌜ natAbs v < magnitudeLimit ⌝ }
+    requires { ⌜ (0 < m) × (m < magnitudeLimit) ⌝ }
     ensures { λ r. ⌜ r ≡ Numbers·rounded v m ⌝ }
 {
     let half = (m / 2) as i64;
@@ -104,7 +112,7 @@ pub fn size(v: i64) -> u64
 }
 
 fn times(v: i64, p: u64) -> i64
-    requires { ⌜ (natAbs v * p < 10 ^ 18) × (p < 10 ^ 18) ⌝ }
+    requires { ⌜ (natAbs v * p < magnitudeLimit) × (p < magnitudeLimit) ⌝ }
     ensures { λ r. ⌜ r ≡ v *ℤ pos p ⌝ }
 {
     let q = p as i64;
@@ -112,14 +120,14 @@ fn times(v: i64, p: u64) -> i64
 }
 
 fn read_in_scope(value: i64, decimals: u64, base_decimals: u64) -> Reading
-    requires { ⌜ (decimals ≤ 17) × («base_decimals» ≤ 17) × (natAbs value < 10 ^ 18) ⌝ }
+    requires { ⌜ (decimals ≤ mostDecimals) × («base_decimals» ≤ mostDecimals) × (natAbs value < magnitudeLimit) ⌝ }
     ensures { λ r. ⌜ Promised value decimals «base_decimals» r ⌝ }
 {
     if base_decimals < decimals {
         return Reading::Value(rounded(value, ten_to(decimals - base_decimals)));
     }
     let p = ten_to(base_decimals - decimals);
-    if MOST / p < size(value) {
+    if (magnitude_limit() - 1) / p < size(value) {
         return Reading::TooGreat;
     }
     Reading::Value(times(value, p))
@@ -129,13 +137,13 @@ fn read_in_scope(value: i64, decimals: u64, base_decimals: u64) -> Reading
 pub fn read_number(value: i64, decimals: u64, base_decimals: u64) -> Reading
     ensures { λ r. ⌜ Promised value decimals «base_decimals» r ⌝ }
 {
-    if 17 < decimals {
+    if MOST_DECIMALS < decimals {
         return Reading::OutOfScope;
     }
-    if 17 < base_decimals {
+    if MOST_DECIMALS < base_decimals {
         return Reading::OutOfScope;
     }
-    if MOST < size(value) {
+    if magnitude_limit() <= size(value) {
         return Reading::OutOfScope;
     }
     read_in_scope(value, decimals, base_decimals)
@@ -143,8 +151,8 @@ pub fn read_number(value: i64, decimals: u64, base_decimals: u64) -> Reading
 
 // Whether the reading of v, a range's low bound, is at least the base's.
 pub fn low_fits(decimals: u64, base_decimals: u64, v: i64, bound: i64) -> bool
-    requires { ⌜ (decimals ≤ 17) × («base_decimals» ≤ 17) ⌝ }
-    requires { ⌜ (natAbs v < 10 ^ 18) × (natAbs bound < 10 ^ 18) ⌝ }
+    requires { ⌜ (decimals ≤ mostDecimals) × («base_decimals» ≤ mostDecimals) ⌝ }
+    requires { ⌜ (natAbs v < magnitudeLimit) × (natAbs bound < magnitudeLimit) ⌝ }
     ensures { λ r. ⌜ r ≡ lowFits decimals «base_decimals» v bound ⌝ }
 {
     if base_decimals < decimals {
@@ -157,8 +165,8 @@ pub fn low_fits(decimals: u64, base_decimals: u64, v: i64, bound: i64) -> bool
 
 // Whether the reading of v, a range's high bound, is at most the base's.
 pub fn high_fits(decimals: u64, base_decimals: u64, v: i64, bound: i64) -> bool
-    requires { ⌜ (decimals ≤ 17) × («base_decimals» ≤ 17) ⌝ }
-    requires { ⌜ (natAbs v < 10 ^ 18) × (natAbs bound < 10 ^ 18) ⌝ }
+    requires { ⌜ (decimals ≤ mostDecimals) × («base_decimals» ≤ mostDecimals) ⌝ }
+    requires { ⌜ (natAbs v < magnitudeLimit) × (natAbs bound < magnitudeLimit) ⌝ }
     ensures { λ r. ⌜ r ≡ highFits decimals «base_decimals» v bound ⌝ }
 {
     if base_decimals < decimals {
@@ -176,7 +184,7 @@ pub fn is_less(v: i64, w: i64) -> bool
 }
 
 fn with_digit(n: u64, b: u8) -> u64
-    requires { ⌜ n < 10 ^ 18 ⌝ }
+    requires { ⌜ n < magnitudeLimit ⌝ }
     ensures { λ r. ⌜ r ≡ cond (isDigit b) (n * 10 + (b - 48)) n ⌝ }
 {
     if b < b'0' {
@@ -201,7 +209,7 @@ fn with_dot(decimals: u64, b: u8, left: u64) -> u64
 }
 
 fn scan(part: &[u8]) -> Figures
-    requires { ⌜ digitCount (now part) ≤ 18 ⌝ }
+    requires { ⌜ digitCount (now part) ≤ mostDigits ⌝ }
     ensures { λ r. ⌜ (r .value ≡ digits (now (part .entry)) 0) × (r .decimals ≡ decimalsOf (now (part .entry))) ⌝ }
 {
     let mut value = 0;
@@ -227,7 +235,7 @@ fn has_minus(part: &[u8]) -> bool
 
 // The number that these bytes write.
 pub fn number_of(part: &[u8]) -> Number
-    requires { ⌜ digitCount (now part) ≤ 18 ⌝ }
+    requires { ⌜ digitCount (now part) ≤ mostDigits ⌝ }
     ensures { λ r. ⌜ (r .value ≡ valueOf (now (part .entry))) × (r .decimals ≡ decimalsOf (now (part .entry))) ⌝ }
 {
     let f = scan(part);
@@ -245,7 +253,7 @@ pub fn number_of(part: &[u8]) -> Number
 // The number symbol of `len` bytes at a place of the text.
 pub fn number_at(text: &[u8], place: usize, len: usize) -> Number
     requires { ⌜ place + len ≤ length (now text) ⌝ }
-    requires { ⌜ digitCount (take len (drop place (now text))) ≤ 18 ⌝ }
+    requires { ⌜ digitCount (take len (drop place (now text))) ≤ mostDigits ⌝ }
     ensures { λ r. ⌜ (r .value ≡ valueOf (take len (drop place (now (text .entry)))))
         × (r .decimals ≡ decimalsOf (take len (drop place (now (text .entry))))) ⌝ }
 {
@@ -256,7 +264,7 @@ pub fn number_at(text: &[u8], place: usize, len: usize) -> Number
 // The whole number that the digits at a place of the text write, as a TEXT length.
 pub fn digits_at(text: &[u8], place: usize, len: usize) -> u64
     requires { ⌜ place + len ≤ length (now text) ⌝ }
-    requires { ⌜ digitCount (take len (drop place (now text))) ≤ 18 ⌝ }
+    requires { ⌜ digitCount (take len (drop place (now text))) ≤ mostDigits ⌝ }
     ensures { λ r. ⌜ r ≡ digits (take len (drop place (now (text .entry)))) 0 ⌝ }
 {
     let end = place + len;

@@ -13,7 +13,7 @@ use borrow.Author.Tests.{eqb-true, ne-eqb, eq-eqb, lt-ltb, le-ltb}
 use Rattle.rules.specs.Bytes.{ascii, same, isDigit}
 use Rattle.rules.specs.Symbols as rules
 use Rattle.rules.specs.Symbols.{too-large, symbolAt, endOf, digitCount, Kind, word, name, number, quoted, dots, stop}
-use Rattle.rules.specs.Symbols.{mark, fault, tag, isKind, isMark, isWord, isOneWord}
+use Rattle.rules.specs.Symbols.{mark, fault, tag, isKind, isMark, isWord, isOneWord, mostDigits}
 use Rattle.rules.specs.Readers.{Reader, ret, _>>=_, expect}
 use Rattle.rules.specs.Numbers.{digits, valueOf, decimalsOf}
 use Rattle.rules.specs.Grammar.{enough, deepest, enumeration, WrittenType, text, numeric, enum, named, isLength}
@@ -46,7 +46,7 @@ use Rattle.parts.specs.Forms.{MeansAll, typeBy, mandatoryBy}
 use Rattle.parts.proofs.PropertyLaws.{word-bytes}
 
 -- ---- number symbols
-few-digits : (k : Kind) (b : List ℕ) → eqb (tag k) 2 ≡ true → Sound k b → digitCount b ≤ 18
+few-digits : (k : Kind) (b : List ℕ) → eqb (tag k) 2 ≡ true → Sound k b → digitCount b ≤ mostDigits
 few-digits number b e c = c
 few-digits word b e c = never e
 few-digits name b e c = never e
@@ -64,7 +64,7 @@ module _ {t : List ℕ} {y : Symbol} where
   bytes-of z c = ap (λ (x : Symbol). part t (x .place) (x .len)) (c .cuts) ∙ sym (c .stands .written)
 
   pub number-stands : Held t y → y .code ≡ 2
-      → (y .place + y .len ≤ length t) × (0 < y .len) × (digitCount (part t (y .place) (y .len)) ≤ 18)
+      → (y .place + y .len ≤ length t) × (0 < y .len) × (digitCount (part t (y .place) (y .len)) ≤ mostDigits)
   number-stands (z, c) k =
       let e = is-yes is-number k z c in
       let p : y .place ≡ z .place = ap (λ (x : Symbol). x .place) (c .cuts) in

@@ -11,7 +11,7 @@ ghost use mathlib.Core.Bool.{Bool};
 ghost use mathlib.Core.Option.{none, some};
 ghost use Prim.Native.Nat.{_+_, _*_, _≤_, _<_};
 ghost use lib.ListN.{length};
-ghost use Rattle.rules.specs.Symbols.{digitCount};
+ghost use Rattle.rules.specs.Symbols.{mostDigits, digitCount};
 ghost use Rattle.rules.specs.Symbols.{Symbol as rules·Symbol};
 ghost use Rattle.rules.specs.Grammar.{textLength, textType, rangeType, numericType, typeOf, typeOrReference};
 ghost use Rattle.rules.specs.Grammar.{written};
@@ -61,7 +61,7 @@ pub enum Whole {
 
 fn whole_number(text: &[u8], place: usize, len: usize) -> Whole
     requires { ⌜ (place + len ≤ length (now text)) × (0 < len) ⌝ }
-    requires { ⌜ digitCount (part (now text) place len) ≤ 18 ⌝ }
+    requires { ⌜ digitCount (part (now text) place len) ≤ mostDigits ⌝ }
     ensures { λ r. ⌜ r ≡ wholeOf (part (now (text .entry)) place len) ⌝ }
 {
     if is_digit(text[place]) {

@@ -1,5 +1,7 @@
 // Reads numbers at a base and prints, a line each, the number of the refusal and the value.
 use libc::STDOUT_FILENO;
+ghost use Prim.Native.Nat.{_≤_};
+ghost use Rattle.rules.specs.Numbers.{magnitudeLimit};
 
 fn print_value(v: i64) {
     if v < 0 {
@@ -16,12 +18,21 @@ fn show(value: i64, decimals: u64, base_decimals: u64) {
     io::write_all(STDOUT_FILENO, b"\n");
 }
 
+// The negative of a magnitude.
+fn below_zero(size: u64) -> i64
+    requires { ⌜ size ≤ magnitudeLimit ⌝ }
+{
+    let v = size as i64;
+    -v
+}
+
 // 10^17 and 10^17 - 1 at one decimal more.
 fn at_the_limit() {
-    show(100000000000000000, 0, 1);
-    show(99999999999999999, 0, 1);
-    show(-100000000000000000, 0, 1);
-    show(-99999999999999999, 0, 1);
+    let power = numbers::ten_to(17);
+    show(power as i64, 0, 1);
+    show((power - 1) as i64, 0, 1);
+    show(below_zero(power), 0, 1);
+    show(below_zero(power - 1), 0, 1);
 }
 
 // Halves, and their neighbours, above and below zero.
@@ -47,20 +58,22 @@ fn decimals() {
     show(1, 17, 17);
     show(1, 18, 17);
     show(1, 17, 18);
-    show(50000000000000000, 17, 0);
-    show(49999999999999999, 17, 0);
+    let half = numbers::ten_to(17) / 2;
+    show(half as i64, 17, 0);
+    show((half - 1) as i64, 17, 0);
     show(9, 0, 17);
     show(10, 0, 17);
 }
 
 // Magnitudes of 10^18 - 1 and 10^18.
 fn magnitudes() {
-    show(999999999999999999, 0, 0);
-    show(1000000000000000000, 0, 0);
-    show(-999999999999999999, 0, 0);
-    show(-1000000000000000000, 0, 0);
-    show(999999999999999999, 17, 0);
-    show(-999999999999999999, 1, 0);
+    let limit = numbers::magnitude_limit();
+    show((limit - 1) as i64, 0, 0);
+    show(limit as i64, 0, 0);
+    show(below_zero(limit - 1), 0, 0);
+    show(below_zero(limit), 0, 0);
+    show((limit - 1) as i64, 17, 0);
+    show(below_zero(limit - 1), 1, 0);
 }
 
 // The least and the greatest i64.

@@ -15,7 +15,7 @@ use Rattle.rules.specs.Reserved.{forms, table}
 use Rattle.rules.specs.Symbols.{Fault, Kind, word, name, number, quoted, dots, stop, mark, fault, Symbol, symbol, tag}
 use Rattle.rules.specs.Symbols.{Gap, upTo, open-at, apart, gap, Quote, closed, bad, endless, quote, unsignedLength}
 use Rattle.rules.specs.Symbols.{digitCount, wordKind, numberKind, aWord, aNumber, aString, isMarkByte, symbolOf, beyond}
-use Rattle.rules.specs.Symbols.{symbolAt}
+use Rattle.rules.specs.Symbols.{symbolAt, mostDigits}
 use Rattle.rules.proofs.Tests.{never, alike, or-split, split}
 use Rattle.rules.proofs.ByteLaws.{same-eq, same-refl}
 use Rattle.rules.proofs.SymbolLaws.{either}
@@ -55,7 +55,8 @@ word-sound b s l q =
     w = b ∷ s
 
 number-sound : (b : List ℕ) → Sound (numberKind b) b
-number-sound b = either (λ k. Sound k b) (ltb 18 (digitCount b)) (λ _. tt) (λ e. ltb-false 18 (digitCount b) e)
+number-sound b =
+    either (λ k. Sound k b) (ltb mostDigits (digitCount b)) (λ _. tt) (λ e. ltb-false mostDigits (digitCount b) e)
 
 mark-sound : (b : ℕ) → isMarkByte b ≡ true → (40 ≤ b) × NoWord b
 mark-sound b e = one (or-split {x = from "(" "*" b} e)

@@ -11,7 +11,7 @@ use lib.Seq.{drop-cons, drop-drop, getD-drop, take-add}
 use lib.Dec.{ltb}
 use borrow.Author.Tests.{eqb-true}
 use Rattle.rules.specs.Bytes.{part, is, isDigit, span}
-use Rattle.rules.specs.Symbols.{unsignedLength, digitCount, aNumber}
+use Rattle.rules.specs.Symbols.{unsignedLength, mostDigits, digitCount, aNumber}
 use Rattle.rules.proofs.Tests.{split, not-both}
 use Rattle.symbols.specs.Cut.{cut}
 use Rattle.ground.specs.Parts.{runEnd}
@@ -32,7 +32,7 @@ count-run (b ∷ s) = let go = count-run s in test (isDigit b) (λ e. rw (e, e, 
 
 -- the number's bytes, as the code has them
 pub number-cut : (at n d : ℕ) (b : List ℕ) → length b ≡ n → digitCount b ≡ d → cut (aNumber at b) ≡ numberCut at n d
-number-cut at n d b e f = rw (← e, ← f) (test (ltb 18 (digitCount b)) (λ x. rw x) (λ x. rw x))
+number-cut at n d b e f = rw (← e, ← f) (test (ltb mostDigits (digitCount b)) (λ x. rw x) (λ x. rw x))
 
 module _ (t : List ℕ) (at sign : ℕ) where
   abbrev digits : ℕ

@@ -5,7 +5,7 @@ use Prim.Native.Nat.{ℕ, _+_, _-_}
 use lib.ListN.{drop, getD}
 use lib.Dec.{ltb}
 use Rattle.rules.specs.Bytes.{part, is, isLetter, isDigit, isWordByte, isSeparator}
-use Rattle.rules.specs.Symbols.{quote, unsignedLength, aWord, aNumber, aString, isMarkByte}
+use Rattle.rules.specs.Symbols.{quote, unsignedLength, mostDigits, aWord, aNumber, aString, isMarkByte}
 use Rattle.ground.specs.Parts.{runEnd}
 use Rattle.scans.specs.Scans.{twoAt}
 use Rattle.symbols.specs.declared.Symbol.{Symbol}
@@ -37,7 +37,7 @@ unsignedCut t i sign = cut (aNumber i (part t i (sign + unsignedLength (drop (i 
 
 -- a number of so many bytes and digits
 abbrev pub numberCut : ℕ → ℕ → ℕ → Symbol
-numberCut p l d = cond (ltb 18 d) (made 5 4 p l) (made 2 5 p l)
+numberCut p l d = cond (ltb mostDigits d) (made 5 4 p l) (made 2 5 p l)
 
 -- with a sign, and with a mark
 abbrev pub signedCut : List ℕ → ℕ → Symbol

@@ -9,7 +9,7 @@ use Rattle.rules.specs.Bytes.{isOneOf}
 use Rattle.rules.specs.Reserved.{forms}
 use Rattle.rules.specs.Readers.{faultOf}
 use Rattle.rules.specs.Symbols.{numberOf, Kind, word, name, number, quoted, dots, stop, mark, fault, digitCount}
-use Rattle.rules.specs.Symbols.{isNameText}
+use Rattle.rules.specs.Symbols.{isNameText, mostDigits}
 use Rattle.rules.specs.Symbols as rules
 use Rattle.words.specs.Words.{position}
 use Rattle.symbols.specs.declared.Symbol.{Symbol}
@@ -41,7 +41,7 @@ NoWord m = (m < 64) ⊎ (90 < m)
 abbrev pub Sound : Kind → List ℕ → Type 0
 Sound word b = isOneOf b forms ≡ true
 Sound name b = (length b ≤ 255) × (isNameText b ≡ true)
-Sound number b = digitCount b ≤ 18
+Sound number b = digitCount b ≤ mostDigits
 Sound (mark m) b = (40 ≤ m) × NoWord m
 Sound quoted b = Unit {0}
 Sound dots b = Unit {0}

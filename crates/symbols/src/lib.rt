@@ -105,11 +105,14 @@ fn word(text: &[u8], at: usize) -> Symbol
 }
 
 // ---- numbers
+// "Sizes": how many digits a number has at most.
+const MOST_DIGITS: usize = 18;
+
 fn sized(place: usize, len: usize, digits: usize) -> Symbol
     requires { ⌜ place + len < 18446744073709551616 ⌝ }
     ensures { λ r. ⌜ r ≡ numberCut place len digits ⌝ }
 {
-    if 18 < digits {
+    if MOST_DIGITS < digits {
         return make(5, 4, place, len);
     }
     make(2, 5, place, len)

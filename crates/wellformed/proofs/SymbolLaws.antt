@@ -1,4 +1,4 @@
--- What is known of the symbols of a text: a name is a part of it, a number has at most 18 digits.
+-- What is known of the symbols of a text: a name is a part of it, a number is within the limits.
 use mathlib.Core.Path.{_≡_, refl, sym}
 use mathlib.Core.Bool.{true}
 use mathlib.Core.List.{List}

@@ -1,18 +1,18 @@
 -- What the code relies on beside the rules, of what is read from a text t and of what is declared: names are parts of
--- the text and words that are not reserved, strings are parts of it, numbers have at most 18 digits, enumerations are
+-- the text and words that are not reserved, strings are parts of it, numbers are within the limits, enumerations are
 -- nested at most 8 deep and have no element twice, record numbers grow, and what an attribute names and the units of
 -- types are declared.
 use mathlib.Core.Path.{_≡_}
 use mathlib.Core.Bool.{Bool, true, false, _||_}
 use mathlib.Core.Option.{none}
 use mathlib.Core.List.{List, [], _∷_}
-use Prim.Native.Nat.{ℕ, _+_, _≤_, _<_, _^_}
+use Prim.Native.Nat.{ℕ, _+_, _≤_, _<_}
 use lib.ListN.{length}
 use lib.IntN.{natAbs}
 use lib.Signed.{leZ}
 use Rattle.rules.specs.Names.{Name}
 use Rattle.rules.specs.Symbols.{Symbol, isNameText}
-use Rattle.rules.specs.Numbers.{Range, digits, valueOf, decimalsOf}
+use Rattle.rules.specs.Numbers.{mostDecimals, magnitudeLimit, Range, digits, valueOf, decimalsOf}
 use Rattle.rules.specs.Grammar as G
 use Rattle.rules.specs.Grammar.{Reference, Bounds, WrittenType, Written}
 use Rattle.rules.specs.Units as U
@@ -35,7 +35,7 @@ FairReference t (G.inModel m n) = InText t m × InText t n
 FairReference t (G.inTopic m p n) = InText t m × InText t p × InText t n
 
 abbrev pub FairNumber : Symbol → Type 0
-FairNumber y = (decimalsOf (y .bytes) ≤ 17) × (natAbs (valueOf (y .bytes)) < 10 ^ 18)
+FairNumber y = (decimalsOf (y .bytes) ≤ mostDecimals) × (natAbs (valueOf (y .bytes)) < magnitudeLimit)
 
 abbrev pub FairLength : Symbol → Type 0
 FairLength y = digits (y .bytes) 0 < 4294967296
@@ -83,7 +83,8 @@ FairLimit n = (0 < n) × (n < 4294967296)
 
 abbrev pub FairRange : Range → Type 0
 FairRange r =
-    (r .decimals ≤ 17) × (natAbs (r .low) < 10 ^ 18) × (natAbs (r .high) < 10 ^ 18) × (leZ (r .low) (r .high) ≡ true)
+    (r .decimals ≤ mostDecimals) × (natAbs (r .low) < magnitudeLimit) × (natAbs (r .high) < magnitudeLimit)
+    × (leZ (r .low) (r .high) ≡ true)
 
 -- a type that gives values
 abbrev pub Fair : List ℕ → Ty → Type 0

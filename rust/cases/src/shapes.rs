@@ -25,7 +25,8 @@ pub enum Shape {
     Enumeration(Tree),
 }
 
-const LIMIT: i128 = 1_000_000_000_000_000_000;
+const MOST_DECIMALS: u32 = 17;
+const LIMIT: i128 = 10i128.pow(MOST_DECIMALS + 1);
 const LENGTHS: [u64; 7] = [1, 2, 9, 10, 255, 70_000, 4_294_967_295];
 
 /// A shape of any kind but NUMERIC; small ones stay short when written.
@@ -45,15 +46,15 @@ pub fn fresh(random: &mut Random, small: bool) -> Shape {
 /// A range; small ones stay short when written.
 pub fn fresh_range(random: &mut Random, small: bool) -> Shape {
     let decimals = match random.below(if small { 12 } else { 6 }) {
-        0 => 17,
-        1 => 1 + random.below(17) as u32,
+        0 => MOST_DECIMALS,
+        1 => 1 + random.below(MOST_DECIMALS as usize) as u32,
         2 => 2,
         3 => 1,
         _ => 0,
     };
     let reach = match random.below(6) {
         0 if !small => LIMIT - 1,
-        1 => 10i128.pow(1 + random.below(17) as u32),
+        1 => 10i128.pow(1 + random.below(MOST_DECIMALS as usize) as u32),
         2 => 9,
         _ => 100,
     };
@@ -228,9 +229,9 @@ fn shorter(random: &mut Random, length: Option<u64>, beyond: bool) -> Option<u64
 fn narrower(random: &mut Random, decimals: u32, base: (i128, i128), beyond: bool) -> Shape {
     let finer = match random.below(4) {
         0 => decimals,
-        1 => random.below(18) as u32,
-        2 => (decimals + 1).min(17),
-        _ => (decimals + 2).min(17),
+        1 => random.below(MOST_DECIMALS as usize + 1) as u32,
+        2 => (decimals + 1).min(MOST_DECIMALS),
+        _ => (decimals + 2).min(MOST_DECIMALS),
     };
     let Some((decimals, low, high)) = allowed(finer, decimals, base) else {
         return narrower_same(random, decimals, base, beyond);

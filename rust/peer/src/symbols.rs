@@ -4,7 +4,7 @@ use crate::reserved::{self, Form, Word};
 use crate::Refusal;
 
 const LONGEST_WORD: usize = 255;
-const MOST_DIGITS: usize = 18;
+pub const MOST_DIGITS: usize = 18;
 
 /// What a byte may be in a word: nothing, a capital or digit, another byte.
 const OUTSIDE: u8 = 0;
@@ -188,7 +188,7 @@ impl<'t> Cursor<'t> {
     }
 
     /// Passes digits; gives their count and the value with them appended,
-    /// which is of no use beyond 18 digits.
+    /// which is of no use beyond `MOST_DIGITS`.
     fn digits(&mut self, before: i64) -> (usize, i64) {
         let start = self.at;
         let mut value = before;

@@ -1,9 +1,12 @@
 //! Types and the reading of numbers.
 
+use crate::symbols::MOST_DIGITS;
 use crate::units::{InPlace, Name};
 
-const MOST_DECIMALS: u64 = 17;
-const LIMIT: i64 = 1_000_000_000_000_000_000;
+/// One digit stands before the dot.
+const MOST_DECIMALS: u64 = MOST_DIGITS as u64 - 1;
+/// What no magnitude within scope reaches.
+const LIMIT: i64 = ten_to(MOST_DIGITS as u8);
 
 #[derive(Clone, Copy, Debug, PartialEq, Eq)]
 pub struct Range {
@@ -79,13 +82,24 @@ impl Range {
     }
 }
 
-/// The reading of a number with at most 18 digits at a base.
+/// One, multiplied by ten n times.
+const fn ten_to(n: u8) -> i64 {
+    let mut power = 1;
+    let mut left = n;
+    while left > 0 {
+        power *= 10;
+        left -= 1;
+    }
+    power
+}
+
+/// The reading at a base of a number below the limit.
 fn reading(value: i64, decimals: u8, base_decimals: u8) -> i128 {
     let value = i128::from(value);
     if decimals <= base_decimals {
-        return value * 10i128.pow(u32::from(base_decimals - decimals));
+        return value * i128::from(ten_to(base_decimals - decimals));
     }
-    let unit = 10i128.pow(u32::from(decimals - base_decimals));
+    let unit = i128::from(ten_to(decimals - base_decimals));
     (value + unit / 2).div_euclid(unit)
 }
 

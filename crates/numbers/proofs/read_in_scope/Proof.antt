@@ -24,7 +24,7 @@ returns c =
 returns-2 : tie.Need-returns-2
 returns-2 c =
     let z = c .before in
-    let t = z .before in
+    let t = z .before .before in
     let s = t .before .before in
     let p = t .ten-to2 .ensures in
     let k = div-lt-iff-lt-mul (ten-range _ (omega arith) p .0) .0 (c .if2 .taken) in
@@ -34,7 +34,7 @@ returns-2 c =
 times-requires : tie.Need-times-requires
 times-requires c κs =
     let z = c .before in
-    let p = ten-range _ (omega arith) (z .before .ten-to2 .ensures) in
+    let p = ten-range _ (omega arith) (z .before .before .ten-to2 .ensures) in
     let k = le-div-iff-mul-le (p .0) .0 (c .if2 .left) in
     (rw (← z .size .ensures) (omega arith), p .1)
 
@@ -42,7 +42,7 @@ returns-3 : tie.Need-returns-3
 returns-3 c =
     let i = c .before in
     let z = i .before in
-    let t = z .before in
+    let t = z .before .before in
     let s = t .before .before in
     let p = t .ten-to2 .ensures in
     let k = le-div-iff-mul-le (ten-range _ (omega arith) p .0) .0 (i .if2 .left) in
@@ -60,7 +60,9 @@ read-in-scope-spec =
     rounded-requires
     returns
     (λ c κs. search needs)
-    (λ c. ten-range _ (omega arith) (c .ten-to2 .ensures) .0)
+    (λ c κs. search needs)
+    (λ c. search needs)
+    (λ c. ten-range _ (omega arith) (c .before .ten-to2 .ensures) .0)
     (λ c κs. search needs)
     returns-2
     times-requires
