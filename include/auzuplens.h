@@ -45,11 +45,27 @@ static inline size_t auzuplens_extent(uint64_t answer)
 int64_t auzuplens_reading(int64_t value, uint64_t decimals, uint64_t base_decimals);
 uint64_t auzuplens_reading_refusal(int64_t value, uint64_t decimals, uint64_t base_decimals);
 
-/* The part of the text that is the name of the record with this number, packed;
- * the two functions below take it apart. It is the empty part at the text's
- * start if there is no such name. */
-uint64_t auzuplens_name(const uint8_t *text, size_t text_length,
-                        const uint8_t *book, size_t book_length, uint64_t record);
+/* What auzuplens_find gives where there is no such record. */
+#define AUZUPLENS_NONE UINT64_MAX
+
+/* Where the record with this number, counted from 0, begins in the book: the
+ * byte of its kind. AUZUPLENS_NONE if there is no such record, or it or one before
+ * it is cut off or of no kind. The zeros that a check leaves behind the book end
+ * it, so the buffer's length serves as well as the book's. A call walks the book
+ * from its front; to walk a book once, go on from a record that begins at `at`:
+ *
+ *     uint64_t further = auzuplens_find(book + at, book_length - at, 1);
+ *
+ * This is counted from `at`; behind the last record it is AUZUPLENS_NONE. */
+uint64_t auzuplens_find(const uint8_t *book, size_t book_length, uint64_t record);
+
+/* The part of the text that is the name of the record read from byte `beginning`
+ * of the book, packed; the two functions below take it apart. It is the empty
+ * part at the text's start if that is no byte of the book, as AUZUPLENS_NONE, if
+ * what begins there is of no kind, cut off or without a name, or if the name
+ * passes the text's end. A name of no bytes is the empty part at its own place. */
+uint64_t auzuplens_show(const uint8_t *text, size_t text_length,
+                        const uint8_t *book, size_t book_length, uint64_t beginning);
 
 /* Where the part starts in the text. */
 static inline size_t auzuplens_name_start(uint64_t part)

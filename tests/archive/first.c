@@ -1,5 +1,5 @@
-/* The archive from C: document 01's text of 63 bytes, its book and names, and
- * readings of numbers. Prints what is not as it must be. */
+/* The archive from C: document 01's text of 63 bytes, its book, records and names,
+ * and readings of numbers. Prints what is not as it must be. */
 #include <stdio.h>
 #include <string.h>
 
@@ -13,6 +13,47 @@ static void expect(const char *what, unsigned long long found, unsigned long lon
         printf("%s: %llu, and not %llu\n", what, found, expected);
         wrong = 1;
     }
+}
+
+/* The name of the record with this number, packed: found, then shown. */
+static uint64_t name_of(const uint8_t *text, size_t length, const uint8_t *book,
+                        size_t book_length, uint64_t record)
+{
+    uint64_t beginning = auzuplens_find(book, book_length, record);
+    return auzuplens_show(text, length, book, book_length, beginning);
+}
+
+/* Walks the records of a book once and holds their beginnings against these. */
+static void walk(const uint8_t *book, size_t length, const uint64_t *expected, size_t count)
+{
+    size_t found = 0;
+    uint64_t beginning = auzuplens_find(book, length, 0);
+    while (beginning != AUZUPLENS_NONE && found < count) {
+        expect("beginning of a record", beginning, expected[found++]);
+        uint64_t further = auzuplens_find(book + beginning, length - (size_t)beginning, 1);
+        beginning = further == AUZUPLENS_NONE ? further : beginning + further;
+    }
+    expect("records", found, count);
+    expect("the end of the records", beginning, AUZUPLENS_NONE);
+}
+
+/* The records of the book of 35 bytes, and their names. */
+static void records(const uint8_t *text, size_t length, const uint8_t *book)
+{
+    uint64_t part = name_of(text, length, book, 35, 1);
+    expect("start of the name", auzuplens_name_start(part), 47);
+    expect("length of the name", auzuplens_name_length(part), 1);
+    expect("the same name", auzuplens_show(text, length, book, 35, 6), part);
+    expect("name of a range", name_of(text, length, book, 35, 2), 0);
+    expect("no record", auzuplens_find(book, 35, 3), AUZUPLENS_NONE);
+    expect("its name", name_of(text, length, book, 35, 3), 0);
+    expect("name of none", auzuplens_show(text, length, book, 35, AUZUPLENS_NONE), 0);
+    expect("name from within a record", auzuplens_show(text, length, book, 35, 7), 0);
+    expect("name past the text", auzuplens_show(text, 47, book, 35, 6), 0);
+    const uint64_t beginnings[] = {0, 6, 17};
+    walk(book, 35, beginnings, 3);
+    walk(book, 34, beginnings, 2);
+    walk(book, 0, beginnings, 0);
 }
 
 int main(void)
@@ -31,10 +72,7 @@ int main(void)
     expect("last byte but seven", book[27], 40);
     expect("byte behind the buffer", book[35], 165);
 
-    uint64_t part = auzuplens_name(text, length, book, 35, 1);
-    expect("start of the name", auzuplens_name_start(part), 47);
-    expect("length of the name", auzuplens_name_length(part), 1);
-    expect("name of a range", auzuplens_name(text, length, book, 35, 2), 0);
+    records(text, length, book);
 
     answer = auzuplens_check(text, length, book, 34);
     expect("refused", auzuplens_number(answer), 19);

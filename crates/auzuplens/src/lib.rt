@@ -1,5 +1,6 @@
-// The three public operations, and their exports to C and Rust.
+// The four public operations, and their exports to C and Rust.
 use answers::Answer;
+use book::Found;
 use numbers::Reading;
 use state::Layout;
 ghost use mathlib.Core.Path.{_≡_};
@@ -7,13 +8,14 @@ ghost use mathlib.Core.Bool.{false};
 ghost use Prim.Native.Nat.{_+_, _*_, _≤_, _<_};
 ghost use lib.ListN.{length};
 ghost use Rattle.rules.specs.Numbers.{readNumber, readRefusal, readValue};
-ghost use Rattle.rules.specs.Show.{showName};
+ghost use Rattle.rules.specs.Show.{findRecord, showName};
 ghost use Rattle.rules.specs.Check.{lent, check};
 ghost use Rattle.rules.specs.Promise.{Promise};
 ghost use Rattle.numbers.specs.Answer.{Promised};
-ghost use Rattle.book.specs.Names.{Shows};
+ghost use Rattle.records.specs.Finding.{foundAt};
+ghost use Rattle.records.specs.Showing.{Shows};
 ghost use Rattle.answers.specs.Answers.{answerOf, full};
-ghost use Rattle.answers.specs.Packing.{packed, packedPart};
+ghost use Rattle.answers.specs.Packing.{packed, packedFound, packedPart};
 
 const HAND: usize = members::MOST + members::MOST;
 
@@ -101,7 +103,7 @@ fn check_medium(text: &[u8], book: &mut [u8]) -> Answer
 }
 
 // All texts, and all books.
-const LARGE: usize = 65535;
+pub const LARGE: usize = 65535;
 
 const LARGE_ROWS: usize = (LARGE / book::TOPIC_SIZE + 3) * names::WIDTH;
 
@@ -173,15 +175,25 @@ pub fn read_number(value: i64, decimals: u64, base_decimals: u64) -> Reading
     numbers::read_number(value, decimals, base_decimals)
 }
 
-// The part of the text that is the name of the record with this number; the empty part at the text's start where there
-// is none.
-pub fn show_name<'a>(text: &'a [u8], book: &[u8], record: usize) -> &'a [u8]
-    ensures { λ r. ⌜ Shows (text .entry) (now (book .entry)) «record» r ⌝ }
+// Where the record with this number begins in the book, or that it is not there: it or one before it does not exist, is
+// cut off or of no kind.
+pub fn find_record(book: &[u8], record: usize) -> Found
+    ensures { λ r. ⌜ foundAt r ≡ findRecord (now (book .entry)) «record» ⌝ }
 {
-    book::show_name(text, book, record)
+    records::find_record(book, record)
+}
+
+// The part of the text that is the name of the record that is read from this byte of the book on; the empty part at the
+// text's start where there is none.
+pub fn show_name<'a>(text: &'a [u8], book: &[u8], beginning: usize) -> &'a [u8]
+    ensures { λ r. ⌜ Shows (text .entry) (now (book .entry)) beginning r ⌝ }
+{
+    records::show_name(text, book, beginning)
 }
 
 // ---- for C and Rust
+const NONE: u64 = 18446744073709551615;
+
 #[no_mangle]
 pub extern "C" fn auzuplens_check(text: &[u8], book: &mut [u8]) -> u64
     ensures { λ r. ⌜ (r ≡ packed (check (now (text .entry)) (lent (length (now (book .entry)))) .answer))
@@ -209,10 +221,22 @@ pub extern "C" fn auzuplens_reading_refusal(value: i64, decimals: u64, base_deci
     r.number()
 }
 
+// Where the record begins; 2^64 - 1 where it is not there.
 #[no_mangle]
-pub extern "C" fn auzuplens_name(text: &[u8], book: &[u8], record: u64) -> u64
-    ensures { λ r. ⌜ r ≡ packedPart (showName (now (text .entry)) (now (book .entry)) «record») ⌝ }
+pub extern "C" fn auzuplens_find(book: &[u8], record: u64) -> u64
+    ensures { λ r. ⌜ r ≡ packedFound (findRecord (now (book .entry)) «record») ⌝ }
 {
-    let p = book::name_part(text, book, record as usize);
+    let f = find_record(book, record as usize);
+    match f {
+        Found::At(at) => at as u64,
+        Found::Nothing => NONE,
+    }
+}
+
+#[no_mangle]
+pub extern "C" fn auzuplens_show(text: &[u8], book: &[u8], beginning: u64) -> u64
+    ensures { λ r. ⌜ r ≡ packedPart (showName (now (text .entry)) (now (book .entry)) beginning) ⌝ }
+{
+    let p = records::name_part(text, book, beginning as usize);
     (p.start % 4294967296) as u64 * 256 + (p.len % 256) as u64
 }

@@ -1,5 +1,3 @@
 pub mod SizeLaws
-pub mod WalkLaws
-pub mod NameLaws
 pub mod FormLaws
 pub mod StandLaws

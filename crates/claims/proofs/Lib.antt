@@ -24,3 +24,4 @@ pub mod Demand3Laws
 pub mod UnplacedLaws
 pub mod UnplacedBookLaws
 pub mod UnplacedJudgeLaws
+pub mod FindingLaws

@@ -9,3 +9,4 @@ pub mod Numbered
 pub mod Demand3
 pub mod Distinct
 pub mod Unplaced
+pub mod Finding

@@ -9,7 +9,7 @@ use Rattle.rules.specs.Judge.{newTopic, newClass, newDomain, newAttribute, with
 use Rattle.rules.specs.Judge.{classRules, domainTo16, domainRules, attributeTo16, attributeRules, judge}
 use Rattle.rules.specs.Check.{run}
 use Rattle.rules.specs.Numbers.{readNumber}
-use Rattle.rules.specs.Show.{sizeOf, recordsFrom, isNamed, showName}
+use Rattle.rules.specs.Show.{sizeOf, recordsFrom, isNamed, findRecord, showName}
 
 -- to unfold it is to unfold all that its line names
 unfoldable pub computing : Unit {0}
@@ -19,5 +19,5 @@ unfolding
     classUnit domainUnit unitUnit attributeUnit endUnit wordStep bodyEnd bodyUnit memberUnit lastStep unitAt newTopic
     newClass newDomain newAttribute withAttribute extendsRules
     classRules domainTo16 domainRules attributeTo16 attributeRules judge run readNumber sizeOf recordsFrom isNamed
-    showName
+    findRecord showName
 computing = tt

@@ -5,4 +5,13 @@ use Rattle.computed.proofs.Computing.{computing}
 
 pub every-kind : EveryKind
 unfolding computing
-every-kind = record { size = refl; exact = refl; unit = refl; shown = refl }
+every-kind = record {
+  size = refl;
+  exact = refl;
+  unit = refl;
+  unit-name = refl;
+  domain = refl;
+  domain-name = refl;
+  last = refl;
+  end = refl;
+}

@@ -1,6 +1,6 @@
--- The example, its readings and its names hold: each is computed.
+-- The example, its readings, its records and its names hold: each is computed.
 use mathlib.Core.Path.{refl}
-use Rattle.computed.specs.Example.{Checks, Reads, Shows}
+use Rattle.computed.specs.Example.{Checks, Reads, Finds, Shows}
 use Rattle.computed.proofs.Computing.{computing}
 
 pub example : Checks
@@ -31,16 +31,37 @@ readings = record {
   nothing = refl;
 }
 
+pub found : Finds
+unfolding computing
+found = record {
+  model = refl;
+  domain = refl;
+  range = refl;
+  fourth = refl;
+  empty = refl;
+  cut = refl;
+  unknown = refl;
+  ended = refl;
+  before-cut = refl;
+  before-unknown = refl;
+}
+
 pub names : Shows
 unfolding computing
 names = record {
   model = refl;
   domain = refl;
   range = refl;
-  none = refl;
+  end = refl;
+  behind = refl;
+  nameless = refl;
+  middle-past = refl;
+  middle = refl;
   cut = refl;
   unknown = refl;
   last = refl;
   past = refl;
   bare = refl;
+  bare-end = refl;
+  bare-past = refl;
 }

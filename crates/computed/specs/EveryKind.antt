@@ -1,12 +1,13 @@
 -- Document 01, "The book", and document 02, No. 1: a text whose book has records of every kind from 1 to 19, and its
 -- book, written by hand.
 use mathlib.Core.Path.{_≡_}
+use mathlib.Core.Option.{none, some}
 use mathlib.Core.List.{List, [], _∷_}
 use Prim.Native.Nat.{ℕ}
 use Prim.Native.String.{String, _++_}
 use lib.ListN.{length}
 use Rattle.rules.specs.Check.{lent, accepting, check}
-use Rattle.rules.specs.Show.{showName}
+use Rattle.rules.specs.Show.{findRecord, showName}
 use Rattle.computed.specs.Cases.{modelOf}
 
 -- the lines begin at the places 40, 69, 106, 140, 179, 190, 290, 389, 398, 438 and 461
@@ -83,9 +84,14 @@ book =
     ∷ 8 ∷ 0 ∷ 0 ∷ 0 ∷ 0  -- 50: TEXT
     ∷ []
 
--- a buffer of the book's length; the name Foot, of a unit; and the name Word, before which records of every kind stand
+-- a buffer of the book's length; the unit Foot; the domain Word, before which records of every kind stand; the last
+-- record, and none behind it
 pub record EveryKind : Type 0 where
   pub size : length text ≡ 477
   pub exact : check text (lent 350) ≡ record { answer = accepting 350 15; buffer = book }
-  pub unit : showName text book 45 ≡ record { start = 419; length = 4 }
-  pub shown : showName text book 49 ≡ record { start = 461; length = 4 }
+  pub unit : findRecord book 45 ≡ some 289
+  pub unit-name : showName text book 289 ≡ record { start = 419; length = 4 }
+  pub domain : findRecord book 49 ≡ some 334
+  pub domain-name : showName text book 334 ≡ record { start = 461; length = 4 }
+  pub last : findRecord book 50 ≡ some 345
+  pub end : findRecord book 51 ≡ none

@@ -15,6 +15,7 @@ use Rattle.claims.specs.Demand3.{RefusedThere}
 use Rattle.computed.proofs.Marked.{marked-hold}
 use Rattle.claims.proofs.PromiseLaws.{same-accepted, same-refused, one-outcome, refused-zeros, accepted-book}
 use Rattle.claims.proofs.RankingLaws.{units-ranked, texts-ranked}
+use Rattle.claims.proofs.FindingLaws.{found-shown}
 use Rattle.claims.proofs.NumberedLaws.{refused-numbered}
 use Rattle.claims.proofs.DistinctLaws.{all-distinct}
 use Rattle.computed.proofs.ShutLaws.{shut}
@@ -24,7 +25,7 @@ use Rattle.answers.specs.declared.Answer.{Answer}
 use Rattle.answers.specs.declared.Answer.the-variants.{Accepted, Refused}
 use Rattle.answers.specs.Answers.{answerOf}
 use Rattle.demands.specs.Demands.{Gives, Demand1, Demand2, NumbersRead, Demand3, Demands}
-use Rattle.demands.proofs.PackLaws.{unpacks-answer, unpacks-name}
+use Rattle.demands.proofs.PackLaws.{unpacks-answer, unpacks-name, unpacks-found, shows-found}
 use Rattle.demands.proofs.FairLaws.{reached-fair, reached-typed}
 use Rattle.demands.proofs.ReadLaws.{numbers-read}
 
@@ -118,5 +119,8 @@ demands = record {
   descend = demand3 .descend;
   unit-kept = demand3 .unit-kept;
   shut = shut;
+  found-shown = found-shown;
+  exports = shows-found;
+  beginnings = unpacks-found;
   parts = unpacks-name;
 }

@@ -1,24 +1,29 @@
--- What is packed into one number can be taken out again: the answers of `check`, and the names that are shown.
-use mathlib.Core.Path.{_≡_, sym}
+-- What is packed into one number can be taken out again: the answers of `check`, the records that are
+-- found and the names that are shown.
+use mathlib.Core.Path.{_≡_, refl, sym, _∙_}
 use mathlib.Core.Bool.{Bool, true, false, cond}
+use mathlib.Core.Option.{Option, none, some}
 use mathlib.Core.List.{List, [], _∷_}
-use Prim.Native.Nat.{ℕ, zero, suc, _+_, _*_, _-_, _/_, _%_, _≤_, _<_}
+use Prim.Native.Nat.{ℕ, zero, suc, _+_, _*_, _-_, _^_, _/_, _%_, _≤_, _<_}
 use native.Mathlib.Omega.{arith}
-use lib.ListN.{length, getD, take}
+use lib.ListN.{length, getD, take, drop}
 use lib.Dec.{eqb, leb}
 use borrow.Author.Tests.{ne-eqb}
 use Rattle.rules.specs.All.{All}
 use Rattle.rules.specs.Book.{Record}
-use Rattle.rules.specs.Show.{sizeOf, recordsFrom, Part, noPart, read4, isNamed, nameIn, nameAt, showName}
+use Rattle.rules.specs.Show.{sizeOf, recordsFrom, recordsAt, Part, noPart, read4, isNamed, nameIn, firstName}
+use Rattle.rules.specs.Show.{findRecord, showName}
 use Rattle.rules.specs.Check.{lent, accepting, refusing, check}
 use Rattle.rules.proofs.Tests.{never}
 use Rattle.claims.specs.Ranking.{isIn}
 use Rattle.claims.specs.Numbered.{table, Small}
+use Rattle.claims.specs.Finding.{nameOf, shownAt}
+use Rattle.claims.proofs.FindingLaws.{found-shown}
 use Rattle.claims.proofs.NumberedLaws.{refused-numbered, accepted-small}
 use Rattle.answers.specs.declared.Answer.{Answer}
 use Rattle.answers.specs.declared.Answer.the-variants.{Accepted, Refused}
 use Rattle.answers.specs.Answers.{answerOf}
-use Rattle.answers.specs.Packing.{packed, packedPart, unpacked, unpackedPart}
+use Rattle.answers.specs.Packing.{packed, packedFound, packedPart, unpacked, unpackedFound, unpackedPart}
 
 -- ---- answers
 -- the halves of a number, and what is above them
@@ -112,11 +117,37 @@ name-unpacks t r h = go (isNamed (getD r 0 0)) (leb (read4 r 1 + getD r 5 0) (le
     go true false = no-part
     go false y = no-part
 
-names-unpack : (t : List ℕ) (l : List Record) (k : ℕ) → All Bytes l → Unpacks (nameAt t l k)
-names-unpack t [] k h = no-part
-names-unpack t (r ∷ l) zero h = name-unpacks t r (h .0)
-names-unpack t (r ∷ l) (suc k) h = names-unpack t l k (h .1)
+names-unpack : (t : List ℕ) (l : List Record) → All Bytes l → Unpacks (firstName t l)
+names-unpack t [] h = no-part
+names-unpack t (r ∷ l) h = name-unpacks t r (h .0)
 
-pub unpacks-name : (t b : List ℕ) (k : ℕ) → Bytes b → Unpacks (showName t b k)
+bytes-behind : (i : ℕ) (l : List ℕ) → Bytes l → Bytes (drop i l)
+bytes-behind zero l h = h
+bytes-behind (suc i) [] h = tt
+bytes-behind (suc i) (x ∷ l) h = bytes-behind i l (h .1)
+
+pub unpacks-name : (t b : List ℕ) (i : ℕ) → Bytes b → Unpacks (showName t b i)
 unfolding showName
-unpacks-name t b k h = names-unpack t (recordsFrom 0 b) k (records-bytes 0 b h)
+unpacks-name t b i h = names-unpack t (recordsAt b i) (records-bytes 0 (drop i b) (bytes-behind i b h))
+
+-- ---- what is found
+unpacks-place : (i : ℕ) → i < 2 ^ 64 - 1 → unpackedFound (packedFound (some i)) ≡ some i
+unpacks-place i h = rw (ne-eqb i (2 ^ 64 - 1) (λ e. omega arith))
+
+-- a book is shorter than 2^64 bytes
+pub unpacks-found : (b : List ℕ) (k : ℕ) → length b < 2 ^ 64
+    → unpackedFound (packedFound (findRecord b k)) ≡ findRecord b k
+unpacks-found b k h = pick (findRecord b k) refl
+  where
+    pick : (f : Option ℕ) → findRecord b k ≡ f → unpackedFound (packedFound f) ≡ f
+    pick none e = refl
+    pick (some i) e = unpacks-place i (omega (arith, found-shown .inside b k i e))
+
+-- the two in a row, by the numbers that the exports hand on
+pub shows-found : (t b : List ℕ) (k : ℕ) → length b < 2 ^ 64
+    → showName t b (packedFound (findRecord b k)) ≡ nameOf t b k
+shows-found t b k h = pick (findRecord b k) refl ∙ found-shown .in-a-row t b k
+  where
+    pick : (f : Option ℕ) → findRecord b k ≡ f → showName t b (packedFound f) ≡ shownAt t b (findRecord b k)
+    pick none e = found-shown .outside t b (2 ^ 64 - 1) (omega arith) ∙ rw e
+    pick (some i) e = rw e

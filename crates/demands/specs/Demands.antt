@@ -8,7 +8,7 @@ use mathlib.Core.Logic.{_↔_}
 use mathlib.Core.Bool.{true, false}
 use mathlib.Core.Option.{Option, some}
 use mathlib.Core.List.{List}
-use Prim.Native.Nat.{ℕ, _≤_, _<_}
+use Prim.Native.Nat.{ℕ, _^_, _≤_, _<_}
 use lib.ListN.{length}
 use lib.IntN.{ℤ}
 use Rattle.rules.specs.Numbers.{Range}
@@ -17,7 +17,7 @@ use Rattle.rules.specs.Types.{Measure, Ty, numeric, number, legal, reading}
 use Rattle.rules.specs.Declarations.{tyOf, Attribute, Def, State}
 use Rattle.rules.specs.Judge.{isDomain, judge, refused}
 use Rattle.rules.specs.Check.{lent, kept, run}
-use Rattle.rules.specs.Show.{showName}
+use Rattle.rules.specs.Show.{findRecord, showName}
 use Rattle.rules.specs.Promise.{Promise}
 use Rattle.rules.specs.All.{All}
 use Rattle.computed.specs.Cases.{Holds}
@@ -31,6 +31,7 @@ use Rattle.claims.specs.Steps.{Declared, baseOf, Nearest}
 use Rattle.claims.specs.Reached.{Judges}
 use Rattle.claims.specs.Demand3.{ModelReads, Extends, Misnumbered, Mismeasured}
 use Rattle.claims.specs.Distinct.{AllDistinct}
+use Rattle.claims.specs.Finding.{nameOf, FoundShown}
 use Rattle.computed.specs.Shut.{Shut}
 use Rattle.numbers.specs.declared.Reading.{Reading}
 use Rattle.numbers.specs.declared.Reading.the-variants.{Value}
@@ -38,7 +39,7 @@ use Rattle.numbers.specs.Answer.{Promised}
 use Rattle.answers.specs.declared.Answer.{Answer}
 use Rattle.answers.specs.declared.Answer.the-variants.{Accepted, Refused}
 use Rattle.answers.specs.Answers.{answerOf}
-use Rattle.answers.specs.Packing.{packed, packedPart, unpacked, unpackedPart}
+use Rattle.answers.specs.Packing.{packed, packedFound, packedPart, unpacked, unpackedFound, unpackedPart}
 
 abbrev pub Gives : List ℕ → ℕ → Answer → List ℕ → Type 0
 Gives t m r b = Promise t (lent m) (answerOf r) b
@@ -96,8 +97,7 @@ pub record Demand3 (t : List ℕ) (m : ℕ) : Type 0 where
       → (n p : ℕ) × (r ≡ Refused n p) × (judge s u ≡ refused n p) × (rank n ≤ rank 17)
 
 -- ---- all of it; and what the definitions are held to: every unit's rules stand in order, the marked examples,
--- elements stand once, units of numbers descend as 22 asks and a reading keeps its own, and what is shut out; and the
--- name that an export packs into one number can be taken out again, whatever bytes the book has
+-- elements stand once, units of numbers descend as 22 asks and a reading keeps its own, and what is shut out
 pub record Demands : Type 0 where
   pub demand1 : (t : List ℕ) (m : ℕ) → Demand1 t m
   pub demand2 : (t : List ℕ) (m : ℕ) → Demand2 t m
@@ -108,5 +108,13 @@ pub record Demands : Type 0 where
   pub descend : UnitsDescend
   pub unit-kept : UnitsKept
   pub shut : Shut
-  pub parts : (t b : List ℕ) (k : ℕ) → All (λ (x : ℕ). x < 256) b
-      → unpackedPart (packedPart (showName t b k)) ≡ showName t b k
+  -- finding a record and showing its name, one after the other, give what document 01 has as one operation, `nameOf`;
+  -- so do the exports, where 2^64 - 1, for one that is not there, is handed on untested: a slice has fewer bytes
+  pub found-shown : FoundShown
+  pub exports : (t b : List ℕ) (k : ℕ) → length b < 2 ^ 64
+      → showName t b (packedFound (findRecord b k)) ≡ nameOf t b k
+  -- what these exports pack into one number can be taken out again
+  pub beginnings : (b : List ℕ) (k : ℕ) → length b < 2 ^ 64
+      → unpackedFound (packedFound (findRecord b k)) ≡ findRecord b k
+  pub parts : (t b : List ℕ) (i : ℕ) → All (λ (x : ℕ). x < 256) b
+      → unpackedPart (packedPart (showName t b i)) ≡ showName t b i

@@ -13,6 +13,7 @@ ghost use Rattle.enumerations.specs.Standing.{Stands};
 ghost use Rattle.enumerations.specs.Records.{records, sizeOf};
 use book::ELEMENT_SIZE;
 use book::LIST_END_SIZE;
+use book::LIST_FINAL;
 use book::LIST_SIZE;
 use book::Part;
 use book::kinds;
@@ -113,7 +114,7 @@ pub fn inner_at(s: &[u8], at: usize) -> Inner
         return Inner {
             list: at + LIST_SIZE,
             there: true,
-            is_final: s[at + 1] == 1,
+            is_final: s[at + LIST_FINAL] == 1,
         };
     }
     Inner {

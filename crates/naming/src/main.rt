@@ -1,12 +1,27 @@
-// Names that books show: of each, a line with its length and its bytes.
+// Records that are found in books, and names that they show: of each, a line with where the record begins, the length
+// of its name and the name; a line with a dash where it is not there.
+use book::Found;
 use libc::STDOUT_FILENO;
 
-fn show(text: &[u8], book: &[u8], record: usize) {
-    let name = book::show_name(text, book, record);
+// The name of the record that is read from a byte on.
+fn show_at(text: &[u8], book: &[u8], beginning: usize) {
+    let name = records::show_name(text, book, beginning);
+    io::print_decimal(STDOUT_FILENO, beginning as u64);
+    io::write_all(STDOUT_FILENO, b" ");
     io::print_decimal(STDOUT_FILENO, name.len() as u64);
     io::write_all(STDOUT_FILENO, b" ");
     io::write_all(STDOUT_FILENO, name);
     io::write_all(STDOUT_FILENO, b"\n");
+}
+
+fn show(text: &[u8], book: &[u8], record: usize) {
+    let f = records::find_record(book, record);
+    match f {
+        Found::At(beginning) => show_at(text, book, beginning),
+        Found::Nothing => {
+            io::write_all(STDOUT_FILENO, b"-\n");
+        }
+    }
 }
 
 // By the book's first n bytes.
@@ -33,6 +48,12 @@ fn example() {
     show_cut(text, book, 34, 2);
     show_cut(text, book, 16, 1);
     show_cut(text, book, 0, 0);
+    // from other bytes than a record's first: the unit of a number, a model whose name passes the text's end; from the
+    // book's end and behind it
+    show_at(text, book, 1);
+    show_at(text, book, 11);
+    show_at(text, book, 35);
+    show_at(text, book, 18446744073709551615);
 }
 
 // A name that ends with the text, one past it, one of length 0, one at an offset beyond all.
@@ -45,7 +66,7 @@ fn ends() {
     show(text, b"\x02\xFF\xFF\xFF\xFF\xFF", 0);
 }
 
-// Each kind that has a name, the element and the unit last; what follows a record of no kind or of kind 0 is not shown.
+// Each kind that has a name; what follows a record of no kind or of kind 0 is not found.
 fn kinds() {
     let text = b"abc";
     show(text, b"\x04\x00\x00\x00\x00\x01\x00\xFF\xFF\xFF\xFF", 0);
@@ -62,6 +83,8 @@ fn kinds() {
     show(text, measured, 0);
     show(text, measured, 1);
     show(text, measured, 2);
+    // from the middle of the unit of a number, read as a domain
+    show_at(text, b"\x13\x07\x00\x00\x00\x00\x02\x00\x00\x00\x00\x00", 1);
     show(text, b"\x15\x01\x00\x00\x00\x00\x01", 1);
     show(text, b"\x00\x01\x00\x00\x00\x00\x01", 1);
     show(text, b"\xFF\x00\x00\x00\x00\x01", 0);

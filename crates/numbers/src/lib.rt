@@ -15,7 +15,7 @@ ghost use Rattle.numbers.specs.Answer.{numberOf, readingOf, Promised};
 ghost use Rattle.numbers.specs.Bounds.{lowFits, highFits};
 
 // "Sizes": how many decimals a number has at most.
-const MOST_DECIMALS: u64 = 17;
+pub const MOST_DECIMALS: u64 = 17;
 
 // The number that a symbol writes, without its dot, and its count of decimals.
 pub struct Number {

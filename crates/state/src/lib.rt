@@ -525,11 +525,13 @@ fn bit(b: bool, n: u8) -> u8
     if b { n } else { 0 }
 }
 
-// ABSTRACT, FINAL, EXTENDED, mandatory in effect.
 pub fn flags(is_abstract: bool, is_final: bool, extended: bool, mandatory: bool) -> u8
     ensures { λ r. ⌜ (r ≡ Book·flags «is_abstract» «is_final» extended mandatory) × (r < 16) ⌝ }
 {
-    bit(is_abstract, 1) + bit(is_final, 2) + bit(extended, 4) + bit(mandatory, 8)
+    bit(is_abstract, book::flags::ABSTRACT)
+        + bit(is_final, book::flags::FINAL)
+        + bit(extended, book::flags::EXTENDED)
+        + bit(mandatory, book::flags::MANDATORY)
 }
 
 // What stands in the book for no base.

@@ -1,102 +1,16 @@
 // The program behind `check`: the text on standard input, the verdict on standard output.
-use answers::Answer;
-use libc::STDERR_FILENO;
-use libc::STDIN_FILENO;
-use libc::STDOUT_FILENO;
-ghost use Prim.Native.Nat.{_+_, _≤_};
-ghost use lib.ListN.{length};
-ghost use Rattle.verdict.specs.Input.{Within};
-
-// How many bytes were read, or that reading failed.
-pub enum Input {
-    Read(usize),
-    Failed,
-}
-
-// One read, behind the first `done` bytes.
-fn read_more(text: &mut [u8], done: usize) -> Input
-    requires { ⌜ done ≤ length (now text) ⌝ }
-    ensures { λ r. ⌜ Within done (length (now (text .entry))) r ⌝ }
-{
-    let got = libc::read(STDIN_FILENO, &mut text[done..]);
-    if got < 0 {
-        return Input::Failed;
-    }
-    Input::Read(io::count(got, &text[done..]))
-}
-
-// Until the text is full or the input ends.
-fn read_all(text: &mut [u8]) -> Input
-    ensures { λ r. ⌜ Within 0 (length (now (text .entry))) r ⌝ }
-{
-    let mut done = 0;
-    while done < text.len() {
-        let i = read_more(text, done);
-        match i {
-            Input::Failed => {
-                return i;
-            }
-            Input::Read(n) => {
-                if n == 0 {
-                    return Input::Read(done);
-                }
-                done += n;
-            }
-        }
-    }
-    Input::Read(done)
-}
-
-// The rest of the input, up to 64 GiB.
-fn drain(space: &mut [u8]) {
-    let mut left: usize = 1048576;
-    while 0 < left {
-        left -= 1;
-        if libc::read(STDIN_FILENO, space) <= 0 {
-            return;
-        }
-    }
-}
-
-// What a text that is too long has more, so that whoever writes it is not cut off.
-fn pass_over(n: usize) {
-    if n < 65536 {
-        return;
-    }
-    let mut space = [0u8; 65536];
-    drain(&mut space);
-}
-
-fn say(word: &[u8], a: u64, b: u64) {
-    io::write_all(STDOUT_FILENO, word);
-    io::print_decimal(STDOUT_FILENO, a);
-    io::write_all(STDOUT_FILENO, b" ");
-    io::print_decimal(STDOUT_FILENO, b);
-    io::write_all(STDOUT_FILENO, b"\n");
-}
+use console::Input;
 
 fn judge(text: &[u8]) {
-    let mut book = [0u8; 65535];
-    let a = auzuplens::check_text(text, &mut book);
-    match a {
-        Answer::Accepted {
-            length,
-            definitions,
-        } => say(b"ok ", length as u64, definitions as u64),
-        Answer::Refused { number, place } => say(b"refused ", number as u64, place as u64),
-    }
+    let mut book = [0u8; auzuplens::LARGE];
+    console::say_verdict(auzuplens::check_text(text, &mut book));
 }
 
 fn main() {
-    let mut text = [0u8; 65536];
-    let i = read_all(&mut text);
+    let mut text = [0u8; console::ROOM];
+    let i = console::read_text(&mut text);
     match i {
-        Input::Failed => {
-            io::write_all(STDERR_FILENO, b"check: standard input cannot be read\n");
-        }
-        Input::Read(n) => {
-            pass_over(n);
-            judge(&text[..n]);
-        }
+        Input::Failed => {}
+        Input::Read(n) => judge(&text[..n]),
     }
 }

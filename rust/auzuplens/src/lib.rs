@@ -6,6 +6,8 @@
 //! usual 2 megabytes serves (`docs/BENCH.md`).
 #![deny(unsafe_op_in_unsafe_fn)]
 
+use std::iter::FusedIterator;
+
 unsafe extern "C" {
     fn auzuplens_check(
         text: *const u8,
@@ -15,14 +17,18 @@ unsafe extern "C" {
     ) -> u64;
     safe fn auzuplens_reading(value: i64, decimals: u64, base_decimals: u64) -> i64;
     safe fn auzuplens_reading_refusal(value: i64, decimals: u64, base_decimals: u64) -> u64;
-    fn auzuplens_name(
+    fn auzuplens_find(book: *const u8, book_length: usize, record: u64) -> u64;
+    fn auzuplens_show(
         text: *const u8,
         text_length: usize,
         book: *const u8,
         book_length: usize,
-        record: u64,
+        beginning: u64,
     ) -> u64;
 }
+
+/// What the archive gives for a record that is not there.
+const NONE: u64 = u64::MAX;
 
 /// The answer to a text.
 #[derive(Clone, Copy, Debug, PartialEq, Eq)]
@@ -68,13 +74,96 @@ pub fn read_number(value: i64, decimals: u64, base_decimals: u64) -> Result<i64,
     }
 }
 
-/// The part of the text that is the record's name; the empty part at its start
-/// if there is none.
-pub fn show_name<'a>(text: &'a [u8], book: &[u8], record: u64) -> &'a [u8] {
+/// Where the record with this number begins in the book; none if there is no such
+/// record, or it or one before it is cut off or of no kind.
+pub fn find_record(book: &[u8], record: usize) -> Option<usize> {
+    // SAFETY: it is a slice, so the pointer leads to its length of bytes; they are
+    // only read.
+    match unsafe { auzuplens_find(book.as_ptr(), book.len(), record as u64) } {
+        NONE => None,
+        beginning => Some(beginning as usize),
+    }
+}
+
+/// The part of the text that is the name of the record read from this byte of the
+/// book, wherever that is; the empty part at the text's start if there is none.
+pub fn show_name<'a>(text: &'a [u8], book: &[u8], beginning: usize) -> &'a [u8] {
     // SAFETY: both are slices, so each pointer leads to its length of bytes; they
     // are only read.
-    let part =
-        unsafe { auzuplens_name(text.as_ptr(), text.len(), book.as_ptr(), book.len(), record) };
+    let part = unsafe {
+        auzuplens_show(
+            text.as_ptr(),
+            text.len(),
+            book.as_ptr(),
+            book.len(),
+            beginning as u64,
+        )
+    };
     let (start, length) = ((part >> 8) as usize, (part & 0xFF) as usize);
     &text[start..start + length]
 }
+
+/// A record of a book: its number, and where it begins.
+#[derive(Clone, Copy, Debug, PartialEq, Eq)]
+pub struct Record<'b> {
+    book: &'b [u8],
+    number: usize,
+    beginning: usize,
+}
+
+impl Record<'_> {
+    /// Its number in the book, counted from 0.
+    pub fn number(&self) -> usize {
+        self.number
+    }
+
+    /// Where it begins in the book.
+    pub fn beginning(&self) -> usize {
+        self.beginning
+    }
+
+    /// The number of its kind.
+    pub fn kind(&self) -> u8 {
+        self.book[self.beginning]
+    }
+
+    /// The part of the text that is its name, as `show_name` gives it.
+    pub fn name<'a>(&self, text: &'a [u8]) -> &'a [u8] {
+        show_name(text, self.book, self.beginning)
+    }
+}
+
+/// The records of a book in order, up to the first that is cut off or of no kind.
+/// The book is walked once, in time linear in its records.
+pub fn records(book: &[u8]) -> Records<'_> {
+    let first = find_record(book, 0).map(|beginning| Record {
+        book,
+        number: 0,
+        beginning,
+    });
+    Records { next: first }
+}
+
+/// The records of a book that are still to come.
+#[derive(Clone, Debug)]
+pub struct Records<'b> {
+    next: Option<Record<'b>>,
+}
+
+impl<'b> Iterator for Records<'b> {
+    type Item = Record<'b>;
+
+    fn next(&mut self) -> Option<Record<'b>> {
+        let record = self.next?;
+        // The record behind one is record 1 of the book from that one on.
+        let behind = find_record(&record.book[record.beginning..], 1);
+        self.next = behind.map(|further| Record {
+            number: record.number + 1,
+            beginning: record.beginning + further,
+            ..record
+        });
+        Some(record)
+    }
+}
+
+impl FusedIterator for Records<'_> {}

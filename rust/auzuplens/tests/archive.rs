@@ -1,11 +1,12 @@
 //! The archive by way of the wrapper: document 01's examples, the part of the
-//! caller's text that a name is, long texts on a thread of 2 megabytes, and
-//! generated cases beside the independent checker.
+//! caller's text that a name is, the records of whole and of broken books, long
+//! texts on a thread of 2 megabytes, and generated cases beside the independent
+//! checker.
 
 use std::thread;
 
-use auzuplens::{check, read_number, show_name, Answer};
-use cases::{gen, gen_small, stretched};
+use auzuplens::{check, find_record, read_number, records, show_name, Answer};
+use cases::{any_beginning, any_book, any_record, gen, gen_small, stretched, Random};
 
 const THERMOMETER: &[u8] = br#"INTERLIS 2.4;MODEL M AT "u" VERSION "1"=DOMAIN T=-10..40;END M."#;
 
@@ -45,7 +46,15 @@ fn the_63_bytes() {
     let mut book = [1; 35];
     assert_eq!(check(THERMOMETER, &mut book), accepted(35, 1));
     assert_eq!(book[..6], [1, 19, 0, 0, 0, 1]);
-    assert_eq!(show_name(THERMOMETER, &book, 0), b"M");
+    let listed: Vec<_> = records(&book)
+        .map(|record| {
+            let name = record.name(THERMOMETER);
+            (record.number(), record.beginning(), record.kind(), name)
+        })
+        .collect();
+    let expected: [(usize, usize, u8, &[u8]); 3] =
+        [(0, 0, 1, b"M"), (1, 6, 7, b"T"), (2, 17, 10, b"")];
+    assert_eq!(listed, expected);
     assert_eq!(check(THERMOMETER, &mut book[..34]), refused(19, 47));
     assert_eq!(book[..34], [0; 34]);
     assert_eq!(check(b"", &mut []), refused(5, 0));
@@ -71,18 +80,104 @@ fn readings() {
 fn names_are_parts_of_the_text() {
     let mut book = [0; 35];
     check(THERMOMETER, &mut book);
-    assert!(std::ptr::eq(
-        show_name(THERMOMETER, &book, 1),
-        &THERMOMETER[47..48]
-    ));
-    for record in [2, 3, u64::MAX] {
-        assert!(std::ptr::eq(
-            show_name(THERMOMETER, &book, record),
-            &THERMOMETER[..0]
-        ));
+    let name = show_name(THERMOMETER, &book, 6);
+    assert!(std::ptr::eq(name, &THERMOMETER[47..48]));
+    for beginning in [5, 7, 17, 34, 35, 36, usize::MAX] {
+        let name = show_name(THERMOMETER, &book, beginning);
+        assert!(std::ptr::eq(name, &THERMOMETER[..0]), "{beginning}");
     }
-    assert_eq!(show_name(&THERMOMETER[..47], &book, 1), b"");
+    assert_eq!(show_name(&THERMOMETER[..47], &book, 6), b"");
     assert_eq!(show_name(b"", &[], 0), b"");
+}
+
+#[test]
+fn records_are_found() {
+    let mut book = [0; 35];
+    check(THERMOMETER, &mut book);
+    for (record, beginning) in [(0, 0), (1, 6), (2, 17)] {
+        assert_eq!(find_record(&book, record), Some(beginning));
+    }
+    for record in [3, 1 << 32, usize::MAX] {
+        assert_eq!(find_record(&book, record), None);
+    }
+    // What is behind the record asked for is not looked at.
+    assert_eq!(find_record(&book[..34], 1), Some(6));
+    assert_eq!(find_record(&book[..34], 2), None);
+    book[6] = 20;
+    assert_eq!(find_record(&book, 0), Some(0));
+    assert_eq!(find_record(&book, 1), None);
+    assert_eq!(find_record(&book, 2), None);
+    assert_eq!(find_record(&[], 0), None);
+}
+
+/// Walking a book gives what finding each record from the front does, and no more.
+#[track_caller]
+fn walks(text: &[u8], book: &[u8]) {
+    let mut walk = records(book);
+    for number in 0.. {
+        let found = find_record(book, number);
+        let record = walk.next();
+        assert_eq!(found, peer::find_record(book, number));
+        assert_eq!(record.map(|record| record.beginning()), found);
+        let Some(record) = record else { break };
+        assert_eq!(record.number(), number);
+        assert_eq!(record.kind(), book[record.beginning()]);
+        let name = peer::show_name(text, book, record.beginning());
+        assert!(std::ptr::eq(record.name(text), name));
+    }
+    assert_eq!(walk.next(), None);
+}
+
+#[test]
+fn books_are_walked() {
+    let mut book = [0; 36];
+    check(THERMOMETER, &mut book[..35]);
+    for length in 0..=book.len() {
+        walks(THERMOMETER, &book[..length]);
+    }
+    for (at, kind) in [
+        (0, 0),
+        (0, 255),
+        (6, 20),
+        (6, 3),
+        (17, 21),
+        (17, 14),
+        (35, 16),
+    ] {
+        let mut broken = book;
+        broken[at] = kind;
+        walks(THERMOMETER, &broken);
+    }
+    assert_eq!(records(&[3; 1_000]).count(), 1_000);
+    assert_eq!(records(&[]).count(), 0);
+}
+
+#[test]
+fn generated_books() {
+    for seed in 0..3_000 {
+        let case = if seed % 10 == 0 {
+            gen(seed)
+        } else {
+            gen_small(seed)
+        };
+        let mut book = vec![0; case.buffer_len];
+        let length = match check(&case.text, &mut book) {
+            Answer::Accepted { book_len, .. } => book_len,
+            Answer::Refused { .. } => 0,
+        };
+        book.truncate(length);
+        walks(&case.text, &book);
+        let mut random = Random::new(seed);
+        let book = any_book(&mut random, &case.text, book);
+        walks(&case.text, &book);
+        let (record, beginning) = (
+            any_record(&mut random, &book),
+            any_beginning(&mut random, &book),
+        );
+        assert_eq!(find_record(&book, record), peer::find_record(&book, record));
+        let name = peer::show_name(&case.text, &book, beginning);
+        assert!(std::ptr::eq(show_name(&case.text, &book, beginning), name));
+    }
 }
 
 #[test]

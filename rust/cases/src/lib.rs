@@ -2,6 +2,7 @@
 //! to three places, each with the length of a buffer to lend.
 #![forbid(unsafe_code)]
 
+mod books;
 mod chosen;
 mod damage;
 mod flavours;
@@ -12,6 +13,7 @@ mod sketch;
 pub mod stored;
 mod stretched;
 
+pub use books::{any_beginning, any_book, any_record, beginnings, book_of, is_named, SIZES};
 pub use chosen::chosen;
 pub use flavours::{flavours, FLAVOURS, LARGE_ONLY};
 use peer::Answer;

@@ -2,8 +2,8 @@
 
 use std::collections::HashMap;
 
-use cases::{flavours, gen, gen_small, Case, FLAVOURS, LARGE_ONLY, SMALL};
-use peer::{check, name_part, show_name, units, Answer};
+use cases::{flavours, gen, gen_small, is_named, Case, FLAVOURS, LARGE_ONLY, SIZES, SMALL};
+use peer::{check, find_record, show_name, units, Answer};
 
 /// Checks with a buffer of this length, full of other bytes before.
 fn checked(text: &[u8], length: usize) -> (Answer, Vec<u8>) {
@@ -77,25 +77,23 @@ fn a_buffer_of_the_books_length_is_enough_and_one_less_is_not() {
 
 /// Kinds of records that have a name, and the definitions among them.
 fn counted(text: &[u8], book: &[u8]) -> (usize, usize) {
-    let lengths = [
-        0, 6, 6, 1, 11, 11, 11, 11, 5, 5, 18, 1, 5, 2, 6, 1, 1, 5, 11, 5,
-    ];
     let (mut at, mut record, mut names, mut definitions) = (0, 0, 0, 0);
     while at < book.len() {
-        let kind = usize::from(book[at]);
-        let has_name = matches!(kind, 1 | 2 | 4..=7 | 14 | 18);
-        let (_, length) = name_part(text, book, record);
-        assert_eq!(has_name, length > 0);
+        let kind = book[at];
+        let has_name = is_named(kind);
+        assert_eq!(find_record(book, record), Some(at));
+        let name = show_name(text, book, at);
+        assert_eq!(has_name, !name.is_empty());
         if has_name {
-            let name = show_name(text, book, record);
             assert!(name[0].is_ascii_alphabetic());
             names += 1;
         }
         definitions += usize::from((4..=7).contains(&kind));
-        at += lengths[kind];
+        at += SIZES[usize::from(kind)];
         record += 1;
     }
     assert_eq!(at, book.len());
+    assert_eq!(find_record(book, record), None);
     (names, definitions)
 }
 

@@ -1,4 +1,4 @@
-//! The book: writing its records, and finding a record's name.
+//! The book: writing its records, finding one, and showing its name.
 
 use crate::enumerations::Piece;
 use crate::units::Name;
@@ -153,32 +153,31 @@ fn has_name(record_kind: u8) -> bool {
     named.contains(&record_kind) || is_definition(record_kind)
 }
 
-/// The record with this number, if it and all before it are whole.
-fn find(book: &[u8], record: u64) -> Option<&[u8]> {
-    let mut rest = book;
-    let mut before = record;
-    loop {
-        let length = record_length(*rest.first()?)?;
-        if length > rest.len() {
-            return None;
-        }
-        let (found, behind) = rest.split_at(length);
-        if before == 0 {
-            return Some(found);
-        }
-        before -= 1;
-        rest = behind;
-    }
+/// The record read from this byte of the book, if it is whole and of a kind.
+fn record_at(book: &[u8], beginning: usize) -> Option<&[u8]> {
+    let rest = book.get(beginning..)?;
+    let length = record_length(*rest.first()?)?;
+    rest.get(..length)
 }
 
-/// The start and length in the text of a record's name; the empty part at
-/// the text's start if there is none.
-pub fn name_part(text: &[u8], book: &[u8], record: u64) -> (usize, usize) {
-    let part = find(book, record)
-        .filter(|found| has_name(found[0]))
-        .map(|found| {
-            let place = [found[1], found[2], found[3], found[4]];
-            (u32::from_le_bytes(place) as usize, usize::from(found[5]))
+/// Where the record with this number begins, if it and all before it are whole
+/// and of a kind.
+pub fn find_record(book: &[u8], record: usize) -> Option<usize> {
+    let mut beginning = 0;
+    for _ in 0..record {
+        beginning += record_at(book, beginning)?.len();
+    }
+    record_at(book, beginning).map(|_| beginning)
+}
+
+/// The start and length in the text of the name of the record read from this
+/// byte of the book; the empty part at the text's start if there is none.
+pub fn name_part(text: &[u8], book: &[u8], beginning: usize) -> (usize, usize) {
+    let part = record_at(book, beginning)
+        .filter(|record| has_name(record[0]))
+        .map(|record| {
+            let place = [record[1], record[2], record[3], record[4]];
+            (u32::from_le_bytes(place) as usize, usize::from(record[5]))
         });
     match part {
         Some((start, length)) if start.saturating_add(length) <= text.len() => (start, length),
@@ -186,8 +185,8 @@ pub fn name_part(text: &[u8], book: &[u8], record: u64) -> (usize, usize) {
     }
 }
 
-/// The part of the text that is the record's name.
-pub fn show_name<'t>(text: &'t [u8], book: &[u8], record: u64) -> &'t [u8] {
-    let (start, length) = name_part(text, book, record);
+/// The part of the text that is the name of the record read from this byte.
+pub fn show_name<'t>(text: &'t [u8], book: &[u8], beginning: usize) -> &'t [u8] {
+    let (start, length) = name_part(text, book, beginning);
     &text[start..start + length]
 }

@@ -1,5 +1,5 @@
 //! A checker for model texts in a part of INTERLIS 2.4, after the rules of
-//! document 01 and of requests No. 1, 2 and 5 in document 02. It is read and
+//! document 01 and of requests No. 1, 2, 3 and 5 in document 02. It is read and
 //! written independently of the proved checker, to be compared with it and to be
 //! the baseline of its speed.
 #![forbid(unsafe_code)]
@@ -17,7 +17,7 @@ mod tables;
 mod types;
 mod units;
 
-pub use book::{name_part, show_name, LONGEST_BOOK};
+pub use book::{find_record, name_part, show_name, LONGEST_BOOK};
 pub use reserved::WORDS;
 pub use types::read_number;
 

@@ -1,8 +1,8 @@
-//! The book's records, the lent buffer, showing a name, reading a number.
+//! The book's records, the lent buffer, reading a number.
 
 mod common;
 use common::*;
-use peer::{name_part, read_number, show_name, Answer};
+use peer::{read_number, Answer};
 
 /// Renders a book, one record after the other, names from the text.
 fn rendered(text: &str, book: &[u8]) -> String {
@@ -119,8 +119,7 @@ fn units_byte_for_byte() {
                    13 02000000";
     assert_eq!(book, bytes(records));
     for (record, name) in ["M", "u", "v", "T", "", ""].iter().enumerate() {
-        let shown = show_name(text.as_bytes(), &book, record as u64);
-        assert_eq!(shown, name.as_bytes());
+        assert_eq!(shown(&text, &book, record), *name);
     }
 }
 
@@ -248,9 +247,9 @@ fn shared_elements_keep_the_bases_place() {
     let first = text.find("(a)").unwrap() + 1;
     let new = text.find("(b").unwrap() + 1;
     // 0 model, 1 domain, 2 to 4 list, 5 domain, 6 opens, 7 a, 8 b.
-    assert_eq!(name_part(text.as_bytes(), &book, 3), (first, 1));
-    assert_eq!(name_part(text.as_bytes(), &book, 7), (first, 1));
-    assert_eq!(name_part(text.as_bytes(), &book, 8), (new, 1));
+    for (record, place) in [(3, first), (7, first), (8, new)] {
+        assert_eq!(part(text.as_bytes(), &book, record), (place, 1));
+    }
 }
 
 #[test]
@@ -294,110 +293,6 @@ fn empty_buffers() {
     let (found, book) = answer_in(model("").as_bytes(), 6);
     assert!(matches!(found, Answer::Accepted { .. }));
     assert_eq!(book, bytes("01 13000000 01"));
-}
-
-#[test]
-fn names_shown() {
-    let text = model("TOPIC Tt=CLASS Cc=aa:(xx);END Cc;END Tt;");
-    let book = passes_text(&text);
-    let names = ["M", "Tt", "Cc", "aa", "", "xx", "", "", "", ""];
-    for (record, name) in names.iter().enumerate() {
-        let shown = show_name(text.as_bytes(), &book, record as u64);
-        assert_eq!(shown, name.as_bytes());
-    }
-    for record in [4, 6, 7, 8, 9, 1000, u64::MAX] {
-        assert_eq!(name_part(text.as_bytes(), &book, record), (0, 0));
-    }
-}
-
-#[test]
-fn names_of_cut_off_records() {
-    let text = b"abcdef";
-    let book = bytes("01 01000000 02  07 02000000 03 00 FFFFFFFF  0B");
-    assert_eq!(name_part(text, &book, 0), (1, 2));
-    assert_eq!(name_part(text, &book, 1), (2, 3));
-    for length in 0..book.len() {
-        let cut = &book[..length];
-        let first = if length < 6 { (0, 0) } else { (1, 2) };
-        let second = if length < 17 { (0, 0) } else { (2, 3) };
-        assert_eq!(name_part(text, cut, 0), first);
-        assert_eq!(name_part(text, cut, 1), second);
-        assert_eq!(name_part(text, cut, 2), (0, 0));
-    }
-}
-
-#[test]
-fn names_of_no_kind() {
-    let text = b"abcdef";
-    let name = "01 01000000 02";
-    for kind in [0u8, 20, 21, 64, 128, 255] {
-        let mut book = vec![kind];
-        book.extend(bytes(name));
-        book.extend([0; 20]);
-        for record in 0..8 {
-            assert_eq!(name_part(text, &book, record), (0, 0));
-        }
-        // What follows the record is not looked at.
-        let mut book = bytes(name);
-        book.push(kind);
-        assert_eq!(name_part(text, &book, 0), (1, 2));
-        assert_eq!(name_part(text, &book, 1), (0, 0));
-    }
-}
-
-#[test]
-fn names_behind_every_kind() {
-    let text = b"abcdef";
-    let bodies = [
-        (1, 5),
-        (2, 5),
-        (3, 0),
-        (4, 10),
-        (5, 10),
-        (6, 10),
-        (7, 10),
-        (8, 4),
-        (9, 4),
-        (10, 17),
-        (11, 0),
-        (12, 4),
-        (13, 1),
-        (14, 5),
-        (15, 0),
-        (16, 0),
-        (17, 4),
-        (18, 10),
-        (19, 4),
-    ];
-    for (kind, body) in bodies {
-        let mut book = vec![kind];
-        book.extend(vec![0; body]);
-        book.extend(bytes("0E 03000000 02"));
-        assert_eq!(name_part(text, &book, 1), (3, 2), "kind {kind}");
-        assert_eq!(name_part(text, &book, 0), (0, 0), "kind {kind}");
-    }
-}
-
-#[test]
-fn names_at_the_texts_end() {
-    let book = |place: u32, length: u8| {
-        let mut book = vec![14];
-        book.extend(place.to_le_bytes());
-        book.push(length);
-        book
-    };
-    let text = b"abcdef";
-    assert_eq!(name_part(text, &book(4, 2), 0), (4, 2));
-    assert_eq!(name_part(text, &book(4, 3), 0), (0, 0));
-    assert_eq!(name_part(text, &book(5, 2), 0), (0, 0));
-    assert_eq!(name_part(text, &book(u32::MAX, 255), 0), (0, 0));
-    // A name of length 0 is the empty part at its own offset.
-    assert_eq!(name_part(text, &book(3, 0), 0), (3, 0));
-    assert_eq!(name_part(text, &book(6, 0), 0), (6, 0));
-    assert_eq!(name_part(text, &book(7, 0), 0), (0, 0));
-    assert_eq!(show_name(text, &book(7, 0), 0), b"");
-    assert_eq!(show_name(b"", &book(0, 1), 0), b"");
-    assert_eq!(name_part(b"", b"", 0), (0, 0));
 }
 
 #[test]

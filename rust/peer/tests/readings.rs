@@ -194,7 +194,7 @@ fn records(text: &str, book: &[u8]) -> Vec<(u8, u8, Vec<u8>)> {
     let mut at = 0;
     while at < book.len() {
         let flag = if book[at] == 13 { book[at + 1] } else { 0 };
-        let name = show_name(text.as_bytes(), book, records.len() as u64);
+        let name = show_name(text.as_bytes(), book, at);
         records.push((book[at], flag, name.to_vec()));
         at += match book[at] {
             1 | 14 => 6,

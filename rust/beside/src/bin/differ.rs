@@ -3,21 +3,24 @@
 //! if not said otherwise.
 //!
 //! Of each seed: a case of `gen_small`, of every fourth seed one of `gen` too,
-//! with the answers and the whole buffers, full of other bytes before; the names
-//! of some records, of the book as it is, cut off or changed; a reading.
+//! with the answers and the whole buffers, full of other bytes before; by its book
+//! as it is, broken, or of any bytes, records found and names shown, now and then
+//! all of them; a reading.
 
 use std::process::ExitCode;
 
 use auzuplens::Answer;
 use beside::{printed, Checker};
-use cases::{gen, gen_small, Case, Random};
+use cases::{any_beginning, any_book, any_record, gen, gen_small, Case, Random};
 
 /// What was compared, and how often it differed.
 #[derive(Default)]
 struct Tally {
     accepted: u64,
     refused: [u64; 23],
-    names: u64,
+    found: u64,
+    shown: u64,
+    walked: u64,
     readings: u64,
     differences: u64,
 }
@@ -51,27 +54,60 @@ impl Tally {
         }
     }
 
-    /// Names by the book as it is, cut off, or changed in a byte.
-    fn names(&mut self, random: &mut Random, word: &str, text: &[u8], mut book: Vec<u8>) {
-        let mut text = text;
-        match random.below(4) {
-            0 if !book.is_empty() => book.truncate(random.below(book.len())),
-            1 if !book.is_empty() => {
-                let at = random.below(book.len());
-                book[at] = random.below(256) as u8;
-            }
-            2 => text = &text[..random.below(text.len() + 1)],
-            _ => book.push(random.below(22) as u8),
+    fn find(&mut self, word: &str, book: &[u8], record: usize) -> Option<usize> {
+        self.found += 1;
+        let found = auzuplens::find_record(book, record);
+        let wanted = peer::find_record(book, record);
+        if found != wanted {
+            let what = format!("{word}, finding record {record} in {book:?}");
+            self.differs(&what, &format!("{found:?}"), &format!("{wanted:?}"));
         }
-        for _ in 0..4 {
-            let record = random.below(1 + book.len() / 3) as u64;
-            self.names += 1;
-            let found = auzuplens::show_name(text, &book, record);
-            let wanted = peer::show_name(text, &book, record);
-            if !std::ptr::eq(found, wanted) {
-                let what = format!("{word}, name of record {record}");
-                self.differs(&what, &format!("{found:?}"), &format!("{wanted:?}"));
+        found
+    }
+
+    fn show(&mut self, word: &str, text: &[u8], book: &[u8], beginning: usize) {
+        self.shown += 1;
+        let found = auzuplens::show_name(text, book, beginning);
+        let wanted = peer::show_name(text, book, beginning);
+        if !std::ptr::eq(found, wanted) {
+            let what = format!("{word}, the name from byte {beginning} of {book:?}");
+            self.differs(&what, &format!("{found:?}"), &format!("{wanted:?}"));
+        }
+    }
+
+    /// Every record of a book, walked once and found from the front.
+    fn walk(&mut self, word: &str, text: &[u8], book: &[u8]) {
+        let mut walk = auzuplens::records(book);
+        for number in 0.. {
+            let found = self.find(word, book, number);
+            let walked = walk.next();
+            let reached = walked.map(|record| (record.number(), record.beginning()));
+            let wanted = found.map(|beginning| (number, beginning));
+            if reached != wanted {
+                let what = format!("{word}, walking to record {number} of {book:?}");
+                self.differs(&what, &format!("{reached:?}"), &format!("{wanted:?}"));
             }
+            let Some(beginning) = found else { break };
+            self.walked += 1;
+            self.show(word, text, book, beginning);
+        }
+    }
+
+    /// Some records of a book like this one, and names from some of its bytes.
+    fn records(&mut self, random: &mut Random, word: &str, text: &[u8], book: Vec<u8>) {
+        let book = any_book(random, text, book);
+        let text = match random.below(8) {
+            0 => &text[..random.below(text.len() + 1)],
+            _ => text,
+        };
+        for _ in 0..2 {
+            let record = any_record(random, &book);
+            let found = self.find(word, &book, record);
+            self.show(word, text, &book, found.unwrap_or(usize::MAX));
+            self.show(word, text, &book, any_beginning(random, &book));
+        }
+        if random.chance(1, 16) {
+            self.walk(word, text, &book);
         }
     }
 
@@ -101,12 +137,12 @@ impl Tally {
         let word = format!("small case {seed}");
         let small = gen_small(seed);
         let book = self.case(&word, &small);
-        self.names(&mut random, &word, &small.text, book);
+        self.records(&mut random, &word, &small.text, book);
         if seed.is_multiple_of(4) {
             let word = format!("case {seed}");
             let large = gen(seed);
             let book = self.case(&word, &large);
-            self.names(&mut random, &word, &large.text, book);
+            self.records(&mut random, &word, &large.text, book);
         }
         self.reading(&mut random);
     }
@@ -116,7 +152,9 @@ impl Tally {
         for (number, cases) in self.refused.iter().enumerate().skip(1) {
             println!("refused {number:>2} {cases:>7}");
         }
-        println!("names    {:>9}", self.names);
+        println!("found    {:>9}", self.found);
+        println!("shown    {:>9}", self.shown);
+        println!("walked   {:>9}", self.walked);
         println!("readings {:>9}", self.readings);
         println!("differences {}", self.differences);
     }

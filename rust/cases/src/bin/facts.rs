@@ -3,14 +3,15 @@
 //! --chosen FOLDER` for the larger cases drawn up by hand, a module each.
 //!
 //! FOLDER is the crate that takes them; it gets a module of 25 facts for each 25
-//! cases, and with every tenth case one of reading a number and one of showing a
-//! name. What refuted facts there are, the prover lists.
+//! cases, and with every tenth case one of reading a number, one of finding a
+//! record and one of showing a name. What refuted facts there are, the prover
+//! lists.
 
 use std::fmt::Write as _;
 use std::path::Path;
 use std::{fs, io};
 
-use cases::{chosen, gen, gen_small, Case, Random};
+use cases::{any_beginning, any_book, any_record, book_of, chosen, gen, gen_small, Case, Random};
 use peer::Answer;
 
 /// How many cases a module holds.
@@ -36,7 +37,7 @@ const OPENED: [(&str, &str); 7] = [
     ),
     ("Check", "run"),
     ("Numbers", "readNumber"),
-    ("Show", "sizeOf recordsFrom isNamed showName"),
+    ("Show", "sizeOf recordsFrom isNamed findRecord showName"),
 ];
 
 /// A text as a literal: one character for each byte.
@@ -107,25 +108,27 @@ fn read_fact(name: &str, random: &mut Random) -> String {
     format!("{name} : readNumber {} {from} {to} ≡ {read}", whole(value))
 }
 
-/// A record of a case's book, or of a book cut off or changed in one byte.
-fn show_fact(name: &str, case: &Case, random: &mut Random) -> String {
-    let mut buffer = vec![0; peer::LONGEST_BOOK];
-    let mut book = match peer::check(&case.text, &mut buffer) {
-        Answer::Accepted { book_len, .. } => buffer[..book_len].to_vec(),
-        Answer::Refused { .. } => vec![1, 2, 0, 0, 0, 3, 2, 4, 0, 0, 0, 1, 3],
+/// A case's book, or a broken one.
+fn drawn_book(case: &Case, random: &mut Random) -> Vec<u8> {
+    any_book(random, &case.text, book_of(&case.text))
+}
+
+fn find_fact(name: &str, case: &Case, random: &mut Random) -> String {
+    let book = drawn_book(case, random);
+    let record = any_record(random, &book);
+    let found = match peer::find_record(&book, record) {
+        Some(beginning) => format!("some {beginning}"),
+        None => String::from("none"),
     };
-    match random.below(3) {
-        0 => book.truncate(random.below(book.len() + 1)),
-        1 => {
-            let at = random.below(book.len());
-            book[at] = random.below(256) as u8;
-        }
-        _ => book.push(0),
-    }
-    let record = random.below(12);
-    let (start, length) = peer::name_part(&case.text, &book, record as _);
+    format!("{name} : findRecord {} {record} ≡ {found}", list(&book))
+}
+
+fn show_fact(name: &str, case: &Case, random: &mut Random) -> String {
+    let book = drawn_book(case, random);
+    let beginning = any_beginning(random, &book);
+    let (start, length) = peer::name_part(&case.text, &book, beginning);
     format!(
-        "{name} : showName {} {} {record} ≡ record {{ start = {start}; length = {length} }}",
+        "{name} : showName {} {} {beginning} ≡ record {{ start = {start}; length = {length} }}",
         literal(&case.text),
         list(&book)
     )
@@ -134,7 +137,8 @@ fn show_fact(name: &str, case: &Case, random: &mut Random) -> String {
 /// A module of facts, each with its proof: that both sides compute to the same.
 fn module(facts: &[String]) -> String {
     let mut text = String::from(
-        "use mathlib.Core.Path.{_≡_, refl}\nuse mathlib.Core.List.{List, [], _∷_}\nuse Prim.Native.Nat.{ℕ}\n\
+        "use mathlib.Core.Path.{_≡_, refl}\nuse mathlib.Core.List.{List, [], _∷_}\n\
+         use mathlib.Core.Option.{Option, some, none}\nuse Prim.Native.Nat.{ℕ}\n\
          use lib.IntN.{ℤ, pos, negsuc}\nuse Rattle.rules.specs.Bytes.{ascii}\nuse Rattle.rules.specs.Book.{padded}\n\
          use Rattle.rules.specs.Numbers.{reads, notRead}\nuse Rattle.rules.specs.Show.{Part}\n\
          use Rattle.rules.specs.Check.{lent, check, Checked, accepting, refusing}\n",
@@ -153,13 +157,15 @@ fn module(facts: &[String]) -> String {
     text
 }
 
-/// The facts of one seed: of its case, and of every tenth a reading and a name.
+/// The facts of one seed: of its case, and of every tenth a reading, a record and
+/// a name.
 fn seed_facts(seed: u64, large: bool) -> Vec<String> {
     let case = if large { gen(seed) } else { gen_small(seed) };
     let mut random = Random::new(seed ^ 0xFAC7);
     let mut facts = vec![check_fact(&format!("c{seed}"), &case)];
     if seed.is_multiple_of(10) {
         facts.push(read_fact(&format!("r{seed}"), &mut random));
+        facts.push(find_fact(&format!("f{seed}"), &case, &mut random));
         facts.push(show_fact(&format!("s{seed}"), &case, &mut random));
     }
     facts

@@ -2,7 +2,7 @@
 //! stands for itself nowhere in these texts.
 #![allow(dead_code)]
 
-use peer::{check, Answer};
+use peer::{check, find_record, name_part, Answer};
 
 pub const HEAD: &str = r#"INTERLIS 2.4;MODEL M AT "u" VERSION "1"="#;
 
@@ -98,4 +98,16 @@ pub fn bytes(hexadecimal: &str) -> Vec<u8> {
         .chunks(2)
         .map(|pair| (pair[0] * 16 + pair[1]) as u8)
         .collect()
+}
+
+/// Where the name of the record with this number stands: found, then shown.
+pub fn part(text: &[u8], book: &[u8], record: usize) -> (usize, usize) {
+    let beginning = find_record(book, record).unwrap_or(usize::MAX);
+    name_part(text, book, beginning)
+}
+
+/// The name of the record with this number.
+pub fn shown<'t>(text: &'t str, book: &[u8], record: usize) -> &'t str {
+    let (start, length) = part(text.as_bytes(), book, record);
+    &text[start..start + length]
 }

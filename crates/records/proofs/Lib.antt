@@ -1,0 +1,4 @@
+pub mod WalkLaws
+pub mod ListLaws
+pub mod NameLaws
+pub mod Held
