@@ -1,8 +1,8 @@
 use Rattle.records.proofs.ListLaws.{end-inside}
 use native.Mathlib.Omega.{arith}
 use borrow.Author.Needs.{needs}
-use Rattle.listing.proofs.put_record.Statement.{statement}
-use Rattle.listing.proofs.put_record.Tie as tie
+use Rattle.lines.proofs.put_record.Statement.{statement}
+use Rattle.lines.proofs.put_record.Tie as tie
 
 sub-record : tie.Need-sub-record
 sub-record c = omega (arith, end-inside _ _ _ (c .before .before .pre .1))

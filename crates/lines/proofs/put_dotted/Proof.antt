@@ -2,8 +2,8 @@ use native.Mathlib.Nat.{mod-lt}
 use native.Mathlib.Omega.{arith}
 use Rattle.numbers.proofs.PowerLaws.{ten-range}
 use borrow.Author.Needs.{needs}
-use Rattle.listing.proofs.put_dotted.Statement.{statement}
-use Rattle.listing.proofs.put_dotted.Tie as tie
+use Rattle.lines.proofs.put_dotted.Statement.{statement}
+use Rattle.lines.proofs.put_dotted.Tie as tie
 
 div-put-number : tie.Need-div-put-number
 div-put-number c = omega (arith, ten-range _ (c .before .pre) (c .ten-to .ensures))

@@ -9,8 +9,8 @@ use Rattle.records.specs.Finding.{foundAt, recordEnd, Listed}
 use Rattle.records.proofs.ListLaws.{listed-first, end-inside, listed-here, listed-next}
 use native.Mathlib.Omega.{arith}
 use borrow.Author.Needs.{needs}
-use Rattle.listing.proofs.list.Statement.{statement}
-use Rattle.listing.proofs.list.Tie as tie
+use Rattle.lines.proofs.list.Statement.{statement}
+use Rattle.lines.proofs.list.Tie as tie
 
 abbrev Inv-loop : tie.InvT-loop
 Inv-loop text book at₀ number₀ at number = (at ≤ length book) × (number ≤ at) × Listed book number at
