@@ -6,9 +6,7 @@ use mathlib.Core.List.{List, [], _∷_, _++_, append-assoc, append-nil}
 use Prim.Native.Nat.{ℕ, zero, suc, _-_}
 use native.Mathlib.Omega.{arith}
 use lib.ListN.{length, replicate, length-append}
-use lib.Seq.{take-append-seam}
-use lib.Dec.{leb}
-use borrow.Author.Tests.{le-leb, ne-eqb}
+use lib.Seq.{take-append-seam, drop-append-seam}
 use Rattle.rules.specs.Enumerations.{Enum, end, elem}
 use Rattle.rules.specs.Types.{Measure, Ty, text, numeric, structure, enum}
 use Rattle.rules.specs.Declarations as D
@@ -19,6 +17,7 @@ use Rattle.rules.specs.Book.{declsRecords, openRecords, records, bytes, book, p
 use Rattle.rules.specs.Show.{sizeOf, recordsFrom}
 use Rattle.rules.specs.All.{All}
 use Rattle.rules.proofs.AllLaws.{all-append}
+use Rattle.rules.proofs.RecordLaws.{front}
 
 -- ---- a record has the size of its kind
 abbrev Sized : Record → Type 0
@@ -98,21 +97,12 @@ records-sized s = all-append Sized (declsRecords (s .decls)) (openRecords (s .op
     go (some c) = head-sized (c .sort) c
 
 -- ---- reading them again
-skip : (l rest : List ℕ) → recordsFrom (length l) (l ++ rest) ≡ recordsFrom 0 rest
-unfolding recordsFrom
-skip [] rest = refl
-skip (b ∷ l) rest = skip l rest
-
 one : (b : ℕ) (r rest : List ℕ) → sizeOf b ≡ suc (length r)
     → recordsFrom 0 (b ∷ (r ++ rest)) ≡ (b ∷ r) ∷ recordsFrom 0 rest
-unfolding recordsFrom
 one b r rest e =
-    let x = ne-eqb (suc (length r)) 0 (λ q. omega arith) in
     let l = length-append r rest in
-    let y : leb (suc (length r)) (length (b ∷ (r ++ rest)))
-    ≡ true = le-leb (suc (length r)) (length (b ∷ (r ++ rest))) (omega arith) in
-    let z : suc (length r) - 1 ≡ length r = omega arith in
-    rw (e, x, y, z, skip r rest, take-append-seam r rest)
+    front (b ∷ (r ++ rest)) (suc (length r)) e (omega arith) (omega arith)
+    ∙ rw (take-append-seam r rest, drop-append-seam r rest)
 
 all : (l : List Record) (rest : List ℕ) → All Sized l → recordsFrom 0 (bytes l ++ rest) ≡ l ++ recordsFrom 0 rest
 all [] rest h = refl

@@ -476,7 +476,7 @@ judged-there : (t : List ℕ) (g : Given) (s : State) (u : U.Unit) → Judges t 
     → Refuses m (judge s u) → RefusedThere t g s u k
 judged-there t g s u j k m e (n, p, z, l) =
     let r = judged-run t g j n p (ap (room g (unitPlace u)) z) in
-    record { number = n; place = p; answers = ap answerOf r; refuses = z; by = omega (arith, e, l) }
+    record { number = n; place = p; answers = ap (answerOf t) r; refuses = z; by = omega (arith, e, l) }
 
 value-refuses : ValueRefuses
 value-refuses t g s u j x b e o =

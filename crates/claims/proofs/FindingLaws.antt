@@ -56,17 +56,17 @@ shifted i j (r ∷ l) zero = refl
 shifted i j (r ∷ l) (suc m) = rw (add-assoc i j (length r)) (shifted i (j + length r) l m)
 
 -- what is found from the place j on lies in the book, and the records behind it are read there
-abbrev Found : List ℕ → ℕ → ℕ → ℕ → Type 0
-Found b k j i = (i < length b) × (recordsAt b i ≡ drop k (recordsAt b j))
+abbrev FoundAt : List ℕ → ℕ → ℕ → ℕ → Type 0
+FoundAt b k j i = (i < length b) × (recordsAt b i ≡ drop k (recordsAt b j))
 
 -- nothing is found where nothing stands
 nothing : {A : Type 0} (b : List ℕ) (k j i : ℕ) → recordsAt b j ≡ [] → beginningIn j (recordsAt b j) k ≡ some i → A
 nothing b k j i e f = absurd (Option·some-ne-none i (sym f ∙ begin-none j (recordsAt b j) k e))
 
-found : (b : List ℕ) (k j i : ℕ) → beginningIn j (recordsAt b j) k ≡ some i → Found b k j i
+found : (b : List ℕ) (k j i : ℕ) → beginningIn j (recordsAt b j) k ≡ some i → FoundAt b k j i
 found b zero j i f = ⊎-elim (λ e. nothing b 0 j i e f) (λ (n, w). here n w) (look b j)
   where
-    here : (n : ℕ) → Whole b j n → Found b 0 j i
+    here : (n : ℕ) → Whole b j n → FoundAt b 0 j i
     here n w =
         let e : j ≡ i = Option·some-injective j i (sym (begin-here w) ∙ f) in
         (omega (arith, w .some, w .within, e), ap (recordsAt b) (sym e))
@@ -74,7 +74,7 @@ found b (suc k) j i f =
     ⊎-elim (λ e. nothing b (suc k) j i e f)
     (λ (n, w). next n w (found b k (j + n) i (sym (begin-suc k w) ∙ f))) (look b j)
   where
-    next : (n : ℕ) → Whole b j n → Found b k (j + n) i → Found b (suc k) j i
+    next : (n : ℕ) → Whole b j n → FoundAt b k (j + n) i → FoundAt b (suc k) j i
     next n w (h, e) = (h, e ∙ sym (ap (λ (l : List Record). drop (suc k) l) (w .first)))
 
 onward : (b : List ℕ) (k m i : ℕ) → findRecord b k ≡ some i → findRecord b (k + m) ≡ behind i (findRecord (drop i b) m)

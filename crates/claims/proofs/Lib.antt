@@ -25,3 +25,4 @@ pub mod UnplacedLaws
 pub mod UnplacedBookLaws
 pub mod UnplacedJudgeLaws
 pub mod FindingLaws
+pub mod LocatedLaws

@@ -1,4 +1,4 @@
--- All refusal has a number of the table and a place of the text, and every acceptance is small.
+-- Every refusal has a number of the table and a place of the text, and every acceptance is small.
 use mathlib.Core.Path.{_≡_, refl, sym, subst}
 use mathlib.Core.Logic.{_⊎_, inl, inr, ⊎-elim}
 use mathlib.Core.Bool.{Bool, true, false, cond, _&&_}
@@ -9,6 +9,9 @@ use lib.ListN.{length, length-append}
 use lib.Dec.{eqb}
 use borrow.Author.Tests.{eqb-true, ltb-false}
 use Rattle.rules.specs.Symbols.{Fault, too-long, no-symbol, unclosed, too-large, impossible, reserved, numberOf}
+use Rattle.rules.specs.Symbols.{symbolAt}
+use Rattle.rules.specs.Readers as R
+use Rattle.rules.specs.Units.{Where, unitAt}
 use Rattle.rules.specs.Declarations.{State}
 use Rattle.rules.specs.Book.{Record, bytes, isDefinition, definitions, records}
 use Rattle.rules.specs.Judge.{rule}
@@ -23,7 +26,7 @@ use Rattle.claims.proofs.StateLaws.{in-all, in-right}
 use Rattle.claims.proofs.RunLaws.{reached-place, reached-reads}
 use Rattle.claims.proofs.PromiseLaws.{accepted-book}
 use Rattle.claims.proofs.RankingLaws.{units-ranked, of-order-in, texts-ranked}
-use Rattle.claims.proofs.UnitLaws.{UnitIn, Ends, Read, unit-read}
+use Rattle.claims.proofs.UnitLaws.{UnitIn, Stops, Ends, Read, unit-read}
 use Rattle.claims.proofs.PlaceLaws.{RuleIn, all-rules-in}
 
 -- ---- numbers
@@ -52,26 +55,33 @@ module _ (t : List ℕ) (g : Given) where
   reached-short (begin e) = ltb-false 65535 (length t) e
   reached-short (pass r o q y x e j) = reached-short r
 
+  pub stuck-stops : {k : ℕ} {w : Where} {s : State} {at p : ℕ} {f : Fault} → Reaches t g (suc k) w s at
+      → unitAt w t (symbolAt t at) ≡ R.refused f p → Stops t f p
+  stuck-stops {w} {at} r q = subst (Ends t 0 (Read t w)) q (unit-read t w at (reached-place t g r .0))
+
   not-read : (f : Fault) (n p : ℕ) → n ≡ numberOf f → Unread t g f p → Numbered t n p
   not-read f n p e (long h i z) = record { number = rw e (fault-number f); place = omega arith; short = omega arith }
-  not-read f n p e (stuck {w = w} {at = at} r q) =
-      let l : p ≤ length t = subst (Ends t 0 (Read t w)) q (unit-read t w at (reached-place t g r .0)) in
+  not-read f n p e (stuck r q) =
+      let l = stuck-stops r q in
       let k = reached-short r in
-      record { number = rw e (fault-number f); place = l; short = omega arith }
+      record { number = rw e (fault-number f); place = l .0; short = omega arith }
+
+  rule-in : (s : State) (n p : ℕ) (b : RuleBroken t g s n p) → In (rule n p true) (allRules g s (b .unit))
+  rule-in s n p b = subst (In (rule n p true)) (sym (b .first .split)) (in-right (b .first .before) first)
+
+  pub rule-number : (s : State) (n p : ℕ) → RuleBroken t g s n p → isIn n order ≡ true
+  rule-number s n p b =
+      of-order-in (allRules g s (b .unit)) (units-ranked g s (b .unit) .of-order) (rule-in s n p b)
 
   rule-broken : (s : State) (n p : ℕ) → RuleBroken t g s n p → Numbered t n p
   rule-broken s n p b =
-      let f = b .first in
-      let l = allRules g s (b .unit) in
-      let i : In (rule n p true) l =
-      subst (In (rule n p true)) (sym (f .split)) (in-right (f .before) first) in
       let j = b .judges in
       let u : UnitIn t (b .unit) = any-is (UnitIn t) _ (b .unit)
       (reached-reads t g (j .reaches) (j .step) (j .after) (j .reads) .places) (j .unit) in
-      let q : p ≤ length t = in-all (RuleIn t) (all-rules-in t g s (b .unit) u) i in
+      let q : p ≤ length t = in-all (RuleIn t) (all-rules-in t g s (b .unit) u) (rule-in s n p b) in
       let m = reached-short (j .reaches) in
       record {
-        number = is-in n order table refl (of-order-in l (units-ranked g s (b .unit) .of-order) i);
+        number = is-in n order table refl (rule-number s n p b);
         place = q;
         short = omega arith;
       }

@@ -7,29 +7,23 @@ use lib.ListN.{length, take, drop, replicate, length-append, length-replicate}
 use lib.Seq.{take-append-seam, drop-append-seam}
 use Rattle.rules.specs.Book.{book, padded}
 use Rattle.rules.specs.Show.{recordsFrom}
-use Rattle.rules.specs.Check.{Outcome, kept, unread, ruledOut, run, Answer, accepted, refusal, accepting, refusing}
-use Rattle.rules.specs.Check.{answerOf, bufferOf, check}
+use Rattle.rules.specs.Check.{Outcome, kept, unread, ruledOut, run, Acceptance, Refusal, accepted, refusal}
+use Rattle.rules.specs.Check.{accepting, answerOf, bufferOf, check}
 use Rattle.rules.specs.All.{first, later}
 use Rattle.claims.specs.Promise.{OneOutcome, Zeros, RefusedZeros, Booked, AcceptedBook}
 use Rattle.claims.proofs.BookLaws.{records-again}
 use Rattle.claims.proofs.RunLaws.{Ending, run-ends, reached-room}
 
 -- ---- equal answers are of one kind and have equal numbers
-abbrev firstNumber : Answer → ℕ
-firstNumber (accepted a) = a .length
-firstNumber (refusal r) = r .number
+pub same-accepted : {a b : Acceptance} → accepted a ≡ accepted b
+    → (a .length ≡ b .length) × (a .definitions ≡ b .definitions)
+same-accepted e = (cc, cc)
 
-abbrev secondNumber : Answer → ℕ
-secondNumber (accepted a) = a .definitions
-secondNumber (refusal r) = r .place
+pub same-refused : {r q : Refusal} → refusal r ≡ refusal q
+    → (r .number ≡ q .number) × (r .place ≡ q .place) × (r .line ≡ q .line) × (r .column ≡ q .column)
+same-refused e = (cc, cc, cc, cc)
 
-pub same-accepted : {n k m j : ℕ} → accepting n k ≡ accepting m j → (n ≡ m) × (k ≡ j)
-same-accepted e = (ap firstNumber e, ap secondNumber e)
-
-pub same-refused : {n p m q : ℕ} → refusing n p ≡ refusing m q → (n ≡ m) × (p ≡ q)
-same-refused e = (ap firstNumber e, ap secondNumber e)
-
-pub clash : {B : Type 0} {n p l c : ℕ} → refusing n p ≡ accepting l c → B
+pub clash : {B : Type 0} {r : Refusal} {l c : ℕ} → refusal r ≡ accepting l c → B
 clash e = let z : _≡_ {A = ℕ} 0 1 = cc in absurd (omega arith)
 
 pub one-outcome : OneOutcome
@@ -55,20 +49,20 @@ padded-back : (b : List ℕ) (m : ℕ) → Zeros (drop (length b) (padded b m))
 padded-back b m = rw (drop-append-seam b (replicate (m - length b) 0)) (zeros (m - length b))
 
 -- ---- refused
-refused-zeros-of : (o : Outcome) (m n p : ℕ) (b : List ℕ) → refusing n p ≡ answerOf o
+refused-zeros-of : (t : List ℕ) (o : Outcome) (m : ℕ) (r : Refusal) (b : List ℕ) → refusal r ≡ answerOf t o
     → b ≡ bufferOf o m → (length b ≡ m) × Zeros b
-refused-zeros-of (kept s) m n p b a e = clash a
-refused-zeros-of (unread s f q) m n p b a e = rw e (padded-length [] m (omega arith), zeros (m - 0))
-refused-zeros-of (ruledOut s i q) m n p b a e = rw e (padded-length [] m (omega arith), zeros (m - 0))
+refused-zeros-of t (kept s) m r b a e = clash a
+refused-zeros-of t (unread s f q) m r b a e = rw e (padded-length [] m (omega arith), zeros (m - 0))
+refused-zeros-of t (ruledOut s i q) m r b a e = rw e (padded-length [] m (omega arith), zeros (m - 0))
 
 pub refused-zeros : RefusedZeros
-refused-zeros t g n p b h = refused-zeros-of (run t g) (g .buffer) n p b (h .answer) (h .buffer)
+refused-zeros t g r b h = refused-zeros-of t (run t g) (g .buffer) r b (h .answer) (h .buffer)
 
 -- ---- accepted
 pub accepted-book : AcceptedBook
 accepted-book t g n k b h = go (run t g) refl (run-ends t g) (h .answer) (h .buffer)
   where
-    go : (o : Outcome) → run t g ≡ o → Ending t g o → accepting n k ≡ answerOf o
+    go : (o : Outcome) → run t g ≡ o → Ending t g o → accepting n k ≡ answerOf t o
         → b ≡ bufferOf o (g .buffer) → Booked t g n k b
     go (kept s) e r a q =
         let (l, c) = same-accepted a in

@@ -258,21 +258,23 @@ blamed t g s n p b = record {
 }
 
 refused-so : (t : List ℕ) (g : Given) (n p : ℕ) (o : Outcome) → Ending t g o
-    → answerOf o ≡ refusing n p → Refused t g n p
+    → answerOf t o ≡ refusing t n p → Refused t g n p
 refused-so t g n p (kept s) h e = clash (sym e)
-refused-so t g n p (unread s f q) h e = let (x, y) = same-refused e in inl (f, sym x, subst (Unread t g f) y h)
+refused-so t g n p (unread s f q) h e =
+    let (x, y, l, c) = same-refused e in
+    inl (f, sym x, subst (Unread t g f) y h)
 refused-so t g n p (ruledOut s i q) h e =
-    let (x, y) = same-refused e in
+    let (x, y, l, c) = same-refused e in
     inr (s, subst (λ (j : ℕ). RuleBroken t g s j p) x (subst (RuleBroken t g s i) y (blamed t g s i q h)))
 
 not-read-so : (t : List ℕ) (g : Given) (f : Fault) (p : ℕ) → Unread t g f p
-    → answerOf (run t g) ≡ refusing (numberOf f) p
-not-read-so t g f p (long h e z) = ap answerOf (long-run t g h) ∙ rw (e, z)
-not-read-so t g f p (stuck r e) = ap answerOf (stuck-run t g r e)
+    → answerOf t (run t g) ≡ refusing t (numberOf f) p
+not-read-so t g f p (long h e z) = ap (answerOf t) (long-run t g h) ∙ rw (e, z)
+not-read-so t g f p (stuck r e) = ap (answerOf t) (stuck-run t g r e)
 
-so-refused : (t : List ℕ) (g : Given) (n p : ℕ) → Refused t g n p → answerOf (run t g) ≡ refusing n p
-so-refused t g n p (inl (f, e, h)) = not-read-so t g f p h ∙ ap (λ (k : ℕ). refusing k p) (sym e)
-so-refused t g n p (inr (s, b)) = ap answerOf (judged-run t g (b .judges) n p (b .refuses))
+so-refused : (t : List ℕ) (g : Given) (n p : ℕ) → Refused t g n p → answerOf t (run t g) ≡ refusing t n p
+so-refused t g n p (inl (f, e, h)) = not-read-so t g f p h ∙ ap (λ (k : ℕ). refusing t k p) (sym e)
+so-refused t g n p (inr (s, b)) = ap (answerOf t) (judged-run t g (b .judges) n p (b .refuses))
 
 fault-small : (f : Fault) → numberOf f < 7
 fault-small too-long = omega arith

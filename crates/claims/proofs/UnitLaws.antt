@@ -4,7 +4,7 @@ use mathlib.Core.Path.{_≡_, refl}
 use mathlib.Core.Bool.{Bool, true, false, _&&_}
 use mathlib.Core.Option.{Option, none, some}
 use mathlib.Core.List.{List, [], _∷_}
-use Prim.Native.Nat.{ℕ, zero, suc, _-_, _≤_}
+use Prim.Native.Nat.{ℕ, zero, suc, _-_, _≤_, _<_}
 use Prim.Native.Char.{Char}
 use native.Mathlib.Omega.{arith}
 use lib.ListN.{length}
@@ -12,13 +12,12 @@ use lib.Dec.{ltb}
 use Rattle.rules.specs.Bytes.{ascii, same, isOneOf}
 use Rattle.rules.specs.Names as N
 use Rattle.rules.specs.Names.{Name, Sort, nameOf}
-use Rattle.rules.specs.Symbols.{Fault, Symbol, endOf, name, number, quoted, dots, stop, symbolAt, isKind, isMark}
-use Rattle.rules.specs.Symbols.{isWord, isOneWord}
+use Rattle.rules.specs.Symbols.{Fault, numberOf, Symbol, endOf, name, number, quoted, dots, stop, symbolAt, isKind}
+use Rattle.rules.specs.Symbols.{isMark, isWord, isOneWord}
 use Rattle.rules.specs.Numbers.{digits}
 use Rattle.rules.specs.Enumerations.{Enum, end, elem}
 use Rattle.rules.specs.Readers.{Result, done, refused, Reader, andThen, _>>=_, _>>_, ret, refuse, expect, aName}
-use Rattle.rules.specs.Readers.{theMark}
-use Rattle.rules.specs.Readers.{ifNext, optional}
+use Rattle.rules.specs.Readers.{faultOf, theMark, ifNext, optional}
 use Rattle.rules.specs.Grammar as G
 use Rattle.rules.specs.Grammar.{enough, propertiesFrom, properties, Reference, reference, extends, closeFinal, Element}
 use Rattle.rules.specs.Grammar.{deepest, openingBracket, enumeration, elements, element, WrittenType, isLength}
@@ -31,7 +30,7 @@ use Rattle.rules.specs.Units.{headerUnit, modelUnit, topicUnit, classUnit, doma
 use Rattle.rules.specs.Units.{wordStep, bodyEnd, bodyUnit, memberUnit, lastStep, unitAt}
 use Rattle.rules.specs.Judge.{firstPlace}
 use Rattle.rules.specs.All.{AnyIs}
-use Rattle.rules.proofs.SymbolLaws.{either, Lies, lies-from, next-lies}
+use Rattle.rules.proofs.SymbolLaws.{either, next-lies, next-behind}
 
 -- ---- whether a class is open: at a place, and how a unit changes it; what a class unit opens is
 -- a class or a structure
@@ -112,18 +111,33 @@ module _ (t : List ℕ) where
   UnitIn (U.close n) = NameIn 0 n
 
   -- ---- readers: from a symbol there they come to what has its places there, and to a symbol there, or
-  -- refuse a place of the text
+  -- refuse a place of the text, by a number behind 1
+  pub record Stands (i : ℕ) (y : Symbol) : Type 0 where
+    pub starts : i ≤ y .place
+    pub ends : endOf y ≤ length t
+    pub behind-1 : 1 < numberOf (faultOf (y .kind))
+
+  stands-from : {i j : ℕ} {y : Symbol} → i ≤ j → Stands j y → Stands i y
+  stands-from h l = record { starts = omega arith; ends = l .ends; behind-1 = l .behind-1 }
+
+  next-stands : (i : ℕ) → i ≤ length t → Stands i (symbolAt t i)
+  next-stands i h = let l = next-lies t i h in record { starts = l .starts; ends = l .ends; behind-1 = next-behind t i }
+
+  -- with which fault and where they refuse
+  abbrev pub Stops : Fault → ℕ → Type 0
+  Stops f p = (p ≤ length t) × (1 < numberOf f)
+
   abbrev pub Ends : {A : Type 0} → ℕ → (A → Type 0) → Result A → Type 0
-  Ends i P (done a z) = P a × Lies i (length t) z
-  Ends i P (refused f p) = p ≤ length t
+  Ends i P (done a z) = P a × Stands i z
+  Ends i P (refused f p) = Stops f p
 
   record Reads {A : Type 0} (i : ℕ) (P : A → Type 0) (r : Reader A) : Type 0 where
-    reads : (y : Symbol) → Lies i (length t) y → Ends i P (r t y)
+    reads : (y : Symbol) → Stands i y → Ends i P (r t y)
 
   gives : {A : Type 0} {i : ℕ} {P : A → Type 0} (a : A) → P a → Reads i P (ret a)
   gives a h = record { reads = λ y l. (h, l) }
 
-  refuses : {A : Type 0} {i : ℕ} {P : A → Type 0} (f : Fault) {p : ℕ} → p ≤ length t → Reads i P (refuse f p)
+  refuses : {A : Type 0} {i : ℕ} {P : A → Type 0} (f : Fault) {p : ℕ} → Stops f p → Reads i P (refuse f p)
   refuses f h = record { reads = λ y l. h }
 
   and-then : {A B : Type 0} {i : ℕ} {P : A → Type 0} {Q : B → Type 0} (m : Result A) (k : A → Reader B) → Ends i P m
@@ -145,24 +159,28 @@ module _ (t : List ℕ) where
       → Reads i (AnyIs P) (optional p q)
   option p h = if-next p (bind h (λ a k. gives _ k)) (gives _ tt)
 
-  start-in : {i : ℕ} {y : Symbol} → Lies i (length t) y → y .place ≤ length t
+  start-in : {i : ℕ} {y : Symbol} → Stands i y → y .place ≤ length t
   start-in l = let h = l .ends in omega arith
 
+  -- where it is not possible
+  stops : {i : ℕ} {y : Symbol} → Stands i y → Stops (faultOf (y .kind)) (y .place)
+  stops l = (start-in l, l .behind-1)
+
   -- the symbol behind one
-  behind : {i : ℕ} {y : Symbol} → Lies i (length t) y → Lies i (length t) (symbolAt t (endOf y))
-  behind {y} l = let h = l .starts in lies-from (omega arith) (next-lies t (endOf y) (l .ends))
+  behind : {i : ℕ} {y : Symbol} → Stands i y → Stands i (symbolAt t (endOf y))
+  behind {y} l = let h = l .starts in stands-from (omega arith) (next-stands (endOf y) (l .ends))
 
   passes : {i : ℕ} (p : Symbol → Bool) → Reads i (SymbolIn i) (expect p)
   passes p = record {
-    reads = λ y l. either (Ends _ (SymbolIn _)) (p y) (λ _. ((l .starts, start-in l), behind l)) (λ _. start-in l);
+    reads = λ y l. either (Ends _ (SymbolIn _)) (p y) (λ _. ((l .starts, start-in l), behind l)) (λ _. stops l);
   }
 
   -- a symbol from its own place on, and what is read from an earlier one
-  from-it : {i : ℕ} {y : Symbol} → Lies i (length t) y → Lies (y .place) (length t) y
-  from-it l = record { starts = omega arith; ends = l .ends; solid = l .solid }
+  from-it : {i : ℕ} {y : Symbol} → Stands i y → Stands (y .place) y
+  from-it l = record { starts = omega arith; ends = l .ends; behind-1 = l .behind-1 }
 
   earlier : {A : Type 0} (P : A → Type 0) {i j : ℕ} → i ≤ j → (m : Result A) → Ends j P m → Ends i P m
-  earlier P e (done a z) h = (h .0, lies-from e (h .1))
+  earlier P e (done a z) h = (h .0, stands-from e (h .1))
   earlier P e (refused f p) h = h
 
   -- a symbol of which nothing is kept
@@ -219,24 +237,24 @@ module _ (t : List ℕ) where
   -- ---- a base, and from its first symbol on what stands behind it
   -- what is read, and a symbol from the place on that f gives
   abbrev EndsAt : {A : Type 0} → (A → ℕ) → (A → Type 0) → Result A → Type 0
-  EndsAt f P (done a z) = P a × Lies (f a) (length t) z
-  EndsAt f P (refused g p) = p ≤ length t
+  EndsAt f P (done a z) = P a × Stands (f a) z
+  EndsAt f P (refused g p) = Stops g p
 
-  reference-ends : (i : ℕ) (y : Symbol) → Lies i (length t) y → EndsAt firstPlace (ReferenceIn i) (reference t y)
+  reference-ends : (i : ℕ) (y : Symbol) → Stands i y → EndsAt firstPlace (ReferenceIn i) (reference t y)
   unfolding reference
   reference-ends i y l =
       either (λ m. EndsAt firstPlace (ReferenceIn i) (andThen t (andThen t m (λ x. ret (nameOf x))) behindName))
       (isKind name y)
       (λ _. go (behindName (nameOf y) t (symbolAt t (endOf y)))
-      (reference-from (nameOf y) (λ r e. e) .reads (symbolAt t (endOf y)) (behind (from-it l)))) (λ _. start-in l)
+      (reference-from (nameOf y) (λ r e. e) .reads (symbolAt t (endOf y)) (behind (from-it l)))) (λ _. stops l)
     where
       go : (m : Result Reference) → Ends (y .place) (λ r. firstPlace r ≡ y .place) m
           → EndsAt firstPlace (ReferenceIn i) m
       go (done r z) (e, k) =
-          let h = l .starts in let j = start-in l in ((omega arith, omega arith), lies-from (omega arith) k)
+          let h = l .starts in let j = start-in l in ((omega arith, omega arith), stands-from (omega arith) k)
       go (refused g p) k = k
 
-  base-ends : (i : ℕ) (y : Symbol) → Lies i (length t) y
+  base-ends : (i : ℕ) (y : Symbol) → Stands i y
       → EndsAt (behindBase i) (AnyIs (ReferenceIn i)) (extends t y)
   unfolding extends
   base-ends i y l =
@@ -244,7 +262,7 @@ module _ (t : List ℕ) where
       (λ _. either (λ (m : Result Symbol). EndsAt (behindBase i) (AnyIs (ReferenceIn i))
       (andThen t (andThen t m (λ _. reference)) (λ r. ret (some r)))) (isWord (ascii "EXTENDS") y)
       (λ _. go (reference t (symbolAt t (endOf y))) (reference-ends i (symbolAt t (endOf y)) (behind l)))
-      (λ _. start-in l)) (λ _. (tt, l))
+      (λ _. stops l)) (λ _. (tt, l))
     where
       go : (m : Result Reference) → EndsAt firstPlace (ReferenceIn i) m
           → EndsAt (behindBase i) (AnyIs (ReferenceIn i)) (andThen t m (λ r. ret (some r)))
@@ -266,7 +284,7 @@ module _ (t : List ℕ) where
   close-final = skip (isWord (ascii "FINAL")) (skip (isMark ")") (gives _ tt))
 
   the-bracket : {i : ℕ} (d : ℕ) → Reads i (SymbolIn i) (openingBracket d)
-  the-bracket d = bind (passes (isMark "(")) (λ y h. if-next (λ _. ltb 0 d) (gives _ h) (refuses _ (h .1)))
+  the-bracket d = bind (passes (isMark "(")) (λ y h. if-next (λ _. ltb 0 d) (gives _ h) (refuses _ (h .1, omega arith)))
 
   abbrev ElementIn : ℕ → Element → Type 0
   ElementIn i e = NameIn i (e .name) × EnumIn i (e .inner)
@@ -295,7 +313,8 @@ module _ (t : List ℕ) where
   the-length : {i : ℕ} → Reads i (SymbolIn i) textLength
   unfolding textLength
   the-length =
-      bind (passes isLength) (λ y h. if-next (λ _. ltb 4294967295 (digits (y .bytes) 0)) (refuses _ (h .1)) (gives _ h))
+      bind (passes isLength)
+      (λ y h. if-next (λ _. ltb 4294967295 (digits (y .bytes) 0)) (refuses _ (h .1, omega arith)) (gives _ h))
 
   the-text : {i : ℕ} → Reads i (TypeIn i) textType
   unfolding textType
@@ -351,14 +370,14 @@ module _ (t : List ℕ) where
         reads = λ y l. either (λ m. Ends 0 P (andThen t (andThen t m (λ x. ret (nameOf x))) k)) (isKind name y)
             (λ _. earlier P (omega arith) (k (nameOf y) t (symbolAt t (endOf y)))
             (f (nameOf y) (l .starts, start-in l) .reads (symbolAt t (endOf y)) (behind (from-it l))))
-            (λ _. start-in l);
+            (λ _. stops l);
       }
 
   -- what is read has its places from two places on
   from-both : {A : Type 0} {i j : ℕ} {P Q : A → Type 0} {r : Reader A} → i ≤ j → Reads i P r → Reads j Q r
       → Reads j (λ a. P a × Q a) r
   from-both {A} {i} {j} {P} {Q} {r} e h g =
-      record { reads = λ y l. go (r t y) (h .reads y (lies-from e l)) (g .reads y l) }
+      record { reads = λ y l. go (r t y) (h .reads y (stands-from e l)) (g .reads y l) }
     where
       go : (m : Result A) → Ends i P m → Ends j Q m → Ends j (λ a. P a × Q a) m
       go (done a z) k l = ((k .0, l .0), l .1)
@@ -453,4 +472,4 @@ module _ (t : List ℕ) where
 
   -- from a place of the text
   pub unit-read : (w : Where) (at : ℕ) → at ≤ length t → Ends 0 (Read w) (unitAt w t (symbolAt t at))
-  unit-read w at h = the-unit w .reads (symbolAt t at) (lies-from (omega arith) (next-lies t at h))
+  unit-read w at h = the-unit w .reads (symbolAt t at) (stands-from (omega arith) (next-stands at h))

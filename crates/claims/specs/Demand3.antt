@@ -82,17 +82,17 @@ abbrev pub Mismeasured : List ℕ → Given → ℕ → Type 0
 Mismeasured t g p = Misfit t g 22 p UnitOutside
 
 abbrev pub RefusedHasNumber : Type 0
-RefusedHasNumber = (t : List ℕ) (g : Given) (p : ℕ) → check t g .answer ≡ refusing 17 p → Misnumbered t g p
+RefusedHasNumber = (t : List ℕ) (g : Given) (p : ℕ) → check t g .answer ≡ refusing t 17 p → Misnumbered t g p
 
 abbrev pub RefusedHasUnit : Type 0
-RefusedHasUnit = (t : List ℕ) (g : Given) (p : ℕ) → check t g .answer ≡ refusing 22 p → Mismeasured t g p
+RefusedHasUnit = (t : List ℕ) (g : Given) (p : ℕ) → check t g .answer ≡ refusing t 22 p → Mismeasured t g p
 
 -- where there is a value with an illegal reading, the text is refused at that declaration: by 17 or a number before it
 -- where the value's number shows it, by 22 or a number before it where only its unit does
 pub record RefusedThere (t : List ℕ) (g : Given) (s : State) (u : U.Unit) (k : ℕ) : Type 0 where
   pub number : ℕ
   pub place : ℕ
-  pub answers : check t g .answer ≡ refusing number place
+  pub answers : check t g .answer ≡ refusing t number place
   pub refuses : judge s u ≡ J.refused number place
   pub by : rank number ≤ rank k
 

@@ -10,3 +10,4 @@ pub mod Demand3
 pub mod Distinct
 pub mod Unplaced
 pub mod Finding
+pub mod Located

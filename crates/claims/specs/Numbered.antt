@@ -19,7 +19,7 @@ pub record Numbered (t : List ℕ) (n p : ℕ) : Type 0 where
   pub short : p ≤ 65535
 
 abbrev pub RefusedNumbered : Type 0
-RefusedNumbered = (t : List ℕ) (g : Given) (n p : ℕ) → check t g .answer ≡ refusing n p → Numbered t n p
+RefusedNumbered = (t : List ℕ) (g : Given) (n p : ℕ) → check t g .answer ≡ refusing t n p → Numbered t n p
 
 -- the book's length, and the definition count
 pub record Small (n k : ℕ) : Type 0 where

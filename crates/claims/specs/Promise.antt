@@ -7,7 +7,7 @@ use lib.ListN.{length, take, drop}
 use Rattle.rules.specs.Declarations.{State}
 use Rattle.rules.specs.Book.{records, book, definitions}
 use Rattle.rules.specs.Show.{recordsFrom}
-use Rattle.rules.specs.Check.{Given, kept, run, Answer, accepting, refusing}
+use Rattle.rules.specs.Check.{Given, kept, run, Refusal, Answer, refusal, accepting}
 use Rattle.rules.specs.Promise.{Promise}
 use Rattle.rules.specs.All.{In}
 
@@ -27,7 +27,7 @@ Zeros b = (x : ℕ) → In x b → x ≡ 0
 
 abbrev pub RefusedZeros : Type 0
 RefusedZeros =
-    (t : List ℕ) (g : Given) (n p : ℕ) (b : List ℕ) → Promise t g (refusing n p) b → (length b ≡ g .buffer) × Zeros b
+    (t : List ℕ) (g : Given) (r : Refusal) (b : List ℕ) → Promise t g (refusal r) b → (length b ≡ g .buffer) × Zeros b
 
 -- ---- on acceptance it holds the book, which fits, and then zeros; read record by record, up to the first zero for a
 -- kind, it gives the records again; the answer is the book's length and the count of its definitions

@@ -108,8 +108,8 @@ abbrev pub Refused : List ℕ → Given → ℕ → ℕ → Type 0
 Refused t g n p = ((f : Fault) × (n ≡ numberOf f) × Unread t g f p) ⊎ ((s : State) × RuleBroken t g s n p)
 
 pub record TextsRanked : Type 0 where
-  pub refused : (t : List ℕ) (g : Given) (n p : ℕ) → (check t g .answer ≡ refusing n p) ↔ Refused t g n p
+  pub refused : (t : List ℕ) (g : Given) (n p : ℕ) → (check t g .answer ≡ refusing t n p) ↔ Refused t g n p
   -- from 7 on, and where the count of 4 refuses, a rule was broken
-  pub broken : (t : List ℕ) (g : Given) (n p : ℕ) → check t g .answer ≡ refusing n p → 7 ≤ n
+  pub broken : (t : List ℕ) (g : Given) (n p : ℕ) → check t g .answer ≡ refusing t n p → 7 ≤ n
       → (s : State) × RuleBroken t g s n p
   pub ruled-out : (t : List ℕ) (g : Given) (s : State) (n p : ℕ) → run t g ≡ ruledOut s n p → RuleBroken t g s n p

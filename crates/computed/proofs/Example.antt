@@ -1,10 +1,11 @@
 -- The example, its readings, its records and its names hold: each is computed.
 use mathlib.Core.Path.{refl}
+use Rattle.rules.specs.Lines.{positionOf}
 use Rattle.computed.specs.Example.{Checks, Reads, Finds, Shows}
 use Rattle.computed.proofs.Computing.{computing}
 
 pub example : Checks
-unfolding computing
+unfolding computing positionOf
 example = record {
   size = refl;
   exact = refl;

@@ -1,4 +1,5 @@
 pub mod Computing
+pub mod Lines
 pub mod Marked
 pub mod Order
 pub mod Pinned

@@ -11,7 +11,7 @@ use Rattle.rules.specs.Types.{Ty, structure, Value, legal, reading}
 use Rattle.rules.specs.Declarations.{Def, State, atHome}
 use Rattle.rules.specs.Judge.{orNoDef}
 use Rattle.rules.specs.Check as C
-use Rattle.rules.specs.Check.{Outcome, kept, unread, ruledOut, accepting, refusing, answerOf, run}
+use Rattle.rules.specs.Check.{Outcome, kept, unread, ruledOut, Answer, accepting, refusing, answerOf, run}
 
 -- passes: the model with these units is accepted, with a book length and a definition count; gives: it is refused, with
 -- a number and a place; givesIn: refused so with a buffer of a length; readsAt: accepted, and a
@@ -30,6 +30,9 @@ modelOf u = ascii "INTERLIS 2.4;MODEL M AT \"u\" VERSION \"1\"=" ++ (ascii u ++ 
 abbrev pub outcome : String → ℕ → Outcome
 outcome u m = run (modelOf u) (C.lent m)
 
+abbrev answered : String → ℕ → Answer
+answered u m = answerOf (modelOf u) (outcome u m)
+
 -- what the model itself defines under a name
 abbrev pub defined : State → String → Def
 defined s n = orNoDef (atHome s none (ascii n))
@@ -44,8 +47,8 @@ abbrev pub ReadsTo : Ty → Value → Ty → Value → Type 0
 ReadsTo e v b w = (legal e v ≡ true) × (reading b v ≡ some w) × (legal b w ≡ true)
 
 abbrev pub Holds : Case → Type 0
-Holds (passes u l c) = answerOf (outcome u 65535) ≡ accepting l c
-Holds (gives u n p) = answerOf (outcome u 65535) ≡ refusing n p
-Holds (givesIn m u n p) = answerOf (outcome u m) ≡ refusing n p
+Holds (passes u l c) = answered u 65535 ≡ accepting l c
+Holds (gives u n p) = answered u 65535 ≡ refusing (modelOf u) n p
+Holds (givesIn m u n p) = answered u m ≡ refusing (modelOf u) n p
 Holds (readsAt u e v b w) = let o = outcome u 65535 in ReadsTo (typeIn o e) v (typeIn o b) w
 Holds (strays u e v w) = let t = typeIn (outcome u 65535) e in (legal t v ≡ true) × (legal t w ≡ false)

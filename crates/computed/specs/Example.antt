@@ -8,7 +8,7 @@ use lib.ListN.{length}
 use lib.IntN.{pos, negsuc}
 use Rattle.rules.specs.Bytes.{ascii}
 use Rattle.rules.specs.Numbers.{reads, notRead, readNumber, readValue}
-use Rattle.rules.specs.Check.{lent, accepting, refusing, check}
+use Rattle.rules.specs.Check.{lent, accepting, refusalOf, check}
 use Rattle.rules.specs.Book.{padded}
 use Rattle.rules.specs.Show.{Part, findRecord, showName}
 
@@ -28,10 +28,10 @@ pub record Checks : Type 0 where
   pub size : length text ≡ 63
   pub exact : check text (lent 35) ≡ record { answer = accepting 35 1; buffer = book }
   pub longer : check text (lent 40) ≡ record { answer = accepting 35 1; buffer = padded book 40 }
-  pub short : check text (lent 34) ≡ record { answer = refusing 19 47; buffer = padded [] 34 }
-  pub empty : check text (lent 0) ≡ record { answer = refusing 19 19; buffer = [] }
-  pub no-text : check [] (lent 3) ≡ record { answer = refusing 5 0; buffer = 0 ∷ 0 ∷ 0 ∷ [] }
-  pub version : check (ascii "INTERLIS 2.40;") (lent 0) ≡ record { answer = refusing 7 9; buffer = [] }
+  pub short : check text (lent 34) ≡ record { answer = refusalOf 19 47 1 48; buffer = padded [] 34 }
+  pub empty : check text (lent 0) ≡ record { answer = refusalOf 19 19 1 20; buffer = [] }
+  pub no-text : check [] (lent 3) ≡ record { answer = refusalOf 5 0 1 1; buffer = 0 ∷ 0 ∷ 0 ∷ [] }
+  pub version : check (ascii "INTERLIS 2.40;") (lent 0) ≡ record { answer = refusalOf 7 9 1 10; buffer = [] }
 
 -- 10^17 and one less at one decimal more; halves on both sides of zero; both sides of what may be given
 pub record Reads : Type 0 where

@@ -1,5 +1,6 @@
 pub mod Example
 pub mod Cases
+pub mod Lines
 pub mod Marked
 pub mod Order
 pub mod Pinned

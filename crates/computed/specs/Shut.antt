@@ -9,7 +9,7 @@ use lib.Signed.{shrZ}
 use Rattle.rules.specs.Numbers.{mostDecimals, magnitudeLimit, Read, reads, readNumber}
 use Rattle.rules.specs.Book.{definitions}
 use Rattle.rules.specs.Show.{recordsFrom}
-use Rattle.rules.specs.Check.{lent, accepting, refusing, Checked}
+use Rattle.rules.specs.Check.{lent, Refusal, refusal, accepting, refusing, Checked}
 use Rattle.computed.specs.Cases.{modelOf}
 use Rattle.rules.specs.Promise.{Promise}
 
@@ -25,7 +25,7 @@ ShutOut P = (f : Way) → P f → ¬ Keeps f
 
 -- ---- ways that are none
 abbrev pub RefusesAll : Way → Type 0
-RefusesAll f = (t b : List ℕ) → (n p : ℕ) × (f t b .answer ≡ refusing n p)
+RefusesAll f = (t b : List ℕ) → (r : Refusal) × (f t b .answer ≡ refusal r)
 
 abbrev pub FixedBook : Way → Type 0
 FixedBook f = (x : List ℕ) × ((t b : List ℕ) (n k : ℕ) → f t b .answer ≡ accepting n k → take n (f t b .buffer) ≡ x)
@@ -37,17 +37,24 @@ InventedCount f =
 
 -- the buffer is left as it was lent
 abbrev pub IdleRefusing : Way → Type 0
-IdleRefusing f = (t b : List ℕ) (n p : ℕ) → f t b .answer ≡ refusing n p → f t b .buffer ≡ b
+IdleRefusing f = (t b : List ℕ) (n p : ℕ) → f t b .answer ≡ refusing t n p → f t b .buffer ≡ b
 
 abbrev pub IdleAccepting : Way → Type 0
 IdleAccepting f = (t b : List ℕ) (n k : ℕ) → f t b .answer ≡ accepting n k → f t b .buffer ≡ b
+
+-- the line, or the column, is given by the place alone: always 1, or counted from the text's front
+abbrev pub LineOfPlace : Way → Type 0
+LineOfPlace f = (l : ℕ → ℕ) × ((t b : List ℕ) (r : Refusal) → f t b .answer ≡ refusal r → r .line ≡ l (r .place))
+
+abbrev pub ColumnOfPlace : Way → Type 0
+ColumnOfPlace f = (c : ℕ → ℕ) × ((t b : List ℕ) (r : Refusal) → f t b .answer ≡ refusal r → r .column ≡ c (r .place))
 
 -- ---- what is done with one text, where 256 bytes are lent
 abbrev pub Accepts : List ℕ → Way → Type 0
 Accepts t f = (n k : ℕ) × (f t (replicate 256 0) .answer ≡ accepting n k)
 
 abbrev pub Refuses : List ℕ → Way → Type 0
-Refuses t f = (n p : ℕ) × (f t (replicate 256 0) .answer ≡ refusing n p)
+Refuses t f = (r : Refusal) × (f t (replicate 256 0) .answer ≡ refusal r)
 
 -- the first extension is right and a later one is not: of domains, and of an attribute
 abbrev pub laterDomain : List ℕ
@@ -97,6 +104,8 @@ pub record Shut : Type 0 where
   pub invented-count : ShutOut InventedCount
   pub idle-refusing : ShutOut IdleRefusing
   pub idle-accepting : ShutOut IdleAccepting
+  pub placed-line : ShutOut LineOfPlace
+  pub placed-column : ShutOut ColumnOfPlace
   pub later-domain : ShutOut (Accepts laterDomain)
   pub later-attribute : ShutOut (Accepts laterAttribute)
   pub later-unit : ShutOut (Accepts laterUnit)

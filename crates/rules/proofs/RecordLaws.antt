@@ -28,7 +28,7 @@ drop-first zero x l h = absurd (omega arith)
 drop-first (suc n) x l h = rw sub-one
 
 -- a whole record of n bytes
-front : (l : List ℕ) (n : ℕ) → sizeOf (getD l 0 0) ≡ n → 0 < n → n ≤ length l
+pub front : (l : List ℕ) (n : ℕ) → sizeOf (getD l 0 0) ≡ n → 0 < n → n ≤ length l
     → recordsFrom 0 l ≡ take n l ∷ recordsFrom 0 (drop n l)
 unfolding recordsFrom
 front [] n e z h = absurd (omega arith)
