@@ -1,4 +1,5 @@
-// Texts cut into symbols: a line of each with its code, place and length, and its own fault's number, if it has one.
+// Texts cut into symbols: for each symbol its code, place, length, line and column, and its own fault's number, if it
+// has one.
 use libc::STDOUT_FILENO;
 use symbols::Cursor;
 use symbols::Symbol;
@@ -7,15 +8,21 @@ fn end_line() {
     io::write_all(STDOUT_FILENO, b"\n");
 }
 
+fn put_behind(n: usize) {
+    io::write_all(STDOUT_FILENO, b" ");
+    io::print_decimal(STDOUT_FILENO, n as u64);
+}
+
 fn show(y: Symbol) {
+    let position = symbols::position_of(y);
     io::print_decimal(STDOUT_FILENO, y.code as u64);
-    io::write_all(STDOUT_FILENO, b" ");
-    io::print_decimal(STDOUT_FILENO, y.place as u64);
-    io::write_all(STDOUT_FILENO, b" ");
-    io::print_decimal(STDOUT_FILENO, y.len as u64);
+    put_behind(y.place);
+    put_behind(y.len);
+    put_behind(position.line);
+    put_behind(position.column);
     if y.refusal != 5 {
-        io::write_all(STDOUT_FILENO, b" fault ");
-        io::print_decimal(STDOUT_FILENO, y.refusal as u64);
+        io::write_all(STDOUT_FILENO, b" fault");
+        put_behind(y.refusal as usize);
     }
     end_line();
 }
@@ -53,6 +60,14 @@ fn gaps() {
     cut(b"!!");
 }
 
+fn lines() {
+    cut(b"a\nb\rc\r\nd\n\re\n\n\tf\r\rg");
+    cut(b"a /* \r\n \n*/ b /*\r*/\nc !! d\re !!\r\nf");
+    cut(b"\n\"a\nb\"");
+    cut(b"\r\n /* \n");
+    cut(b"a\r\n");
+}
+
 fn strings() {
     cut(b"\"\" \"\x7F\xFF\" \"\\\"\\\\\\u00eF\" \"open");
     cut(b"\"a\\");
@@ -81,6 +96,7 @@ fn main() {
     cut(b"INTERLIS 2.4;MODEL M AT \"u\" VERSION \"1\"=DOMAIN T=-10..40;END M.");
     numbers();
     gaps();
+    lines();
     strings();
     words();
     marks();

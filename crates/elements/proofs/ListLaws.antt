@@ -5,7 +5,7 @@ use mathlib.Core.List.{List, [], _∷_, _++_, append-assoc}
 use Prim.Native.Nat.{ℕ, zero, suc, _-_, _≤_, _<_}
 use native.Mathlib.Omega.{arith}
 use lib.ListN.{length}
-use borrow.Author.Tests.{lt-ltb, eq-eqb}
+use borrow.Author.Tests.{lt-ltb}
 use Rattle.rules.specs.Bytes.{ascii}
 use Rattle.rules.specs.Names.{Name}
 use Rattle.rules.specs.Symbols as rules
@@ -21,13 +21,13 @@ use Rattle.rules.proofs.ForwardLaws.{Ends, element-forward}
 use Rattle.rules.proofs.FuelLaws.{enumeration-fuel, elements-fuel, element-fuel}
 use Rattle.book.specs.Forms.{nameForm}
 use Rattle.symbols.specs.declared.Symbol.{Symbol}
-use Rattle.symbols.specs.Cut.{made}
+use Rattle.symbols.specs.Cut.{faultyAs}
 use Rattle.ground.specs.declared.Name as code
 use Rattle.readers.specs.Reads.{faultAt, Stands, Cuts, Held, passed, named, nameCut, On, Gives, Reads}
 use Rattle.readers.proofs.CodeLaws.{Test, is-mark, is-word}
 use Rattle.readers.proofs.StandLaws.{fault-stands, stands-lies}
 use Rattle.readers.proofs.ReadLaws.{gives-map, gives-weaker, bind, stay, mapped, if-true, if-false, expected, is-yes}
-use Rattle.readers.proofs.ReadLaws.{is-no, a-name}
+use Rattle.readers.proofs.ReadLaws.{is-no, a-name, behind}
 use Rattle.elements.specs.Noted.{listBytes, restBytes, elementBytes, Put, Closed}
 use Rattle.elements.specs.Ends.{listEnd}
 use Rattle.elements.proofs.PutLaws.{put-put, put-closed}
@@ -78,7 +78,7 @@ module _ {t : List ℕ} {d : ℕ} {y n : Symbol} where
       (λ a q. record { reads = λ z c. rw (lt-ltb 0 d h) (record { next = c; value = tt }); passes = λ f p c. c })
       (λ f p c. c)
 
-  pub too-deep : {A : Type 0} {P : A → Type 0} (k : Reader A) → d ≡ 0 → y .code ≡ 40 → n ≡ made 5 4 (y .place) 0
+  pub too-deep : {A : Type 0} {P : A → Type 0} (k : Reader A) → d ≡ 0 → y .code ≡ 40 → n ≡ faultyAs 4 y
       → Reads t (openingBracket d >> k) P y n
   too-deep k h o e =
       record {
@@ -216,7 +216,7 @@ forth t d {Q} {z} {m} {z′} (w, c) h k e =
         let i = next-lies t (endOf v) (f .ends) in
         let p : z .place ≡ w .place = rw (c .cuts) in
         let q : z′ .place ≡ symbolAt t (endOf v) .place =
-        rw (e, g .next .cuts, eq-eqb _ 44 (rw (g .next .cuts) at k)) in
+        ap (λ (y : Symbol). y .place) (behind (g .next) (e ∙ ap (passed t m) (sym k)) .cuts) in
         (omega arith, omega arith)
     go (refused f′ p′) f g = absurd (let q : 5 ≡ 44 = rw (g .next .cuts) at k in omega arith)
 

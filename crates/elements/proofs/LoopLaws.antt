@@ -9,7 +9,7 @@ use Rattle.rules.specs.Symbols as rules
 use Rattle.rules.specs.Symbols.{isWord}
 use Rattle.rules.specs.Grammar.{enough, closeFinal, enumeration, elements, element}
 use Rattle.symbols.specs.declared.Symbol.{Symbol}
-use Rattle.symbols.specs.Cut.{made}
+use Rattle.symbols.specs.Cut.{faultyAs}
 use Rattle.readers.specs.Reads.{faultAt, Cuts, Held, passed, Gives, Reads}
 use Rattle.readers.proofs.CodeLaws.{is-mark, is-word}
 use Rattle.readers.proofs.ReadLaws.{bind, weaker, held, if-true, if-false, expected, is-yes, is-no}
@@ -63,7 +63,7 @@ module _ (t : List ℕ) (start k : ℕ) (y z₀ n : Symbol) (i₀ r : ℕ) (b o�
           }
 
 pub whole-deep : (t : List ℕ) (start k : ℕ) (o : List ℕ) (y n : Symbol) (r : ℕ) → k ≡ 0
-    → y .code ≡ 40 → n ≡ made 5 4 (y .place) 0
+    → y .code ≡ 40 → n ≡ faultyAs 4 y
     → Reads t (enumeration (enough t) k) (λ x. Put o o start (listBytes x) r) y n
 whole-deep t start k o y n r h c e = enumeration-reads t k (too-deep _ h c e)
 

@@ -124,7 +124,7 @@ fn enumeration(text: &[u8], scratch: &mut [u8], y: Symbol, start: usize, nesting
     if nesting == 0 {
         return Noted {
             bytes: start,
-            next: faulty(4, y.place),
+            next: faulty(4, y),
         };
     }
     let mut z = expect(text, y, readers::ROUND);

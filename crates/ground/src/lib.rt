@@ -5,7 +5,7 @@ ghost use mathlib.Core.Path.{_≡_};
 ghost use mathlib.Core.Bool.{_&&_, _||_};
 ghost use mathlib.Core.List.{[]};
 ghost use Prim.Native.Nat.{_+_, _≤_, _<_};
-ghost use lib.ListN.{length};
+ghost use lib.ListN.{length, getD};
 ghost use lib.Dec.{leb};
 ghost use Rattle.rules.specs.Bytes.{same, isDigit};
 ghost use Rattle.rules.specs.Book.{bit, lowFirst, twos, padded};
@@ -67,6 +67,16 @@ pub fn is_digit(b: u8) -> bool
     ensures { λ r. ⌜ r ≡ isDigit b ⌝ }
 {
     between(b'0', b'9', b)
+}
+
+// The byte at a place, 0 behind the end.
+pub fn byte_at(text: &[u8], at: usize) -> u8
+    ensures { λ r. ⌜ r ≡ getD (now (text .entry)) at 0 ⌝ }
+{
+    if at < text.len() {
+        return text[at];
+    }
+    0
 }
 
 // ---- bytes and places as wider numbers

@@ -7,7 +7,7 @@ use Prim.Native.Nat.{ℕ, suc, _+_, _-_, _<_}
 use native.Mathlib.Omega.{arith}
 use lib.ListN.{length}
 use lib.Dec.{eqb}
-use borrow.Author.Tests.{eqb-true, eq-eqb}
+use borrow.Author.Tests.{eqb-true}
 use Rattle.rules.specs.Bytes.{ascii, same, isOneOf}
 use Rattle.rules.specs.Symbols as rules
 use Rattle.rules.specs.Reserved.{forms}
@@ -22,12 +22,12 @@ use Rattle.rules.proofs.ForwardLaws.{one-word}
 use Rattle.rules.proofs.FuelLaws.{properties-fuel}
 use Rattle.symbols.specs.declared.Symbol.{Symbol}
 use Rattle.words.specs.Words.{position}
-use Rattle.symbols.specs.Cut.{made}
+use Rattle.symbols.specs.Cut.{faultyAs}
 use Rattle.readers.specs.Reads.{faultAt, Stands, Cuts, Held, passed, Gives, Reads}
 use Rattle.readers.proofs.CodeLaws.{Test, is-mark, is-word, is-only-word, is-one-word}
 use Rattle.readers.proofs.StandLaws.{fault-stands, stands-lies}
 use Rattle.readers.proofs.ReadLaws.{gives-map, gives-weaker, bind, stay, held, if-true, if-false, expected, taken}
-use Rattle.readers.proofs.ReadLaws.{is-yes, is-no}
+use Rattle.readers.proofs.ReadLaws.{behind, is-yes, is-no}
 use Rattle.parts.specs.declared.Owner.{Owner}
 use Rattle.parts.specs.declared.Owner.the-variants.{Attribute, Definition, Measure}
 use Rattle.parts.specs.declared.Properties.{Properties}
@@ -195,7 +195,7 @@ module _ {t : List ℕ} {b : Owner} {w₀ : rules.Symbol} {have : Properties} {z
         (gives-map (theMark ")" t v) (λ _. []) (gives-weaker close (λ _ _. flags-more)))))
 
   seen-fault : {n : Symbol} → isProperty b (z .code) ≡ false
-      → n ≡ made 5 (z .refusal) (z .place) 0
+      → n ≡ faultyAs (z .refusal) z
       → Gives t (propertiesFrom (enough t) (wordsOf b) t w₀) (λ p. have ≡ flagsOf p) n
   unfolding w after
   seen-fault {n} h e =
@@ -203,7 +203,7 @@ module _ {t : List ℕ} {b : Owner} {w₀ : rules.Symbol} {have : Properties} {z
       s .goes-on have n (rw (list-step t (wordsOf b) w (c .stands), property-test b false (sym h) w c)
       (record {
         next = record {
-          cuts = e ∙ ap (λ (x : Symbol). made 5 (x .refusal) (x .place) 0) (c .cuts);
+          cuts = e ∙ ap (λ (x : Symbol). faultyAs (x .refusal) x) (c .cuts);
           stands = fault-stands t _ _ (let l = c .stands .ends in omega arith);
         };
         value = tt;
@@ -228,7 +228,7 @@ module _ (t : List ℕ) (b : Owner) (have₀ : Properties) (z₀ : Symbol) where
 
   module _ (have : Properties) (z : Symbol) (v : Loop t b have₀ z₀ have z) (e₀ : have₀ ≡ flagsOf []) where
     pub list-fault : {n : Symbol} → isProperty b (z .code) ≡ false
-        → n ≡ made 5 (z .refusal) (z .place) 0
+        → n ≡ faultyAs (z .refusal) z
         → Reads t (propertiesFrom (enough t) (wordsOf b)) (λ p. have ≡ flagsOf p) z₀ n
     list-fault h e = reads-list (λ w c. seen-fault (v .1 w c e₀) h e)
 
@@ -263,7 +263,8 @@ module _ (t : List ℕ) (b : Owner) (have₀ : Properties) (z₀ : Symbol) where
             rw yes at (taken (property-test b true (sym h)) (not-fault z b h) e .reads w c .next) in
             let second = next-lies t (endOf u) (first .ends) in
             let i : z .place ≡ w .place = ap (λ (x : Symbol). x .place) (c .cuts) in
-            let j : z′ .place ≡ symbolAt t (endOf u) .place = rw (f, q .cuts, eq-eqb _ 44 (rw (q .cuts) at k)) in
+            let j : z′ .place ≡ symbolAt t (endOf u) .place =
+            ap (λ (x : Symbol). x .place) (behind q (f ∙ ap (passed t m) (sym k)) .cuts) in
             omega arith
 
 -- ---- the whole list

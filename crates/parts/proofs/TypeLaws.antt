@@ -9,7 +9,7 @@ use lib.ListN.{length, drop, getD}
 use lib.Seq.{getD-take, getD-drop}
 use native.Mathlib.Nat.{add-zero}
 use lib.Dec.{eqb}
-use borrow.Author.Tests.{eqb-true, ne-eqb, eq-eqb, lt-ltb, le-ltb}
+use borrow.Author.Tests.{eqb-true, ne-eqb, lt-ltb, le-ltb}
 use Rattle.rules.specs.Bytes.{ascii, same, isDigit}
 use Rattle.rules.specs.Symbols as rules
 use Rattle.rules.specs.Symbols.{too-large, symbolAt, endOf, digitCount, Kind, word, name, number, quoted, dots, stop}
@@ -25,13 +25,13 @@ use Rattle.ground.specs.Parts.{part}
 use Rattle.book.specs.Forms.{textKind}
 use Rattle.numbers.specs.declared.Number.{Number}
 use Rattle.symbols.specs.declared.Symbol.{Symbol}
-use Rattle.symbols.specs.Cut.{made, cut}
+use Rattle.symbols.specs.Cut.{faultyAs}
 use Rattle.readers.specs.Reads.{Cuts, Held, passed, Reads}
 use Rattle.symbols.specs.Cut.{Sound}
 use Rattle.readers.proofs.CodeLaws.{Test, is-name, is-number, is-dots, is-mark, is-word, is-one-word}
-use Rattle.readers.proofs.StandLaws.{at-stands, fault-stands}
+use Rattle.readers.proofs.StandLaws.{fault-stands}
 use Rattle.readers.proofs.ReadLaws.{onward, bind, stay, mapped, weaker, if-true, if-false, expected, taken, passes-by}
-use Rattle.readers.proofs.ReadLaws.{refuses, is-yes, is-no}
+use Rattle.readers.proofs.ReadLaws.{behind, refuses, is-yes, is-no}
 use Rattle.elements.specs.Noted.{Whole}
 use Rattle.ground.specs.declared.Reference.{Reference}
 use Rattle.parts.specs.declared.Optional.{Optional}
@@ -117,13 +117,13 @@ module _ {t : List ℕ} {y : Symbol} where
 
 module _ {t : List ℕ} {y n : Symbol} (m : Bool) where
   pub no-length : {v : Meant} → ((z : rules.Symbol) → Cuts t z y → isLength z ≡ false)
-      → n ≡ made 5 (y .refusal) (y .place) 0
+      → n ≡ faultyAs (y .refusal) y
       → Reads t textLength (λ s. v ≡ limitOf m (some s)) y n
   unfolding textLength
   no-length h e = refuses _ h e
 
   module _ {u : ℕ} (k : y .code ≡ 2) (w : wholeOf (part t (y .place) (y .len)) ≡ Count u) where
-    pub long-length : {v : Meant} → 4294967295 < u → n ≡ made 5 4 (y .place) 0
+    pub long-length : {v : Meant} → 4294967295 < u → n ≡ faultyAs 4 y
         → Reads t textLength (λ s. v ≡ limitOf m (some s)) y n
     unfolding textLength
     long-length h e =
@@ -131,7 +131,7 @@ module _ {t : List ℕ} {y n : Symbol} (m : Bool) where
           reads = λ z c. let q = counts k w z c in rw (q .0, lt-ltb 4294967295 (digits (z .bytes) 0) (omega arith))
               (record {
                 next = record {
-                  cuts = e ∙ ap (λ (x : Symbol). made 5 4 (x .place) 0) (c .cuts);
+                  cuts = e ∙ ap (λ (x : Symbol). faultyAs 4 x) (c .cuts);
                   stands = fault-stands t too-large (z .place) (let l = c .stands .ends in omega arith);
                 };
                 value = tt;
@@ -335,13 +335,5 @@ module _ (t : List ℕ) (place len : ℕ) (h : 0 < len) where
   pub whole-signed : isDigit (getD t place 0) ≡ false → Other ≡ wholeOf (part t place len)
   whole-signed d = rw (first-byte, d)
 
--- behind a symbol that is passed, there is another
 pub held-behind : {t : List ℕ} {y n : Symbol} → Held t y → n ≡ passed t y (y .code) → Held t n
-held-behind {t} {y} {n} (z, c) e =
-    let f : n ≡ cut (symbolAt t (y .next .at)) = e ∙ rw (eq-eqb (y .code) (y .code) refl) in (
-      symbolAt t (endOf z),
-      record {
-        cuts = f ∙ ap (λ (x : Symbol). cut (symbolAt t (x .next .at))) (c .cuts);
-        stands = at-stands t (endOf z) (c .stands .ends);
-      },
-    )
+held-behind (z, c) e = (_, behind c e)

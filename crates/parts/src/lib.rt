@@ -106,7 +106,7 @@ fn property_list(text: &[u8], y: Symbol, owner: Owner) -> PropertiesRead
     }
     PropertiesRead {
         properties: have,
-        next: faulty(z.refusal, z.place),
+        next: faulty(z.refusal, z),
     }
 }
 

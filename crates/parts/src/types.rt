@@ -17,7 +17,7 @@ ghost use Rattle.rules.specs.Grammar.{textLength, textType, rangeType, numericT
 ghost use Rattle.rules.specs.Grammar.{written};
 ghost use Rattle.ground.specs.Parts.{part};
 ghost use Rattle.book.specs.Forms.{textKind};
-ghost use Rattle.symbols.specs.Cut.{made};
+ghost use Rattle.symbols.specs.Cut.{faultyAs};
 ghost use Rattle.readers.specs.Reads.{Cuts, Held, Reads};
 ghost use Rattle.parts.specs.Forms.{optionalOf, numberOf, wholeOf, limitOf, textCode, typeBy, mandatoryBy};
 ghost use Rattle.parts.specs.Forms.{Plainly, Means, MeansAny, MeansAll, readAt};
@@ -74,12 +74,12 @@ fn whole_number(text: &[u8], place: usize, len: usize) -> Whole
 }
 
 fn no_length(y: Symbol) -> MeantRead
-    ensures { λ r. ⌜ (r .next ≡ made 5 (y .refusal) (y .place) 0) × (r .reference ≡ optionalOf none) ⌝ }
+    ensures { λ r. ⌜ (r .next ≡ faultyAs (y .refusal) y) × (r .reference ≡ optionalOf none) ⌝ }
 {
     MeantRead {
         meant: Meant::Alone,
         reference: Optional::Nothing,
-        next: faulty(y.refusal, y.place),
+        next: faulty(y.refusal, y),
     }
 }
 
@@ -99,7 +99,7 @@ fn text_length(text: &[u8], kind: u8, y: Symbol) -> MeantRead
                     return MeantRead {
                         meant: Meant::Alone,
                         reference: Optional::Nothing,
-                        next: faulty(4, place),
+                        next: faulty(4, y),
                     };
                 }
                 return MeantRead {

@@ -11,7 +11,8 @@ use Rattle.rules.specs.Symbols as rules
 use Rattle.rules.specs.Symbols.{Fault, symbolAt, endOf}
 use Rattle.rules.specs.Readers.{Result, done, refused, Reader, andThen, _>>=_, ret, expect, aName, ifNext}
 use Rattle.symbols.specs.declared.Symbol.{Symbol}
-use Rattle.symbols.specs.Cut.{made, codeOf, cut}
+use Rattle.symbols.specs.Cut.{codeOf, faultyAs, cut, nextOf}
+use Rattle.symbols.proofs.CutLaws.{next-cut}
 use Rattle.readers.specs.Reads.{faultAt, Stands, Cuts, Held, passed, named, nameCut, Gives, Reads}
 use Rattle.readers.proofs.CodeLaws.{Test, is-name}
 use Rattle.readers.proofs.StandLaws.{at-stands, fault-stands}
@@ -87,17 +88,20 @@ both-ways P true h g = h
 both-ways P false h g = g
 
 module _ {t : List ℕ} {p : rules.Symbol → Bool} {k : ℕ} (q : Test p k) where
-  expect-at : (z : rules.Symbol) → Stands t z → Gives t (expect p t z) (λ a. cut z ≡ cut a) (passed t (cut z) k)
+  expect-at : (z : rules.Symbol) → Stands t z → Gives t (expect p t z) (λ a. cut t z ≡ cut t a) (passed t (cut t z) k)
   expect-at z s =
       rw (q .test z (s .coded))
-      (both-ways (λ m n. Gives t m (λ a. cut z ≡ cut a) n) (eqb (codeOf (z .kind) (z .bytes)) k)
-      (record { next = record { cuts = refl; stands = at-stands t (endOf z) (s .ends) }; value = refl })
+      (both-ways (λ m n. Gives t m (λ a. cut t z ≡ cut t a) n) (eqb (codeOf (z .kind) (z .bytes)) k)
+      (record {
+        next = record { cuts = next-cut t z (s .level) (s .ends); stands = at-stands t (endOf z) (s .ends) };
+        value = refl;
+      })
       (record {
         next = record { cuts = refl; stands = fault-stands t _ _ (let e = s .ends in omega arith) };
         value = tt;
       }))
 
-  pub expected : {y n : Symbol} → n ≡ passed t y k → Reads t (expect p) (λ a. y ≡ cut a) y n
+  pub expected : {y n : Symbol} → n ≡ passed t y k → Reads t (expect p) (λ a. y ≡ cut t a) y n
   expected {y} {n} e =
       record {
         reads = λ z c. rw (e, c .cuts) (expect-at z (c .stands));
@@ -122,7 +126,7 @@ passes-by {t} {p} {k} {y} {n} q e = record {
   passes = expected q e .passes;
 }
   where
-    go : (z : rules.Symbol) → Cuts t z y → (b : Bool) → p z ≡ b → Gives t (expect p t z) (λ a. y ≡ cut a) n
+    go : (z : rules.Symbol) → Cuts t z y → (b : Bool) → p z ≡ b → Gives t (expect p t z) (λ a. y ≡ cut t a) n
         → Gives t (expect p t z) (λ a. Cuts t a y × (y .code ≡ k)) n
     go z c true f g = rw f (record {
       next = rw f at (g .next);
@@ -133,32 +137,37 @@ passes-by {t} {p} {k} {y} {n} q e = record {
 -- a symbol that fails the test
 pub refuses : {B : Type 0} {t : List ℕ} {P : B → Type 0} {p : rules.Symbol → Bool}
     (k : rules.Symbol → Reader B) {y n : Symbol}
-    → ((z : rules.Symbol) → Cuts t z y → p z ≡ false) → n ≡ made 5 (y .refusal) (y .place) 0
+    → ((z : rules.Symbol) → Cuts t z y → p z ≡ false) → n ≡ faultyAs (y .refusal) y
     → Reads t (expect p >>= k) P y n
 refuses {t} k {y} {n} h e =
     let at : (x : Symbol) → y ≡ x → n
-    ≡ made 5 (x .refusal) (x .place) 0 = λ x f. e ∙ ap (λ (s : Symbol). made 5 (s .refusal) (s .place) 0) f in
+    ≡ faultyAs (x .refusal) x = λ x f. e ∙ ap (λ (s : Symbol). faultyAs (s .refusal) s) f in
     record {
       reads = λ z c. rw (h z c) (record {
         next = record {
-          cuts = at (cut z) (c .cuts);
+          cuts = at (cut t z) (c .cuts);
           stands = fault-stands t _ _ (let l = c .stands .ends in omega arith);
         };
         value = tt;
       });
-      passes = λ f p c. record { cuts = at (cut (faultAt f p)) (c .cuts); stands = c .stands };
+      passes = λ f p c. record { cuts = at (cut t (faultAt f p)) (c .cuts); stands = c .stands };
     }
+
+-- behind a symbol that is passed, there is another
+pub behind : {t : List ℕ} {z : rules.Symbol} {y n : Symbol} → Cuts t z y → n ≡ passed t y (y .code)
+    → Cuts t (symbolAt t (endOf z)) n
+behind {t} {z} {y} {n} c e = record {
+  cuts = e ∙ rw (eq-eqb (y .code) (y .code) refl) (ap (λ (s : Symbol). nextOf t (s .next)) (c .cuts)
+      ∙ next-cut t z (c .stands .level) (c .stands .ends));
+  stands = at-stands t (endOf z) (c .stands .ends);
+}
 
 -- a symbol that is taken by its own code
 pub taken : {t : List ℕ} {p : rules.Symbol → Bool} {y n : Symbol}
     → ((z : rules.Symbol) → Cuts t z y → p z ≡ true) → (y .code ≡ 5 → ⊥)
     → n ≡ passed t y (y .code) → Reads t (expect p) (λ a. Cuts t a y) y n
 taken {t} {p} {y} {n} h s e =
-    let q : n ≡ cut (symbolAt t (y .next .at)) = e ∙ rw (eq-eqb (y .code) (y .code) refl) in
     record {
-      reads = λ z c. rw (h z c) (record {
-        next = record { cuts = q ∙ rw (c .cuts); stands = at-stands t (endOf z) (c .stands .ends) };
-        value = c;
-      });
+      reads = λ z c. rw (h z c) (record { next = behind c e; value = c });
       passes = λ f p c. absurd (s (rw (c .cuts)));
     }

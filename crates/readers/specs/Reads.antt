@@ -8,11 +8,12 @@ use lib.ListN.{length}
 use lib.Dec.{eqb}
 use Rattle.rules.specs.Names as rules-names
 use Rattle.rules.specs.Symbols as rules
-use Rattle.rules.specs.Symbols.{Fault, fault, symbol, endOf, symbolAt, Real}
+use Rattle.rules.specs.Symbols.{Fault, fault, symbol, endOf, Real}
 use Rattle.rules.specs.Readers.{Result, done, refused, Reader}
 use Rattle.ground.specs.Parts.{part}
 use Rattle.symbols.specs.declared.Symbol.{Symbol}
-use Rattle.symbols.specs.Cut.{made, cut, Sound}
+use Rattle.places.specs.Standing.{lineAt}
+use Rattle.symbols.specs.Cut.{faultyAs, cut, nextOf, Sound}
 use Rattle.ground.specs.declared.Name.{Name}
 
 -- ---- symbols
@@ -20,16 +21,17 @@ use Rattle.ground.specs.declared.Name.{Name}
 abbrev pub faultAt : Fault → ℕ → rules.Symbol
 faultAt f p = symbol (fault f) p []
 
--- z stands in the text t
+-- z stands in the text t, on one line
 pub record Stands (t : List ℕ) (z : rules.Symbol) : Type 0 where
   pub coded : Sound (z .kind) (z .bytes)
   pub ends : endOf z ≤ length t
   pub solid : Real (z .kind) → 0 < length (z .bytes)
   pub written : z .bytes ≡ part t (z .place) (length (z .bytes))
+  pub level : lineAt t (endOf z) ≡ lineAt t (z .place)
 
 -- y is the symbol z of the text t
 pub record Cuts (t : List ℕ) (z : rules.Symbol) (y : Symbol) : Type 0 where
-  pub cuts : y ≡ cut z
+  pub cuts : y ≡ cut t z
   pub stands : Stands t z
 
 -- y is a symbol of the text t
@@ -38,7 +40,7 @@ Held t y = (z : rules.Symbol) × Cuts t z y
 
 -- the symbol behind y if y has the code k, and else y as a faulty one
 abbrev pub passed : List ℕ → Symbol → ℕ → Symbol
-passed t y k = cond (eqb (y .code) k) (cut (symbolAt t (y .next .at))) (made 5 (y .refusal) (y .place) 0)
+passed t y k = cond (eqb (y .code) k) (nextOf t (y .next)) (faultyAs (y .refusal) y)
 
 abbrev pub named : Symbol → Name
 named y = record { offset = y .place; len = y .len }

@@ -90,5 +90,5 @@ pub fn expect(text: &[u8], y: Symbol, code: u32) -> Symbol
         let c = y.next;
         return c.next(text);
     }
-    symbols::faulty(y.refusal, y.place)
+    symbols::faulty(y.refusal, y)
 }

@@ -1,34 +1,25 @@
-// Where separators, comments and digits end in a text, and the steps through a string: document 01, "Symbols".
+// Where blanks, comments and digits end in a text, and the steps through a string: document 01, "Symbols".
+use places::Line;
 ghost use mathlib.Core.Path.{_≡_};
 ghost use mathlib.Core.Bool.{_&&_};
 ghost use Prim.Native.Nat.{_+_, _<_};
 ghost use lib.ListN.{length, drop, getD};
-ghost use Rattle.rules.specs.Bytes.{isDigit, isHexadecimal, isSeparator};
+ghost use Rattle.rules.specs.Bytes.{isDigit, isHexadecimal};
 ghost use Rattle.rules.specs.Symbols.{escape};
 ghost use Rattle.ground.specs.Parts.{runEnd};
-ghost use Rattle.scans.specs.Scans.{notLineEnd, twoAt, closeOf, commentAt, fractionEnd, hexAt, stepAt};
+ghost use Rattle.scans.specs.Scans.{isBlank, notLineEnd, twoAt, closeOf, commentAt, fractionEnd, hexAt, stepAt};
 
-// A comment runs to a place, is never closed, or is not there.
+// A comment runs to a place, which stands on a line; it is never closed, or is not there.
 pub enum Pass {
-    To(usize),
+    To { end: usize, line: Line },
     Open,
     None,
-}
-
-// The byte at a place, 0 behind the end.
-fn byte_at(text: &[u8], at: usize) -> u8
-    ensures { λ r. ⌜ r ≡ getD (now (text .entry)) at 0 ⌝ }
-{
-    if at < text.len() {
-        return text[at];
-    }
-    0
 }
 
 pub fn digit_at(text: &[u8], at: usize) -> bool
     ensures { λ r. ⌜ r ≡ isDigit (getD (now (text .entry)) at 0) ⌝ }
 {
-    ground::is_digit(byte_at(text, at))
+    ground::is_digit(ground::byte_at(text, at))
 }
 
 fn is_hexadecimal(b: u8) -> bool
@@ -43,28 +34,22 @@ fn is_hexadecimal(b: u8) -> bool
     ground::between(b'a', b'f', b)
 }
 
-// ---- separators and comments
-fn is_separator(b: u8) -> bool
-    ensures { λ r. ⌜ r ≡ isSeparator b ⌝ }
+// ---- blanks and comments
+fn is_blank(b: u8) -> bool
+    ensures { λ r. ⌜ r ≡ isBlank b ⌝ }
 {
     if b == b' ' {
         return true;
     }
-    if b == b'\t' {
-        return true;
-    }
-    if b == b'\r' {
-        return true;
-    }
-    b == b'\n'
+    b == b'\t'
 }
 
-pub fn separators_end(text: &[u8], at: usize) -> usize
-    ensures { λ r. ⌜ r ≡ runEnd isSeparator (now (text .entry)) at ⌝ }
+pub fn blanks_end(text: &[u8], at: usize) -> usize
+    ensures { λ r. ⌜ r ≡ runEnd isBlank (now (text .entry)) at ⌝ }
 {
     let mut i = at;
     while i < text.len() {
-        if is_separator(text[i]) {
+        if is_blank(text[i]) {
             i += 1;
         } else {
             return i;
@@ -96,33 +81,43 @@ pub fn two(text: &[u8], at: usize, a: u8, b: u8) -> bool
     ensures { λ r. ⌜ r ≡ twoAt (now (text .entry)) at a b ⌝ }
 {
     if text[at] == a {
-        return byte_at(text, at + 1) == b;
+        return ground::byte_at(text, at + 1) == b;
     }
     false
 }
 
-fn block_end(text: &[u8], at: usize) -> Pass
-    ensures { λ r. ⌜ r ≡ closeOf (drop at (now (text .entry))) at ⌝ }
+// From behind `/*` on, a place on this line.
+fn block_end(text: &[u8], at: usize, line: Line) -> Pass
+    ensures { λ r. ⌜ r ≡ closeOf (now (text .entry)) (drop at (now (text .entry))) at line ⌝ }
 {
     let mut i = at;
+    let mut on = line;
     while i < text.len() {
         if two(text, i, b'*', b'/') {
-            return Pass::To(i + 2);
+            return Pass::To {
+                end: i + 2,
+                line: on,
+            };
         }
+        on = places::behind(text, i, on);
         i += 1;
     }
     Pass::Open
 }
 
-pub fn comment(text: &[u8], at: usize) -> Pass
+// A comment that begins at this place, which stands on this line.
+pub fn comment(text: &[u8], at: usize, line: Line) -> Pass
     requires { ⌜ at < length (now text) ⌝ }
-    ensures { λ r. ⌜ r ≡ commentAt (now (text .entry)) at ⌝ }
+    ensures { λ r. ⌜ r ≡ commentAt (now (text .entry)) at line ⌝ }
 {
     if two(text, at, b'!', b'!') {
-        return Pass::To(line_end(text, at + 1));
+        return Pass::To {
+            end: line_end(text, at + 1),
+            line: line,
+        };
     }
     if two(text, at, b'/', b'*') {
-        return block_end(text, at + 2);
+        return block_end(text, at + 2, line);
     }
     Pass::None
 }

@@ -8,12 +8,13 @@ use native.Mathlib.Omega.{arith}
 use lib.Dec.{eqb}
 use borrow.Author.Tests.{eqb-true}
 use types.Run.{OneOf}
-use Rattle.rules.specs.Bytes.{is, isLetter, isDigit, isSeparator}
+use Rattle.rules.specs.Bytes.{is, isLetter, isDigit, isLineEnd, isSeparator}
 use Rattle.rules.specs.Symbols.{isMarkByte}
 use Rattle.rules.proofs.Tests.{split, or-fails, not-is}
 use Rattle.symbols.specs.declared.Class.{Class}
-use Rattle.symbols.specs.declared.Class.the-variants.{Letter, Digit, Sign, Quote, Comment, Punctuation, Separator}
-use Rattle.symbols.specs.declared.Class.the-variants.{Other}
+use Rattle.symbols.specs.declared.Class.the-variants.{Letter, Digit, Sign, Quote, Comment, Punctuation, Blank}
+use Rattle.symbols.specs.declared.Class.the-variants.{LineEnd, Other}
+use Rattle.scans.specs.Scans.{isBlank}
 use Rattle.symbols.specs.Begins.{classOf}
 use Rattle.ground.proofs.TableLaws.{every, on, Beside, isKeyOf, beside}
 
@@ -25,12 +26,14 @@ rank Sign = 2
 rank Quote = 3
 rank Comment = 4
 rank Punctuation = 5
-rank Separator = 6
-rank Other = 7
+rank Blank = 6
+rank LineEnd = 7
+rank Other = 8
 
 abbrev ranked : ℕ → Class
 ranked n = cond (eqb n 0) Letter (cond (eqb n 1) Digit (cond (eqb n 2) Sign
-    (cond (eqb n 3) Quote (cond (eqb n 4) Comment (cond (eqb n 5) Punctuation (cond (eqb n 6) Separator Other))))))
+    (cond (eqb n 3) Quote (cond (eqb n 4) Comment (cond (eqb n 5) Punctuation (cond (eqb n 6) Blank
+    (cond (eqb n 7) LineEnd Other)))))))
 
 ranked-rank : (k : Class) → ranked (rank k) ≡ k
 ranked-rank Letter = refl
@@ -39,7 +42,8 @@ ranked-rank Sign = refl
 ranked-rank Quote = refl
 ranked-rank Comment = refl
 ranked-rank Punctuation = refl
-ranked-rank Separator = refl
+ranked-rank Blank = refl
+ranked-rank LineEnd = refl
 ranked-rank Other = refl
 
 same-rank : (k : Class) (b : ℕ) → eqb (rank k) (rank (classOf b)) ≡ true → k ≡ classOf b
@@ -86,7 +90,8 @@ first Sign b = not (isDigit b) && (is "+" b || is "-" b)
 first Quote b = is "\"" b
 first Comment b = not (isSeparator b) && beginsNone b
 first Punctuation b = not (begins b) && (isMarkByte b || is "." b)
-first Separator b = isSeparator b
+first Blank b = isBlank b
+first LineEnd b = isLineEnd b
 first Other b = beginsNone b
 
 pub class-first : (b : ℕ) (k : Class) → b < 256 → classOf b ≡ k → first k b ≡ true
@@ -101,7 +106,8 @@ isBetween Sign = false
 isBetween Quote = false
 isBetween Comment = true
 isBetween Punctuation = false
-isBetween Separator = true
+isBetween Blank = true
+isBetween LineEnd = true
 isBetween Other = false
 
 -- no other class has the first byte of a separator or a comment

@@ -5,28 +5,34 @@ use mathlib.Core.Path.{_≡_, refl, sym, ap, _∙_}
 use mathlib.Core.Logic.{_⊎_, inl, inr}
 use mathlib.Core.Bool.{Bool, true, false, cond, _&&_, _||_}
 use mathlib.Core.List.{List, [], _∷_}
-use Prim.Native.Nat.{ℕ, zero, suc, _+_, _≤_, _<_}
+use Prim.Native.Nat.{ℕ, zero, suc, _+_, _-_, _≤_, _<_}
 use native.Mathlib.Omega.{arith}
 use lib.ListN.{length, take, drop, getD}
 use lib.Dec.{eqb, leb, ltb}
 use borrow.Author.Tests.{ltb-false, leb-true, eqb-true, eq-eqb, ne-eqb}
-use Rattle.rules.specs.Bytes.{same, isOneOf, is, from, isLetter, isDigit, isWordByte, span}
+use Rattle.rules.specs.Bytes.{same, isOneOf, is, from, isLetter, isDigit, isWordByte, isLineEnd, span}
 use Rattle.rules.specs.Reserved.{forms, table}
-use Rattle.rules.specs.Symbols.{Fault, Kind, word, name, number, quoted, dots, stop, mark, fault, Symbol, symbol, tag}
+use Rattle.rules.specs.Symbols.{Fault, Kind, word, name, number, quoted, dots, stop, mark, fault, Symbol, symbol, endOf}
+use Rattle.rules.specs.Symbols.{tag}
 use Rattle.rules.specs.Symbols.{Gap, upTo, open-at, apart, gap, Quote, closed, bad, endless, quote, unsignedLength}
 use Rattle.rules.specs.Symbols.{digitCount, wordKind, numberKind, aWord, aNumber, aString, isMarkByte, symbolOf, beyond}
 use Rattle.rules.specs.Symbols.{symbolAt, mostDigits}
 use Rattle.rules.proofs.Tests.{never, alike, or-split, split}
 use Rattle.rules.proofs.ByteLaws.{same-eq, same-refl}
-use Rattle.rules.proofs.SymbolLaws.{either}
+use Rattle.rules.proofs.SymbolLaws.{either, next-lies}
+use Rattle.places.specs.Standing.{positionIn, firstLine, linesOn, lineTo, lineAt}
+use Rattle.places.proofs.StandingLaws.{line-to, on-line}
+use Rattle.places.proofs.LevelLaws.{Level, no-end, level-run, level-two, to-level}
 use Rattle.words.specs.Words.{position}
-use Rattle.symbols.specs.Cut.{codeOf, NoWord, Sound}
+use Rattle.symbols.specs.Cut.{codeOf, positionAt, cutOn, cut, start, nextOf, NoWord, Sound}
+use Rattle.symbols.proofs.LineLaws.{number-level, QuoteLevel, quote-level}
 use Rattle.ground.proofs.TableLaws.{test}
 
 -- ---- what holds of a symbol's kind and bytes
 pub record Cut (t : List ℕ) (y : Symbol) : Type 0 where
   pub stands : y .bytes ≡ take (length (y .bytes)) (drop (y .place) t)
   pub sound : Sound (y .kind) (y .bytes)
+  pub level : Level (y .bytes)
 
 take-take-length : (n : ℕ) (s : List ℕ) → take n s ≡ take (length (take n s)) s
 take-take-length zero s = refl
@@ -90,38 +96,61 @@ mark-sound b e = one (or-split {x = from "(" "*" b} e)
 
 module _ (t : List ℕ) (k : ℕ) where
   empty-cut : (f : Fault) (p : ℕ) → Cut t (symbol (fault f) p [])
-  empty-cut f p = record { stands = refl; sound = tt }
+  empty-cut f p = record { stands = refl; sound = tt; level = tt }
 
-  first-cut : (y : Kind) (n : ℕ) → Sound y (take n (drop k t)) → Cut t (symbol y k (take n (drop k t)))
-  first-cut y n h = record { stands = take-take-length n (drop k t); sound = h }
+  first-cut : (y : Kind) (n : ℕ) → Sound y (take n (drop k t)) → Level (take n (drop k t))
+      → Cut t (symbol y k (take n (drop k t)))
+  first-cut y n h l = record { stands = take-take-length n (drop k t); sound = h; level = l }
 
-  word-cut : (n : ℕ) → Sound (wordKind (take n (drop k t))) (take n (drop k t)) → Cut t (aWord k (take n (drop k t)))
-  word-cut n h = first-cut (wordKind (take n (drop k t))) n h
+  number-cut : (n : ℕ) → Level (take n (drop k t)) → Cut t (aNumber k (take n (drop k t)))
+  number-cut n l = first-cut (numberKind (take n (drop k t))) n (number-sound (take n (drop k t))) l
 
-  number-cut : (n : ℕ) → Cut t (aNumber k (take n (drop k t)))
-  number-cut n = first-cut (numberKind (take n (drop k t))) n (number-sound (take n (drop k t)))
+  module _ (b : ℕ) (s : List ℕ) (e : drop k t ≡ b ∷ s) where
+    word-cut : isLetter b ≡ true → Cut t (aWord k (take (suc (span isWordByte s)) (b ∷ s)))
+    word-cut l =
+        let w = take (span isWordByte s) s in
+        let v : Level (b ∷ w) = (no-end isLetter refl refl b l, level-run isWordByte refl refl s) in
+        rw e at (first-cut (wordKind (b ∷ w)) (suc (span isWordByte s))
+        (rw e (word-sound b w l (span-run isWordByte s))) (rw e v))
 
-  string-cut : (q : Quote) → Cut t (aString k (drop k t) q)
-  string-cut (closed n) = first-cut quoted (suc (suc n)) tt
-  string-cut (bad n) = empty-cut _ _
-  string-cut endless = empty-cut _ _
+    signed-cut : (is "+" b || is "-" b) ≡ true → Cut t (aNumber k (take (suc (unsignedLength s)) (b ∷ s)))
+    signed-cut l =
+        let v : isLineEnd b ≡ false = no-end (λ x. is "+" x || is "-" x) refl refl b l in
+        rw e at (number-cut (suc (unsignedLength s)) (rw e (v, number-level s)))
+
+    string-cut : isLineEnd b ≡ false → (q : Quote) → QuoteLevel s 0 q → Cut t (aString k (b ∷ s) q)
+    string-cut v (closed n) l =
+        let z : n - 0 ≡ n = omega arith in
+        rw e at (first-cut quoted (suc (suc n)) tt (rw e (v, rw z at (l .1))))
+    string-cut v (bad n) l = empty-cut _ _
+    string-cut v endless l = empty-cut _ _
+
+    mark-cut : isLineEnd b ≡ false → (40 ≤ b) × NoWord b → Cut t (symbol (mark b) k (b ∷ []))
+    mark-cut v h = rw e at (first-cut (mark b) 1 h (rw e (v, tt)))
+
+    dot-cut : is "." b ≡ true → Cut t
+        (cond (is "." (getD s 0 0)) (symbol dots k (take 2 (b ∷ s))) (symbol (mark b) k (b ∷ [])))
+    dot-cut p =
+        let q = eqb-true b 46 p in
+        let v : isLineEnd b ≡ false = no-end (λ x. is "." x) refl refl b p in
+        either (Cut t) (is "." (getD s 0 0))
+        (λ r. rw e at (first-cut dots 2 tt
+        (rw e (level-two (b ∷ s) v (no-end (λ x. is "." x) refl refl (getD s 0 0) r)))))
+        (λ _. mark-cut v (omega arith, inl (omega arith)))
 
   of-cut : (s : List ℕ) → drop k t ≡ s → Cut t (symbolOf k s)
   unfolding symbolOf
-  of-cut [] e = record { stands = refl; sound = tt }
+  of-cut [] e = record { stands = refl; sound = tt; level = tt }
   of-cut (b ∷ s) e =
-      let marked : (40 ≤ b) × NoWord b → Cut t (symbol (mark b) k (b ∷ [])) = λ h. rw e at (first-cut (mark b) 1 h) in
-      either (Cut t) (isLetter b) (λ l. rw e at
-      (word-cut (suc (span isWordByte s)) (rw e (word-sound b (take (span isWordByte s) s) l (span-run isWordByte s)))))
-      (λ _. either (Cut t) (isDigit b) (λ _. rw e at (number-cut (unsignedLength (b ∷ s))))
+      either (Cut t) (isLetter b) (word-cut b s e)
+      (λ _. either (Cut t) (isDigit b)
+      (λ _. rw e at (number-cut (unsignedLength (b ∷ s)) (rw e (number-level (b ∷ s)))))
       (λ _. either (Cut t) ((is "+" b || is "-" b) && isDigit (getD s 0 0))
-      (λ _. rw e at (number-cut (suc (unsignedLength s))))
-      (λ _. either (Cut t) (is "\"" b) (λ _. rw e at (string-cut (quote s 0 0)))
-      (λ _. either (Cut t) (isMarkByte b) (λ m. marked (mark-sound b m))
-      (λ _. either (Cut t) (is "." b)
-      (λ p. either (Cut t) (is "." (getD s 0 0)) (λ _. rw e at (first-cut dots 2 tt))
-      (λ _. let q = eqb-true b 46 p in marked (omega arith, inl (omega arith))))
-      (λ _. empty-cut _ _))))))
+      (λ p. signed-cut b s e (split {x = is "+" b || is "-" b} p .0))
+      (λ _. either (Cut t) (is "\"" b)
+      (λ p. string-cut b s e (no-end (λ x. is "\"" x) refl refl b p) (quote s 0 0) (quote-level s 0 0 tt))
+      (λ _. either (Cut t) (isMarkByte b) (λ m. mark-cut b s e (no-end isMarkByte refl refl b m) (mark-sound b m))
+      (λ _. either (Cut t) (is "." b) (dot-cut b s e) (λ _. empty-cut _ _))))))
 
 beyond-cut : (t : List ℕ) (g : Gap) → Cut t (beyond t g)
 beyond-cut t (upTo k) = of-cut t k (drop k t) refl
@@ -130,6 +159,35 @@ beyond-cut t (open-at k) = empty-cut t 0 _ k
 pub cut-at : (t : List ℕ) (i : ℕ) → Cut t (symbolAt t i)
 unfolding symbolAt
 cut-at t i = beyond-cut t (gap (drop i t) apart i)
+
+-- ---- lines
+-- the place behind a symbol of the text stands on its line
+pub same-line : (t : List ℕ) (y : Symbol) → Cut t y → lineAt t (endOf y) ≡ lineAt t (y .place)
+same-line t y c =
+    let n = length (y .bytes) in
+    let z : endOf y - y .place ≡ n = omega arith in
+    sym (line-to t (y .place) (endOf y) (omega arith))
+    ∙ to-level t (y .place) (endOf y) (lineAt t (y .place)) (rw (z, ← c .stands) (c .level))
+
+-- the line and the column of a symbol of the text are those of its place
+pub its-position : (t : List ℕ) (y : Symbol) → y .place ≤ length t → y .place < 4294967295
+    → positionAt (cut t y) ≡ positionIn t (y .place)
+its-position t y h l = on-line t (y .place) h l
+
+pub next-first : (t : List ℕ) → nextOf t start ≡ cut t (symbolAt t 0)
+unfolding nextOf
+next-first t =
+    let z : symbolAt t 0 .place - 0 ≡ symbolAt t 0 .place = omega arith in
+    ap (λ n. cutOn (linesOn t 0 n firstLine) (symbolAt t 0)) z
+
+-- behind the symbol y of the text
+pub next-cut : (t : List ℕ) (y : Symbol) → lineAt t (endOf y) ≡ lineAt t (y .place) → endOf y ≤ length t
+    → nextOf t (cut t y .next) ≡ cut t (symbolAt t (endOf y))
+unfolding nextOf
+next-cut t y e h =
+    let p = symbolAt t (endOf y) .place in
+    ap (λ x. cutOn x (symbolAt t (endOf y)))
+    (ap (lineTo t (endOf y) p) (sym e) ∙ line-to t (endOf y) p (next-lies t (endOf y) h .starts))
 
 -- ---- tests on a symbol's kind and bytes are tests on its code
 neither : (a b c d : ℕ) → ¬ (a ≡ b) → ¬ (c ≡ d) → eqb a b ≡ eqb c d

@@ -3,5 +3,6 @@ pub mod GapLaws
 pub mod WordLaws
 pub mod NumberLaws
 pub mod StringLaws
+pub mod LineLaws
 pub mod BeginLaws
 pub mod CutLaws

@@ -13,8 +13,9 @@ use borrow.Author.Tests.{eqb-true}
 use Rattle.rules.specs.Bytes.{part, is, isDigit, span}
 use Rattle.rules.specs.Symbols.{unsignedLength, mostDigits, digitCount, aNumber}
 use Rattle.rules.proofs.Tests.{split, not-both}
-use Rattle.symbols.specs.Cut.{cut}
+use Rattle.symbols.specs.Cut.{cutOn}
 use Rattle.ground.specs.Parts.{runEnd}
+use Rattle.places.specs.declared.Line.{Line}
 use Rattle.scans.specs.Scans.{fractionEnd}
 use Rattle.symbols.specs.Begins.{numberCut}
 use Rattle.ground.proofs.TableLaws.{test}
@@ -31,8 +32,9 @@ count-run [] = refl
 count-run (b ∷ s) = let go = count-run s in test (isDigit b) (λ e. rw (e, e, go)) (λ e. rw e)
 
 -- the number's bytes, as the code has them
-pub number-cut : (at n d : ℕ) (b : List ℕ) → length b ≡ n → digitCount b ≡ d → cut (aNumber at b) ≡ numberCut at n d
-number-cut at n d b e f = rw (← e, ← f) (test (ltb mostDigits (digitCount b)) (λ x. rw x) (λ x. rw x))
+pub number-cut : (at n d : ℕ) (x : Line) (b : List ℕ) → length b ≡ n → digitCount b ≡ d
+    → cutOn x (aNumber at b) ≡ numberCut at n d x
+number-cut at n d l b e f = rw (← e, ← f) (test (ltb mostDigits (digitCount b)) (λ x. rw x) (λ x. rw x))
 
 module _ (t : List ℕ) (at sign : ℕ) where
   abbrev digits : ℕ
@@ -77,20 +79,20 @@ module _ (t : List ℕ) (at sign : ℕ) where
         count-run (drop (suc e) t),
       )
 
-  module _ (h : at + sign ≤ length t) (z : digitCount (part t at sign) ≡ 0) (e f : ℕ)
+  module _ (l : Line) (h : at + sign ≤ length t) (z : digitCount (part t at sign) ≡ 0) (e f : ℕ)
       (p : e ≡ runEnd isDigit t (at + sign)) (q : f ≡ fractionEnd t e) where
     abbrev Cut : ℕ → Type 0
-    Cut n = cut (aNumber at (part t at (sign + unsignedLength (drop (at + sign) t)))) ≡ numberCut at (f - at) n
+    Cut n = cutOn l (aNumber at (part t at (sign + unsignedLength (drop (at + sign) t)))) ≡ numberCut at (f - at) n l
 
     fits : (n : ℕ) → f ≤ length t → at + sign ≤ f → digitCount (part t (at + sign) (f - (at + sign))) ≡ n → Cut n
-    fits n l g c =
+    fits n m g c =
         let u : unsignedLength (drop (at + sign) t) ≡ f - (at + sign) = unsigned ∙ rw (← p, ← q) in
-        let m : sign + (f - (at + sign)) ≡ f - at = omega arith in
-        rw u (number-cut at (f - at) n (part t at (sign + (f - (at + sign)))) (length-part t at _ (omega arith) ∙ m)
+        let k : sign + (f - (at + sign)) ≡ f - at = omega arith in
+        rw u (number-cut at (f - at) n l (part t at (sign + (f - (at + sign)))) (length-part t at _ (omega arith) ∙ k)
         (count z (f - (at + sign)) ∙ c))
 
-    pub number-whole : f ≤ e → cut (aNumber at (part t at (sign + unsignedLength (drop (at + sign) t))))
-        ≡ numberCut at (e - at) (e - (at + sign))
+    pub number-whole : f ≤ e → cutOn l (aNumber at (part t at (sign + unsignedLength (drop (at + sign) t))))
+        ≡ numberCut at (e - at) (e - (at + sign)) l
     number-whole g =
         test (dotAt e)
         (λ d.

@@ -13,7 +13,8 @@ use borrow.Author.Tests.{ne-eqb}
 use Rattle.rules.specs.Bytes.{is}
 use Rattle.rules.specs.Symbols.{Quote, closed, bad, escape, quote, aString}
 use Rattle.symbols.specs.declared.Symbol.{Symbol}
-use Rattle.symbols.specs.Cut.{made, cut}
+use Rattle.symbols.specs.Cut.{made, cutOn}
+use Rattle.places.specs.declared.Line.{Line}
 use Rattle.scans.specs.Scans.{stepAt}
 use Rattle.scans.proofs.EscapeLaws.{escape-le}
 
@@ -90,12 +91,12 @@ module _ (t : List ℕ) (i k : ℕ) (h : i < length t) where
       (is "\\" (getD t i 0)) (eqb (escape (drop (suc i) t)) 0) (rw (add-one i) at z))
 
 -- ---- strings as symbols: the bytes from the opening quote at `at` up to i are passed
-module _ (t : List ℕ) (at i : ℕ) (h : at < i)
+module _ (t : List ℕ) (at i : ℕ) (x : Line) (h : at < i)
     (q : quote (drop (at + 1) t) 0 0 ≡ quote (drop i t) 0 (i - (at + 1))) where
   abbrev Is : Symbol → Type 0
-  Is y = cut (aString at (drop at t) (quote (drop (at + 1) t) 0 0)) ≡ y
+  Is y = cutOn x (aString at (drop at t) (quote (drop (at + 1) t) 0 0)) ≡ y
 
-  pub string-closed : i < length t → getD t i 0 ≡ 34 → Is (made 3 5 at (i + 1 - at))
+  pub string-closed : i < length t → getD t i 0 ≡ 34 → Is (made 3 5 at (i + 1 - at) x)
   string-closed l e =
       let n : suc (suc (i - (at + 1))) ≡ i + 1 - at = omega arith in
       rw (
@@ -105,12 +106,12 @@ module _ (t : List ℕ) (at i : ℕ) (h : at < i)
         n,
       )
 
-  pub string-bad : i < length t → ¬ (getD t i 0 ≡ 34) → stepAt t i ≡ 0 → Is (made 5 2 i 0)
+  pub string-bad : i < length t → ¬ (getD t i 0 ≡ 34) → stepAt t i ≡ 0 → Is (made 5 2 i 0 x)
   string-bad l e z =
       let n : suc (at + (i - (at + 1))) ≡ i = omega arith in
       rw (q, quote-bad t i (i - (at + 1)) l e z, n)
 
-  pub string-open : length t ≤ i → Is (made 5 3 at 0)
+  pub string-open : length t ≤ i → Is (made 5 3 at 0 x)
   string-open l = rw (q, drop-of-length-le t l)
 
   pub string-on : i < length t → ¬ (getD t i 0 ≡ 34) → 0 < stepAt t i

@@ -4,15 +4,16 @@ use mathlib.Core.List.{List}
 use Prim.Native.Nat.{ℕ, _+_, _-_}
 use lib.ListN.{drop, getD}
 use lib.Dec.{ltb}
-use Rattle.rules.specs.Bytes.{part, is, isLetter, isDigit, isWordByte, isSeparator}
+use Rattle.rules.specs.Bytes.{part, is, isLetter, isDigit, isWordByte, isLineEnd}
 use Rattle.rules.specs.Symbols.{quote, unsignedLength, mostDigits, aWord, aNumber, aString, isMarkByte}
 use Rattle.ground.specs.Parts.{runEnd}
-use Rattle.scans.specs.Scans.{twoAt}
+use Rattle.places.specs.declared.Line.{Line}
+use Rattle.scans.specs.Scans.{isBlank, twoAt}
 use Rattle.symbols.specs.declared.Symbol.{Symbol}
 use Rattle.symbols.specs.declared.Class.{Class}
-use Rattle.symbols.specs.declared.Class.the-variants.{Letter, Digit, Sign, Quote, Comment, Punctuation, Separator}
-use Rattle.symbols.specs.declared.Class.the-variants.{Other}
-use Rattle.symbols.specs.Cut.{made, cut}
+use Rattle.symbols.specs.declared.Class.the-variants.{Letter, Digit, Sign, Quote, Comment, Punctuation, Blank}
+use Rattle.symbols.specs.declared.Class.the-variants.{LineEnd, Other}
+use Rattle.symbols.specs.Cut.{made, cutOn}
 
 -- what begins with a byte
 unfoldable pub classOf : ℕ → Class
@@ -23,25 +24,26 @@ classOf b =
     (cond (is "\"" b) Quote
     (cond (is "!" b || is "/" b) Comment
     (cond (isMarkByte b || is "." b) Punctuation
-    (cond (isSeparator b) Separator Other))))))
+    (cond (isBlank b) Blank
+    (cond (isLineEnd b) LineEnd Other)))))))
 
--- what begins at i: with a letter; with a quote; with a digit, behind a sign of so many bytes
-abbrev pub wordCut : List ℕ → ℕ → Symbol
-wordCut t i = cut (aWord i (part t i (runEnd isWordByte t (i + 1) - i)))
+-- what begins at i, on the line x: with a letter; with a quote; with a digit, behind a sign of so many bytes
+abbrev pub wordCut : List ℕ → ℕ → Line → Symbol
+wordCut t i x = cutOn x (aWord i (part t i (runEnd isWordByte t (i + 1) - i)))
 
-abbrev pub stringCut : List ℕ → ℕ → Symbol
-stringCut t i = cut (aString i (drop i t) (quote (drop (i + 1) t) 0 0))
+abbrev pub stringCut : List ℕ → ℕ → Line → Symbol
+stringCut t i x = cutOn x (aString i (drop i t) (quote (drop (i + 1) t) 0 0))
 
-abbrev pub unsignedCut : List ℕ → ℕ → ℕ → Symbol
-unsignedCut t i sign = cut (aNumber i (part t i (sign + unsignedLength (drop (i + sign) t))))
+abbrev pub unsignedCut : List ℕ → ℕ → ℕ → Line → Symbol
+unsignedCut t i sign x = cutOn x (aNumber i (part t i (sign + unsignedLength (drop (i + sign) t))))
 
 -- a number of so many bytes and digits
-abbrev pub numberCut : ℕ → ℕ → ℕ → Symbol
-numberCut p l d = cond (ltb mostDigits d) (made 5 4 p l) (made 2 5 p l)
+abbrev pub numberCut : ℕ → ℕ → ℕ → Line → Symbol
+numberCut p l d x = cond (ltb mostDigits d) (made 5 4 p l x) (made 2 5 p l x)
 
 -- with a sign, and with a mark
-abbrev pub signedCut : List ℕ → ℕ → Symbol
-signedCut t i = cond (isDigit (getD t (i + 1) 0)) (unsignedCut t i 1) (made 5 2 i 0)
+abbrev pub signedCut : List ℕ → ℕ → Line → Symbol
+signedCut t i x = cond (isDigit (getD t (i + 1) 0)) (unsignedCut t i 1 x) (made 5 2 i 0 x)
 
-abbrev pub markCut : List ℕ → ℕ → Symbol
-markCut t i = cond (twoAt t i 46 46) (made 4 5 i 2) (made (getD t i 0) 5 i 1)
+abbrev pub markCut : List ℕ → ℕ → Line → Symbol
+markCut t i x = cond (twoAt t i 46 46) (made 4 5 i 2 x) (made (getD t i 0) 5 i 1 x)

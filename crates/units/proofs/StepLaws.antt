@@ -21,9 +21,11 @@ use Rattle.rules.specs.Units.{step, headerUnit, modelUnit, topicUnit, classUnit
 use Rattle.rules.specs.Units.{attributeUnit, endUnit, wordStep, bodyEnd, bodyUnit, memberUnit, lastStep, unitAt}
 use Rattle.rules.proofs.Tests.{split, or-split}
 use Rattle.symbols.specs.declared.Symbol.{Symbol}
-use Rattle.symbols.specs.Cut.{cut}
+use Rattle.places.specs.Standing.{onLine, lineAt}
+use Rattle.symbols.specs.Cut.{cut, nextOf}
+use Rattle.symbols.proofs.CutLaws.{next-cut}
 use Rattle.ground.specs.declared.Name.{Name}
-use Rattle.readers.specs.Reads.{faultAt, Cuts, passed, named, Gives, Reads}
+use Rattle.readers.specs.Reads.{faultAt, Stands, Cuts, passed, named, Gives, Reads}
 use Rattle.readers.proofs.CodeLaws.{Test, is-name, is-number, is-quoted, is-stop, is-mark, is-word, is-one-word}
 use Rattle.readers.proofs.ReadLaws.{Passes, onward, bind, stay, mapped, if-true, if-false, expected, taken, is-yes}
 use Rattle.readers.proofs.ReadLaws.{is-no, a-name}
@@ -44,11 +46,11 @@ use Rattle.units.specs.declared.Step.{Step}
 use Rattle.units.specs.declared.Step.the-variants.{Read, Unread}
 use Rattle.units.specs.Steps.{aroundOf, runOf, runCut, behindOf, whereOf, placeOf, runUnit, endMark, language}
 use Rattle.units.specs.Steps.{anything, IsAny}
-use Rattle.units.specs.Steps.{StepIs, Steps, endedOf}
+use Rattle.units.specs.Steps.{UnreadAt, StepIs, Steps, endedOf}
 
 -- ---- one part after another
 abbrev Faults : List ℕ → Symbol → Step → Type 0
-Faults t y r = (f : Fault) (k : ℕ) → Cuts t (faultAt f k) y → r ≡ Unread (numberOf f) k
+Faults t y r = (f : Fault) (k : ℕ) → Cuts t (faultAt f k) y → UnreadAt t f k r
 
 through : {t : List ℕ} {y n : Symbol} {r : Step} → Passes t y n → Faults t n r → Faults t y r
 through h g f k c = g f k (h f k c)
@@ -85,9 +87,12 @@ fault-narrow rules.reserved = refl
 fault-ended : {t : List ℕ} {y : Symbol} {r : Step} (k : ℕ) (u : C.Unit) (w : Where) → (k ≡ 5 → ⊥)
     → r ≡ endedOf t y k u w → Faults t y r
 fault-ended {t} k u w s e f i c =
-    e
-    ∙ ap (λ (x : Symbol). endedOf t x k u w) (c .cuts)
-    ∙ rw (ne-eqb 5 k (λ h. s (sym h))) (ap (λ n. Unread n i) (fault-narrow f))
+    let l = c .stands .ends in (
+      e
+          ∙ ap (λ (x : Symbol). endedOf t x k u w) (c .cuts)
+          ∙ rw (ne-eqb 5 k (λ h. s (sym h))) (ap (λ n. Unread n i (onLine (lineAt t i) i)) (fault-narrow f)),
+      omega arith,
+    )
 
 module _ {t o p : List ℕ} {r : Step} where
   pub ends : {y : Symbol} {q : rules.Symbol → Bool} {k : ℕ} (u : C.Unit) (x : Option U.Unit) (w : U.Where) {v : Where}
@@ -96,22 +101,29 @@ module _ {t o p : List ℕ} {r : Step} where
   ends {y} {q} {k} u x w {v} j h e i =
       record {
         steps = λ z c. subst (StepIs t o p ((expect q >>= λ e. step x w e) t z)) (sym (placed
-            ∙ ap (λ (s : Symbol). endedOf t s k u (whereOf w)) (c .cuts))) (at z (h .test z (c .stands .coded)));
+            ∙ ap (λ (s : Symbol). endedOf t s k u (whereOf w)) (c .cuts)))
+            (at z (c .stands) (h .test z (c .stands .coded)));
         faults = fault-ended k u v (h .sound) e;
       }
     where
       placed : r ≡ endedOf t y k u (whereOf w)
       placed = e ∙ ap (λ (s : Where). endedOf t y k u s) (sym j)
 
-      at : (z : rules.Symbol) → q z ≡ eqb (cut z .code) k
-          → StepIs t o p ((expect q >>= λ e. step x w e) t z) (endedOf t (cut z) k u (whereOf w))
-      at z f = rw f (go (eqb (cut z .code) k))
+      at : (z : rules.Symbol) → Stands t z → q z ≡ eqb (cut t z .code) k
+          → StepIs t o p ((expect q >>= λ e. step x w e) t z) (endedOf t (cut t z) k u (whereOf w))
+      at z s f = rw f (go (eqb (cut t z .code) k))
         where
           go : (b : Bool) → StepIs t o p (andThen t
               (cond b (done z (symbolAt t (endOf z))) (refused (faultOf (z .kind)) (z .place))) (λ e. step x w e))
-              (cond b (Read u (whereOf w) (cut (symbolAt t (endOf z)))) (Unread (cut z .refusal % 256) (cut z .place)))
-          go true = (u, refl, i)
-          go false = ap (λ n. Unread n (z .place)) (fault-narrow (faultOf (z .kind)))
+              (cond b (Read u (whereOf w) (nextOf t (cut t z .next)))
+              (Unread (cut t z .refusal % 256) (z .place) (onLine (lineAt t (z .place)) (z .place))))
+          go true = (u, ap (Read u (whereOf w)) (next-cut t z (s .level) (s .ends)), i)
+          go false =
+              let l = s .ends in (
+                ap (λ n. Unread n (z .place) (onLine (lineAt t (z .place)) (z .place)))
+                    (fault-narrow (faultOf (z .kind))),
+                omega arith,
+              )
 
 where-around : (t : Bool) → not (U.isModel (aroundOf t)) ≡ t
 where-around true = refl
@@ -168,7 +180,7 @@ structure-flag {t} {y} h w c =
     let k : (isKind word w ≡ true)
     × (isOneOf (w .bytes) (ascii "CLASS" ∷ ascii "STRUCTURE" ∷ []) ≡ true) = split (class-word h w c) in
     let q : (isKind word w && same (w .bytes) (ascii "STRUCTURE"))
-    ≡ eqb (cut w .code) 70 = is-word (ascii "STRUCTURE") 70 refl .test w (c .stands .coded) in
+    ≡ eqb (cut t w .code) 70 = is-word (ascii "STRUCTURE") 70 refl .test w (c .stands .coded) in
     (rw (k .0) at q) ∙ ap (λ (x : Symbol). eqb (x .code) 70) (sym (c .cuts))
 
 semi : Test (isMark ";") 59

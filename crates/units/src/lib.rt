@@ -6,6 +6,7 @@ use parts::Optional;
 use parts::Owner;
 use parts::Properties;
 use parts::types::Written;
+use places::Position;
 use readers::expect;
 use readers::name_of;
 use symbols::Symbol;
@@ -81,9 +82,19 @@ pub enum Unit {
     Mark,
 }
 
+// A unit, where the next one stands and its first symbol; or the number, the place and the position of the fault that
+// keeps it from being read.
 pub enum Step {
-    Read { unit: Unit, at: Where, next: Symbol },
-    Unread { number: u8, place: usize },
+    Read {
+        unit: Unit,
+        at: Where,
+        next: Symbol,
+    },
+    Unread {
+        number: u8,
+        place: usize,
+        position: Position,
+    },
 }
 
 // The unit's last symbol, which is to have the code.
@@ -102,6 +113,7 @@ fn ended(text: &[u8], y: Symbol, code: u32, unit: Unit, at: Where) -> Step
     Step::Unread {
         number: (y.refusal % 256) as u8,
         place: y.place,
+        position: symbols::position_of(y),
     }
 }
 

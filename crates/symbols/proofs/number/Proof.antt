@@ -11,7 +11,7 @@ returns c =
     let p = c .before .before .before .before .before .pre in
     let a = c .before .before .before .before .before .args in
     c .sized .ensures
-    ∙ sym (number-dotted (a .text .now) (a .at) (a .sign) (p .0) (p .1) (d .result) (f .result) (d .ensures)
+    ∙ sym (number-dotted (a .text .now) (a .at) (a .sign) (a .line) (p .0) (p .1) (d .result) (f .result) (d .ensures)
     (f .ensures) (c .before .if1 .taken))
 
 returns-2 : tie.Need-returns-2
@@ -21,7 +21,7 @@ returns-2 c =
     let p = c .before .before .before .before .before .pre in
     let a = c .before .before .before .before .before .args in
     c .sized2 .ensures
-    ∙ sym (number-whole (a .text .now) (a .at) (a .sign) (p .0) (p .1) (d .result) (f .result) (d .ensures)
+    ∙ sym (number-whole (a .text .now) (a .at) (a .sign) (a .line) (p .0) (p .1) (d .result) (f .result) (d .ensures)
     (f .ensures) (c .before .if1 .left))
 
 pub number-spec : {M : Type 1} → statement M

@@ -15,7 +15,7 @@ returns : tie.Need-returns
 returns c = rw (sym (c .before .before .digit-at .ensures) ∙ c .before .if1 .taken) (c .number .ensures)
 
 returns-2 : tie.Need-returns-2
-returns-2 c = rw (sym (c .before .before .digit-at .ensures) ∙ c .before .if1 .left) (c .faulty .ensures)
+returns-2 c = rw (sym (c .before .before .digit-at .ensures) ∙ c .before .if1 .left) (c .fault .ensures)
 
 pub signed-spec : {M : Type 1} → statement M
 signed-spec =

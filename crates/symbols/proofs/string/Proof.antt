@@ -10,11 +10,11 @@ use Rattle.symbols.proofs.string.Statement.{statement}
 use Rattle.symbols.proofs.string.Tie as tie
 
 abbrev Inv-loop : tie.InvT-loop
-Inv-loop text at i₀ i =
+Inv-loop text at line i₀ i =
     (at < i) × (i ≤ length text) × (quote (drop (at + 1) text) 0 0 ≡ quote (drop i text) 0 (i - (at + 1)))
 
 abbrev μ-loop : tie.MeasureT-loop
-μ-loop text at i₀ i = length text - i
+μ-loop text at line i₀ i = length text - i
 
 loop-holds : tie.Need-loop-holds Inv-loop μ-loop
 loop-holds c =
@@ -26,7 +26,8 @@ returns c =
     let a = c .before .before .before .before .before .before .args in
     let v = c .before .before .before .before .loop in
     c .make .ensures
-    ∙ sym (string-closed (a .text .now) (a .at) (v .i) (omega arith) (v .inv .2) (omega arith) (c .before .if1 .taken))
+    ∙ sym (string-closed (a .text .now) (a .at) (v .i) (a .line) (omega arith) (v .inv .2)
+    (omega arith) (c .before .if1 .taken))
 
 returns-2 : tie.Need-returns-2 Inv-loop μ-loop
 returns-2 c =
@@ -34,8 +35,8 @@ returns-2 c =
     let step = c .before .before .step in
     let a = c .before .before .before .before .before .before .before .before .args in
     let v = c .before .before .before .before .before .before .loop in
-    c .faulty .ensures
-    ∙ sym (string-bad (a .text .now) (a .at) (v .i) (omega arith) (v .inv .2) (omega arith) (if1 .left)
+    c .fault .ensures
+    ∙ sym (string-bad (a .text .now) (a .at) (v .i) (a .line) (omega arith) (v .inv .2) (omega arith) (if1 .left)
     (sym (step .ensures) ∙ c .before .if2 .taken))
 
 add-i-2 : tie.Need-add-i-2 Inv-loop μ-loop
@@ -59,14 +60,15 @@ loop-again c =
     let z : 0 < stepAt (a .text .now) (v .i) = omega arith in (
       omega arith,
       omega (arith, step-in (a .text .now) (v .i) (omega arith)),
-      rw e (string-on (a .text .now) (a .at) (v .i) (omega arith) (v .inv .2) (omega arith) (if1 .left) z),
+      rw e (string-on (a .text .now) (a .at) (v .i) (a .line) (omega arith) (v .inv .2) (omega arith) (if1 .left) z),
     )
 
 returns-3 : tie.Need-returns-3 Inv-loop μ-loop
 returns-3 c =
     let a = c .before .before .before .before .args in
     let v = c .before .before .loop in
-    c .faulty2 .ensures ∙ sym (string-open (a .text .now) (a .at) (v .i) (omega arith) (v .inv .2) (omega arith))
+    c .fault2 .ensures
+    ∙ sym (string-open (a .text .now) (a .at) (v .i) (a .line) (omega arith) (v .inv .2) (omega arith))
 
 pub string-spec : {M : Type 1} → statement M
 string-spec =

@@ -17,7 +17,7 @@ returns c =
     let l : a .at + (e .result - a .at)
     ≤ length (a .text .now) = omega (arith, e .ensures, run-le isWordByte (a .text .now) (a .at + 1) (omega arith)) in
     rw (← e .ensures)
-    (c .make .ensures ∙ sym (word-large (a .text .now) (a .at) (e .result - a .at) l (c .before .if1 .taken)))
+    (c .make .ensures ∙ sym (word-large (a .text .now) (a .at) (e .result - a .at) (a .line) l (c .before .if1 .taken)))
 
 word-code-requires : tie.Need-word-code-requires
 word-code-requires c κs =
@@ -33,7 +33,7 @@ returns-2 c =
     let l : a .at + (e .result - a .at)
     ≤ length (a .text .now) = omega (arith, e .ensures, run-le isWordByte (a .text .now) (a .at + 1) (omega arith)) in
     rw (← e .ensures)
-    (c .make2 .ensures ∙ sym (word-reserved (a .text .now) (a .at) (e .result - a .at) l (if1 .left)
+    (c .make2 .ensures ∙ sym (word-reserved (a .text .now) (a .at) (e .result - a .at) (a .line) l (if1 .left)
     (sym (word-code .ensures) ∙ c .before .if2 .taken)))
 
 returns-3 : tie.Need-returns-3
@@ -48,10 +48,10 @@ returns-3 c =
     omega (arith, word-end .ensures, run-le isWordByte (s .args .text .now) (s .args .at + 1) (omega arith)) in
     rw (← word-end .ensures)
     (c .make3 .ensures
-    ∙ ap (λ x. made x 5 (s .args .at) (word-end .result - s .args .at))
+    ∙ ap (λ x. made x 5 (s .args .at) (word-end .result - s .args .at) (s .args .line))
     (c .before .code-of .ensures ∙ word-code .ensures)
     ∙ sym
-    (word-other (s .args .text .now) (s .args .at) (word-end .result - s .args .at) l (if1 .left)
+    (word-other (s .args .text .now) (s .args .at) (word-end .result - s .args .at) (s .args .line) l (if1 .left)
     (λ q. if2 .left (word-code .ensures ∙ q))))
 
 pub word-spec : {M : Type 1} → statement M

@@ -7,7 +7,7 @@ returns : tie.Need-returns
 returns c = rw (eq-eqb _ _ (c .before .before .if1 .taken), c .next .ensures)
 
 returns-2 : tie.Need-returns-2
-returns-2 c = rw (ne-eqb _ _ (c .before .if1 .left))
+returns-2 c = rw (ne-eqb _ _ (c .before .before .if1 .left), c .position-of .ensures)
 
 pub ended-spec : {M : Type 1} → statement M
 ended-spec =
@@ -16,4 +16,5 @@ ended-spec =
     (λ c κs. search needs)
     returns
     (λ c. search needs)
+    (λ c κs. search needs)
     returns-2)
