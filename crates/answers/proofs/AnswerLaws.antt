@@ -1,7 +1,7 @@
--- The cases of an answer, each in one number, and the buffer behind the book.
-use mathlib.Core.Path.{_≡_, ap, _∙_}
-use mathlib.Core.List.{List, [], append-nil}
-use Prim.Native.Nat.{ℕ, _+_, _*_, _-_, _%_, _≤_}
+-- The cases of an answer, each in its eight numbers, and the buffer behind the book.
+use mathlib.Core.Path.{_≡_, sym, ap, _∙_}
+use mathlib.Core.List.{List, [], _∷_, append-nil}
+use Prim.Native.Nat.{ℕ, _-_, _≤_}
 use native.Mathlib.Omega.{arith}
 use lib.ListN.{length, take, replicate}
 use lib.Dec.{eqb}
@@ -15,22 +15,22 @@ use Rattle.state.specs.Keeping.{Kept}
 use Rattle.answers.specs.declared.Answer.{Answer}
 use Rattle.answers.specs.declared.Answer.the-variants.{Accepted, Refused}
 use Rattle.answers.specs.Answers.{acceptedIn, answerOf, full}
-use Rattle.answers.specs.Packing.{packed}
+use Rattle.answers.specs.Handing.{handed}
 
 pub accepted-is : (st : code.State) (s : State) (t o w hs : List ℕ) → Kept t s st o w hs
     → Accepted (st .extent .used) (st .extent .definitions) ≡ acceptedIn s
 accepted-is st s t o w hs k = rw (k .used, k .defined)
 
-pub full-refused : {a : Answer} {n p : ℕ} → a ≡ Refused n p → eqb n 19 ≡ full (answerOf a)
+pub full-refused : {a : Answer} {n p l c : ℕ} → a ≡ Refused n p l c → eqb n 19 ≡ full (answerOf a)
 full-refused e = rw e
 
-pub packed-accepted :
-    {a : Answer} {n k : ℕ} → a ≡ Accepted n k → k % 65536 * 4294967296 + n % 4294967296 ≡ packed (answerOf a)
-packed-accepted e = rw e
+pub handed-accepted :
+    {a : Answer} {n k : ℕ} → a ≡ Accepted n k → 0 ∷ 0 ∷ 0 ∷ 0 ∷ n ∷ k ∷ 0 ∷ 0 ∷ [] ≡ handed (answerOf a)
+handed-accepted e = sym (ap (λ (x : Answer). handed (answerOf x)) e)
 
-pub packed-refused :
-    {a : Answer} {n p : ℕ} → a ≡ Refused n p → n * 281474976710656 + p % 4294967296 ≡ packed (answerOf a)
-packed-refused e = rw e
+pub handed-refused :
+    {a : Answer} {n p l c : ℕ} → a ≡ Refused n p l c → n ∷ p ∷ l ∷ c ∷ 0 ∷ 0 ∷ 0 ∷ 0 ∷ [] ≡ handed (answerOf a)
+handed-refused e = sym (ap (λ (x : Answer). handed (answerOf x)) e)
 
 -- ---- the buffer behind the book is cleared
 pub cleared-behind :

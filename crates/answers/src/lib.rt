@@ -1,4 +1,4 @@
-// The answer of a check, what it leaves in the buffer, and the one number in which it is handed to C and Rust.
+// The answer of a check, what it leaves in the buffer, and the numbers in which it is handed to C and Rust.
 use state::Extent;
 ghost use mathlib.Core.Path.{_≡_};
 ghost use mathlib.Core.List.{List};
@@ -9,12 +9,21 @@ ghost use Rattle.rules.specs.Declarations as D;
 ghost use Rattle.state.specs.declared.State.{State};
 ghost use Rattle.state.specs.Keeping.{Kept};
 ghost use Rattle.answers.specs.Answers.{acceptedIn, answerOf, keptOf, full};
-ghost use Rattle.answers.specs.Packing.{packed};
+ghost use Rattle.answers.specs.Handing.{handed};
 
-// The book's length and the count of its definitions, or the number and the place of a refusal.
+// The book's length and the count of its definitions; or the number of a refusal, its place, and that place's line and
+// column.
 pub enum Answer {
-    Accepted { length: usize, definitions: usize },
-    Refused { number: u8, place: usize },
+    Accepted {
+        length: usize,
+        definitions: usize,
+    },
+    Refused {
+        number: u8,
+        place: usize,
+        line: usize,
+        column: usize,
+    },
 }
 
 // What is answered at the end of a text that kept every rule.
@@ -57,16 +66,33 @@ pub fn is_full(a: Answer) -> bool
     }
 }
 
-pub fn pack(a: Answer) -> u64
-    ensures { λ r. ⌜ r ≡ packed (answerOf a) ⌝ }
+// The answer in eight numbers; what it does not have is 0.
+pub fn hand_out(a: Answer, answer: &mut [u64; 8])
+    ensures { λ _. ⌜ now (answer .exit) ≡ handed (answerOf a) ⌝ }
 {
     match a {
         Answer::Accepted {
             length,
             definitions,
-        } => (definitions % 65536) as u64 * 4294967296 + (length % 4294967296) as u64,
-        Answer::Refused { number, place } => {
-            number as u64 * 281474976710656 + (place % 4294967296) as u64
+        } => {
+            *answer = [0, 0, 0, 0, length as u64, definitions as u64, 0, 0];
+        }
+        Answer::Refused {
+            number,
+            place,
+            line,
+            column,
+        } => {
+            *answer = [
+                number as u64,
+                place as u64,
+                line as u64,
+                column as u64,
+                0,
+                0,
+                0,
+                0,
+            ];
         }
     }
 }

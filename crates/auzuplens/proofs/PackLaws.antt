@@ -12,7 +12,7 @@ use Rattle.records.specs.Showing.{partOf}
 use Rattle.state.specs.declared.Layout.{Layout}
 use Rattle.state.specs.Parts.{chainsIn}
 use Rattle.state.proofs.RoomLaws.{chains-zero}
-use Rattle.answers.specs.Packing.{packedFound, packedPart}
+use Rattle.records.specs.Packing.{packedFound, packedPart}
 
 pub packed-found : (f g : Found) (x : Option ℕ) → foundAt f ≡ x → f ≡ g → packedFound (foundAt g) ≡ packedFound x
 packed-found f g x e q = ap packedFound (sym (ap foundAt q) ∙ e)

@@ -15,7 +15,8 @@ ghost use Rattle.numbers.specs.Answer.{Promised};
 ghost use Rattle.records.specs.Finding.{foundAt};
 ghost use Rattle.records.specs.Showing.{Shows};
 ghost use Rattle.answers.specs.Answers.{answerOf, full};
-ghost use Rattle.answers.specs.Packing.{packed, packedFound, packedPart};
+ghost use Rattle.answers.specs.Handing.{handed};
+ghost use Rattle.records.specs.Packing.{packedFound, packedPart};
 
 const HAND: usize = members::MOST + members::MOST;
 
@@ -137,8 +138,9 @@ fn check_large(text: &[u8], book: &mut [u8]) -> Answer
     )
 }
 
-// Whether the text keeps every rule of document 01. The book is written to the lent buffer, with zeros behind it; after
-// a refusal the whole buffer is zero.
+// Whether the text keeps every rule of document 01 and of the requests that are built; a refusal has its number, place,
+// line and column. The book is written to the lent buffer, with zeros behind it; after a refusal the whole buffer is
+// zero.
 // Smaller texts are tried with smaller arrays, and anew where their book does not fit these.
 pub fn check_text(text: &[u8], book: &mut [u8]) -> Answer
     ensures { λ r. ⌜ Promise (now (text .entry)) (lent (length (now (book .entry)))) (answerOf r) (now (book .exit)) ⌝ }
@@ -149,6 +151,8 @@ pub fn check_text(text: &[u8], book: &mut [u8]) -> Answer
         return Answer::Refused {
             number: 1,
             place: 0,
+            line: 1,
+            column: 1,
         };
     }
     if n <= SMALL {
@@ -194,13 +198,16 @@ pub fn show_name<'a>(text: &'a [u8], book: &[u8], beginning: usize) -> &'a [u8]
 // ---- for C and Rust
 const NONE: u64 = 18446744073709551615;
 
+// The answer's numbers in their order: number (0 where the text is accepted), place, line, column, the book's length,
+// definitions, and two that are 0 in every answer as yet.
 #[no_mangle]
-pub extern "C" fn auzuplens_check(text: &[u8], book: &mut [u8]) -> u64
-    ensures { λ r. ⌜ (r ≡ packed (check (now (text .entry)) (lent (length (now (book .entry)))) .answer))
+pub extern "C" fn auzuplens_check(text: &[u8], book: &mut [u8], answer: &mut [u64; 8])
+    ensures { λ _. ⌜
+        (now (answer .exit) ≡ handed (check (now (text .entry)) (lent (length (now (book .entry)))) .answer))
         × (now (book .exit) ≡ check (now (text .entry)) (lent (length (now (book .entry)))) .buffer) ⌝ }
 {
     let a = check_text(text, book);
-    answers::pack(a)
+    answers::hand_out(a, answer);
 }
 
 // 0 after a refusal.

@@ -75,13 +75,6 @@ fn is_clear(buffer: &[u8], from: usize) -> bool {
     true
 }
 
-fn say(word: &[u8], a: usize, b: usize) {
-    io::write_all(STDOUT_FILENO, word);
-    io::print_decimal(STDOUT_FILENO, a as u64);
-    io::write_all(STDOUT_FILENO, b" ");
-    io::print_decimal(STDOUT_FILENO, b as u64);
-}
-
 // Two digits for each byte of the book, which stands at the front of the buffer.
 fn say_book(buffer: &[u8], count: usize) {
     let n = least(count, buffer.len());
@@ -96,27 +89,21 @@ fn say_book(buffer: &[u8], count: usize) {
 }
 
 // The answer, with the book if there is one; how many bytes of the buffer it takes.
-fn say_answer(a: Answer, buffer: &[u8]) -> usize {
+fn say_case(a: Answer, buffer: &[u8]) -> usize {
+    console::say_answer(a);
     match a {
-        Answer::Accepted {
-            length,
-            definitions,
-        } => {
-            say(b"ok ", length, definitions);
+        Answer::Accepted { length, .. } => {
             say_book(buffer, length);
             length
         }
-        Answer::Refused { number, place } => {
-            say(b"refused ", number as usize, place);
-            0
-        }
+        Answer::Refused { .. } => 0,
     }
 }
 
 fn check_case(text: &[u8], buffer: &mut [u8]) {
     spoil(buffer);
     let a = auzuplens::check_text(text, buffer);
-    let used = say_answer(a, buffer);
+    let used = say_case(a, buffer);
     if is_clear(buffer, used) {
         io::write_all(STDOUT_FILENO, b"\n");
     } else {

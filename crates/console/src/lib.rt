@@ -1,4 +1,4 @@
-// What the programs behind `check` share: the text on standard input, the verdict's line on standard output.
+// What the programs share: the text on standard input, an answer on standard output.
 use answers::Answer;
 use libc::STDERR_FILENO;
 use libc::STDIN_FILENO;
@@ -84,21 +84,40 @@ pub fn read_text(text: &mut [u8]) -> Input
     i
 }
 
-fn say(word: &[u8], a: u64, b: u64) {
-    io::write_all(STDOUT_FILENO, word);
-    io::print_decimal(STDOUT_FILENO, a);
+// A number behind a blank.
+fn say_next(n: usize) {
     io::write_all(STDOUT_FILENO, b" ");
-    io::print_decimal(STDOUT_FILENO, b);
-    io::write_all(STDOUT_FILENO, b"\n");
+    io::print_decimal(STDOUT_FILENO, n as u64);
 }
 
-// The line that `check` prints.
-pub fn say_verdict(a: Answer) {
+// The answer in one line, whose end is left to the caller.
+pub fn say_answer(a: Answer) {
     match a {
         Answer::Accepted {
             length,
             definitions,
-        } => say(b"ok ", length as u64, definitions as u64),
-        Answer::Refused { number, place } => say(b"refused ", number as u64, place as u64),
+        } => {
+            io::write_all(STDOUT_FILENO, b"ok");
+            say_next(length);
+            say_next(definitions);
+        }
+        Answer::Refused {
+            number,
+            place,
+            line,
+            column,
+        } => {
+            io::write_all(STDOUT_FILENO, b"refused");
+            say_next(number as usize);
+            say_next(place);
+            say_next(line);
+            say_next(column);
+        }
     }
+}
+
+// The line that `check` prints.
+pub fn say_verdict(a: Answer) {
+    say_answer(a);
+    io::write_all(STDOUT_FILENO, b"\n");
 }

@@ -1,6 +1,6 @@
--- What is packed into one number can be taken out again: the answers of `check`, the records that are
--- found and the names that are shown.
-use mathlib.Core.Path.{_≡_, refl, sym, _∙_}
+-- What the exports hand out can be taken back: the answers of `check`, in eight numbers, the records that are found and
+-- the names that are shown, each in one.
+use mathlib.Core.Path.{_≡_, refl, _∙_}
 use mathlib.Core.Bool.{Bool, true, false, cond}
 use mathlib.Core.Option.{Option, none, some}
 use mathlib.Core.List.{List, [], _∷_}
@@ -13,54 +13,29 @@ use Rattle.rules.specs.All.{All}
 use Rattle.rules.specs.Book.{Record}
 use Rattle.rules.specs.Show.{sizeOf, recordsFrom, recordsAt, Part, noPart, read4, isNamed, nameIn, firstName}
 use Rattle.rules.specs.Show.{findRecord, showName}
-use Rattle.rules.specs.Check.{lent, accepting, refusing, check}
 use Rattle.rules.proofs.Tests.{never}
 use Rattle.claims.specs.Ranking.{isIn}
-use Rattle.claims.specs.Numbered.{table, Small}
+use Rattle.claims.specs.Numbered.{table}
 use Rattle.claims.specs.Finding.{nameOf, shownAt}
 use Rattle.claims.proofs.FindingLaws.{found-shown}
-use Rattle.claims.proofs.NumberedLaws.{refused-numbered, accepted-small}
 use Rattle.answers.specs.declared.Answer.{Answer}
 use Rattle.answers.specs.declared.Answer.the-variants.{Accepted, Refused}
 use Rattle.answers.specs.Answers.{answerOf}
-use Rattle.answers.specs.Packing.{packed, packedFound, packedPart, unpacked, unpackedFound, unpackedPart}
+use Rattle.answers.specs.Handing.{handed, taken}
+use Rattle.records.specs.Packing.{packedFound, packedPart, unpackedFound, unpackedPart}
 
 -- ---- answers
--- the halves of a number, and what is above them
-high : (a b : ℕ) → b < 4294967296 → (a * 4294967296 + b) / 4294967296 ≡ a
-high a b h = omega arith
-
-over-high : (a b : ℕ) → a < 65536 → b < 4294967296 → (a * 4294967296 + b) / 281474976710656 ≡ 0
-over-high a b h k = omega arith
-
-low : (a b : ℕ) → b < 4294967296 → (a * 4294967296 + b) % 4294967296 ≡ b
-low a b h = omega arith
-
-unpacks-accepted : (n k : ℕ) → Small n k → unpacked (packed (accepting n k)) ≡ accepting n k
-unpacks-accepted n k h =
-    let e : k % 65536 ≡ k = omega (arith, h) in
-    let f : n % 4294967296 ≡ n = omega (arith, h) in
-    let x : k < 65536 = omega (arith, h) in
-    let y : n < 4294967296 = omega (arith, h) in
-    rw (e, f, over-high k n x y, low k n y, high k n y, e)
-
 -- 0 is no number of the table
 table-from-1 : (n : ℕ) → isIn n table ≡ true → 0 < n
 table-from-1 zero h = never h
 table-from-1 (suc n) h = omega arith
 
-unpacks-refused : (n p : ℕ) → 0 < n → p ≤ 65535 → unpacked (packed (refusing n p)) ≡ refusing n p
-unpacks-refused n p h k =
-    let e : (n * 281474976710656 + p % 4294967296) / 281474976710656 ≡ n = omega arith in
-    let f : (n * 281474976710656 + p % 4294967296) % 4294967296 ≡ p = omega arith in
-    rw (e, f, ne-eqb n 0 (omega arith))
-
-pub unpacks-answer : (t : List ℕ) (m : ℕ) (r : Answer) → answerOf r ≡ check t (lent m) .answer
-    → unpacked (packed (answerOf r)) ≡ answerOf r
-unpacks-answer t m (Accepted n k) e = unpacks-accepted n k (accepted-small t (lent m) n k (sym e))
-unpacks-answer t m (Refused n p) e =
-    let h = refused-numbered t (lent m) n p (sym e) in
-    unpacks-refused n p (table-from-1 n (h .number)) (h .short)
+pub takes-answer : (r : Answer) → ((n p l c : ℕ) → r ≡ Refused n p l c → isIn n table ≡ true)
+    → taken (handed (answerOf r)) ≡ answerOf r
+takes-answer (Accepted n k) h = refl
+takes-answer (Refused n p l c) h =
+    let from-1 = table-from-1 n (h n p l c refl) in
+    rw (ne-eqb n 0 (omega arith))
 
 -- ---- parts
 unpacks-part : (p : Part) → p .start < 4294967296 → p .length < 256 → unpackedPart (packedPart p) ≡ p

@@ -2,7 +2,7 @@
 -- m bytes, r is its answer, in the program's own type, and b is the buffer when it returns. It has no precondition:
 -- every text and every buffer gets an answer (`answer` in this crate's code has the promise in these words). `run` is
 -- document 01 with No. 1 and No. 2 of document 02 as a definition (crate rules): it keeps a state where no unit is
--- refused.
+-- refused; `check` adds the line and the column of a refusal (No. 6).
 use mathlib.Core.Path.{_≡_}
 use mathlib.Core.Logic.{_↔_}
 use mathlib.Core.Bool.{true, false}
@@ -16,7 +16,8 @@ use Rattle.rules.specs.Units as U
 use Rattle.rules.specs.Types.{Measure, Ty, numeric, number, legal, reading}
 use Rattle.rules.specs.Declarations.{tyOf, Attribute, Def, State}
 use Rattle.rules.specs.Judge.{isDomain, judge, refused}
-use Rattle.rules.specs.Check.{lent, kept, run}
+use Rattle.rules.specs.Lines.{position, positionOf}
+use Rattle.rules.specs.Check.{lent, kept, run, check}
 use Rattle.rules.specs.Show.{findRecord, showName}
 use Rattle.rules.specs.Promise.{Promise}
 use Rattle.rules.specs.All.{All}
@@ -25,7 +26,8 @@ use Rattle.computed.specs.Marked.{marked}
 use Rattle.claims.specs.Promise.{Zeros, Booked}
 use Rattle.claims.specs.Ranking as R
 use Rattle.claims.specs.Ranking.{rank, UnitsRanked}
-use Rattle.claims.specs.Numbered.{Numbered}
+use Rattle.claims.specs.Numbered.{Numbered, Small}
+use Rattle.claims.specs.Located.{Located}
 use Rattle.claims.specs.Readings.{Outside, NumberOutside, UnitsDescend, UnitsKept}
 use Rattle.claims.specs.Steps.{Declared, baseOf, Nearest}
 use Rattle.claims.specs.Reached.{Judges}
@@ -39,20 +41,30 @@ use Rattle.numbers.specs.Answer.{Promised}
 use Rattle.answers.specs.declared.Answer.{Answer}
 use Rattle.answers.specs.declared.Answer.the-variants.{Accepted, Refused}
 use Rattle.answers.specs.Answers.{answerOf}
-use Rattle.answers.specs.Packing.{packed, packedFound, packedPart, unpacked, unpackedFound, unpackedPart}
+use Rattle.answers.specs.Handing.{handed, taken}
+use Rattle.records.specs.Packing.{packedFound, packedPart, unpackedFound, unpackedPart}
 
 abbrev pub Gives : List ℕ → ℕ → Answer → List ℕ → Type 0
 Gives t m r b = Promise t (lent m) (answerOf r) b
 
--- ---- 1: every text, with a buffer of every length, gets one answer: accepted, or one numbered refusal with its place;
--- after a refusal the whole buffer is zero
+-- l and c are the line and the column of the place p of the text t, and of no other place of it
+pub record Locates (t : List ℕ) (p l c : ℕ) : Type 0 where
+  pub line : l ≡ positionOf t p .line
+  pub column : c ≡ positionOf t p .column
+  pub only : (q : ℕ) → q ≤ length t → positionOf t q ≡ position l c → q ≡ p
+
+-- ---- 1: every text, with a buffer of every length, gets one answer: accepted, or one numbered refusal with its place
+-- and this place's line and column; after a refusal the whole buffer is zero
 pub record Demand1 (t : List ℕ) (m : ℕ) : Type 0 where
   pub answered : (r : Answer) × (b : List ℕ) × Gives t m r b
   pub one : (r s : Answer) (b c : List ℕ) → Gives t m r b → Gives t m s c → (r ≡ s) × (b ≡ c)
-  pub numbered : (n p : ℕ) (b : List ℕ) → Gives t m (Refused n p) b → Numbered t n p
-  pub zeros : (n p : ℕ) (b : List ℕ) → Gives t m (Refused n p) b → (length b ≡ m) × Zeros b
-  -- what an export packs into one number is the answer, and can be taken out again
-  pub unpacks : (r : Answer) (b : List ℕ) → Gives t m r b → unpacked (packed (answerOf r)) ≡ answerOf r
+  pub numbered : (n p l c : ℕ) (b : List ℕ) → Gives t m (Refused n p l c) b → Numbered t n p
+  pub located : (n p l c : ℕ) (b : List ℕ) → Gives t m (Refused n p l c) b → Locates t p l c
+  pub zeros : (n p l c : ℕ) (b : List ℕ) → Gives t m (Refused n p l c) b → (length b ≡ m) × Zeros b
+  pub small : (n k : ℕ) (b : List ℕ) → Gives t m (Accepted n k) b → Small n k
+  -- `auzuplens_check` leaves `handed` of the definition's answer in the caller's eight numbers, and from them the
+  -- program's answer can be taken back
+  pub taken-back : (r : Answer) (b : List ℕ) → Gives t m r b → taken (handed (check t (lent m) .answer)) ≡ answerOf r
 
 -- ---- 2: accepted exactly when the text follows document 01, else refused by the first in the stated order; the book
 -- is the one the text means
@@ -61,7 +73,7 @@ pub record Demand1 (t : List ℕ) (m : ℕ) : Type 0 where
 -- the first symbol is named
 pub record Demand2 (t : List ℕ) (m : ℕ) : Type 0 where
   pub follows : ((n k : ℕ) × (b : List ℕ) × Gives t m (Accepted n k) b) ↔ ((s : State) × (run t (lent m) ≡ kept s))
-  pub first : (n p : ℕ) → ((b : List ℕ) × Gives t m (Refused n p) b) ↔ R.Refused t (lent m) n p
+  pub first : (n p : ℕ) → ((l c : ℕ) × (b : List ℕ) × Gives t m (Refused n p l c) b) ↔ R.Refused t (lent m) n p
   pub book : (n k : ℕ) (b : List ℕ) → Gives t m (Accepted n k) b → Booked t (lent m) n k b
 
 -- ---- numbers: of two ranges, `read_number`, which promises Promised, answers a legal number of x, in a unit or
@@ -87,22 +99,24 @@ pub record NumbersRead (s : State) : Type 0 where
 pub record Demand3 (t : List ℕ) (m : ℕ) : Type 0 where
   pub reads : (n k : ℕ) (b : List ℕ) → Gives t m (Accepted n k) b → ModelReads t (lent m)
   pub numbers : (s : State) → run t (lent m) ≡ kept s → NumbersRead s
-  pub number-witness : (p : ℕ) (b : List ℕ) → Gives t m (Refused 17 p) b → Misnumbered t (lent m) p
-  pub unit-witness : (p : ℕ) (b : List ℕ) → Gives t m (Refused 22 p) b → Mismeasured t (lent m) p
+  pub number-witness : (p l c : ℕ) (b : List ℕ) → Gives t m (Refused 17 p l c) b → Misnumbered t (lent m) p
+  pub unit-witness : (p l c : ℕ) (b : List ℕ) → Gives t m (Refused 22 p l c) b → Mismeasured t (lent m) p
   pub refuses : (s : State) (u : U.Unit) → Judges t (lent m) s u → (x y : Ty) → Extends s u x y → Outside x y →
       (r : Answer) (b : List ℕ) → Gives t m r b
-      → (n p : ℕ) × (r ≡ Refused n p) × (judge s u ≡ refused n p) × (rank n ≤ rank 22)
+      → (n p l c : ℕ) × (r ≡ Refused n p l c) × (judge s u ≡ refused n p) × (rank n ≤ rank 22)
   pub number-refuses : (s : State) (u : U.Unit) → Judges t (lent m) s u → (x y : Ty) → Extends s u x y
       → NumberOutside x y → (r : Answer) (b : List ℕ) → Gives t m r b
-      → (n p : ℕ) × (r ≡ Refused n p) × (judge s u ≡ refused n p) × (rank n ≤ rank 17)
+      → (n p l c : ℕ) × (r ≡ Refused n p l c) × (judge s u ≡ refused n p) × (rank n ≤ rank 17)
 
--- ---- all of it; and what the definitions are held to: every unit's rules stand in order, the marked examples,
--- elements stand once, units of numbers descend as 22 asks and a reading keeps its own, and what is shut out
+-- ---- all of it; and what the definitions are held to: every unit's rules stand in order, lines and columns are
+-- counted in one way, the marked examples, elements stand once, units of numbers descend as 22 asks and a reading keeps
+-- its own, and what is shut out
 pub record Demands : Type 0 where
   pub demand1 : (t : List ℕ) (m : ℕ) → Demand1 t m
   pub demand2 : (t : List ℕ) (m : ℕ) → Demand2 t m
   pub demand3 : (t : List ℕ) (m : ℕ) → Demand3 t m
   pub ranked : UnitsRanked
+  pub lines : Located
   pub marked-hold : All Holds marked
   pub distinct : AllDistinct
   pub descend : UnitsDescend

@@ -11,6 +11,7 @@ use borrow.Author.Tests.{lt-ltb, le-ltb, ltb-false}
 use lib.Seq.{length-take-le, take-append-le}
 use Rattle.rules.specs.Symbols.{symbolAt}
 use Rattle.rules.specs.Symbols.{too-long as C·too-long}
+use Rattle.rules.specs.Lines.{positionOf}
 use Rattle.rules.specs.Readers.{Result, done, refused}
 use Rattle.rules.specs.Grammar.{enough}
 use Rattle.rules.specs.Units as U
@@ -65,10 +66,10 @@ module _ (t : List ℕ) (m n : Given) (e : capacity m ≡ capacity n) where
   run-same = rw (from-same (enough t) U.start C.nothing 0)
 
 -- ---- a run whose book fits a smaller buffer runs the same with a greater one
-abbrev isFull : C.Outcome → Bool
-isFull o = full (C.answerOf o)
-
 module _ (t : List ℕ) (m n : Given) (e : capacity m ≤ capacity n) where
+  abbrev isFull : C.Outcome → Bool
+  isFull o = full (C.answerOf t o)
+
   room-within : (s : State) (p : ℕ) (x : State) (w : U.Where) (at : ℕ) (k l : Next)
       → (isFull (k w x at) ≡ false → k w x at ≡ l w x at) → isFull (afterJudge s (room m p (J.ok x)) w at k) ≡ false
       → afterJudge s (room m p (J.ok x)) w at k ≡ afterJudge s (room n p (J.ok x)) w at l
@@ -128,26 +129,28 @@ module _ (t : List ℕ) (m n : Given) (e : capacity m ≤ capacity n) where
 -- ---- the whole buffer, of which o is the front part at the end
 pub ended-fits : (t : List ℕ) (m : ℕ) (a : Answer) (o d : List ℕ) → Ended t m a o → keptOf a ≤ length (o ++ d)
 ended-fits t m (Accepted n k) o d (s, r, i, j, h, w) = rw (length-append o d) (omega arith)
-ended-fits t m (Refused n p) o d h = omega arith
+ended-fits t m (Refused n p l c) o d h = omega arith
 
-ended-answer : (t : List ℕ) (m : ℕ) (a : Answer) (o : List ℕ) → Ended t m a o → C.answerOf (run t (lent m)) ≡ answerOf a
+ended-answer : (t : List ℕ) (m : ℕ) (a : Answer) (o : List ℕ) → Ended t m a o
+    → C.answerOf t (run t (lent m)) ≡ answerOf a
 ended-answer t m (Accepted n k) o (s, r, i, j, h, w) = rw (r, i, j)
-ended-answer t m (Refused n p) o h = h
+ended-answer t m (Refused n p l c) o h = h
 
-refused-buffer : (o : C.Outcome) (n p m : ℕ) → C.answerOf o ≡ C.refusing n p → padded [] m ≡ C.bufferOf o m
-refused-buffer (C.kept s) n p m h = absurd (let q : _≡_ {A = ℕ} 0 1 = cc in omega arith)
-refused-buffer (C.unread s f q) n p m h = refl
-refused-buffer (C.ruledOut s i q) n p m h = refl
+refused-buffer : (t : List ℕ) (o : C.Outcome) (r : C.Refusal) (m : ℕ) → C.answerOf t o ≡ C.refusal r
+    → padded [] m ≡ C.bufferOf o m
+refused-buffer t (C.kept s) r m h = absurd (let q : _≡_ {A = ℕ} 0 1 = cc in omega arith)
+refused-buffer t (C.unread s f q) r m h = refl
+refused-buffer t (C.ruledOut s i q) r m h = refl
 
 module _ (t : List ℕ) (m l : ℕ) (a : Answer) (o d b : List ℕ) (h : Ended t m a o)
     (e : b ≡ padded (take (keptOf a) (o ++ d)) l) where
   promised-by : run t (lent m) ≡ run t (lent l) → Promise t (lent l) (answerOf a) b
-  promised-by same = record { answer = sym (ended-answer t m a o h) ∙ ap C.answerOf same; buffer = go a h e }
+  promised-by same = record { answer = sym (ended-answer t m a o h) ∙ ap (C.answerOf t) same; buffer = go a h e }
     where
       go : (a : Answer) → Ended t m a o → b ≡ padded (take (keptOf a) (o ++ d)) l → b ≡ C.bufferOf (run t (lent l)) l
       go (Accepted n k) (s, r, i, j, h, w) e =
           rw (sym same ∙ r) (e ∙ ap (λ (x : List ℕ). padded x l) (take-append-le n o d h ∙ w))
-      go (Refused n p) h e = e ∙ refused-buffer (run t (lent l)) n p l (ap C.answerOf (sym same) ∙ h)
+      go (Refused n p i c) h e = e ∙ refused-buffer t (run t (lent l)) _ l (ap (C.answerOf t) (sym same) ∙ h)
 
 pub tried : (t b o l : List ℕ) (m most : ℕ) (a : Answer) → m ≡ min (length b) most → most ≤ 65535
     → length o ≡ length (take m b) → Ended t (length (take m b)) a o
@@ -165,10 +168,10 @@ tried t b o l m most a e small f h c =
           (ap full (ended-answer t (length (take m b)) a o h) ∙ i));
     }
 
--- ---- a text that is too long
+-- ---- a text that is too long, at the first line's first column
 pub too-long : (t : List ℕ) (m : ℕ) (l : List ℕ) → 65535 < length t → l ≡ padded [] m
-    → Promise t (lent m) (C.refusing 1 0) l
-unfolding run
+    → Promise t (lent m) (C.refusalOf 1 0 1 1) l
+unfolding run positionOf
 too-long t m l h e = record { answer = rw (lt-ltb 65535 (length t) h); buffer = rw (lt-ltb 65535 (length t) h) e }
 
 -- ---- of a buffer of as many bytes

@@ -23,6 +23,9 @@ use Rattle.rules.specs.Check.{lent, isOver, runFrom, judged, room, unitPlace, a
 use Rattle.rules.specs.Check.{run}
 use Rattle.rules.proofs.SymbolLaws.{Lies, next-lies}
 use Rattle.rules.proofs.ForwardLaws.{Ends, Stepped, unit-steps}
+use Rattle.places.specs.declared.Position.{Position}
+use Rattle.places.specs.Standing.{onLine, positionIn, lineAt}
+use Rattle.places.proofs.StandingLaws.{on-line}
 use Rattle.symbols.specs.declared.Symbol.{Symbol}
 use Rattle.symbols.specs.Cut.{cut}
 use Rattle.readers.specs.Reads.{Cuts, Held}
@@ -52,7 +55,7 @@ use Rattle.running.specs.declared.Turn.{Turn}
 use Rattle.running.specs.declared.Turn.the-variants.{On, End}
 use Rattle.answers.specs.declared.Answer.{Answer}
 use Rattle.answers.specs.declared.Answer.the-variants.{Accepted, Refused}
-use Rattle.running.specs.Running.{Suffice, Runs, Ended, Turned, after}
+use Rattle.running.specs.Running.{Suffice, Runs, Ended, Turned, refusedIn, after}
 
 -- ---- at a stage
 module _ {t : List ℕ} {m : ℕ} {g : Stage} {o w hs : List ℕ} (R : Runs t m g o w hs) where
@@ -88,12 +91,12 @@ turn-refused f t m w s n p = go (isOver w)
 
 -- a refusal, as the code ends with it
 refused-ends : (t : List ℕ) (m : ℕ) (o : List ℕ) (s : State) (f : rules.Fault) (p : ℕ) → run t (lent m) ≡ C.unread s f p
-    → Ended t m (Refused (numberOf f) p) o
-refused-ends t m o s f p e = ap C.answerOf e
+    → Ended t m (refusedIn t (numberOf f) p) o
+refused-ends t m o s f p e = ap (C.answerOf t) e
 
 broken-ends : (t : List ℕ) (m : ℕ) (o : List ℕ) (s : State) (n p : ℕ)
-    → run t (lent m) ≡ C.ruledOut s n p → Ended t m (Refused n p) o
-broken-ends t m o s n p e = ap C.answerOf e
+    → run t (lent m) ≡ C.ruledOut s n p → Ended t m (refusedIn t n p) o
+broken-ends t m o s n p e = ap (C.answerOf t) e
 
 -- ---- what has been read: the unit v of the rules, which is u, in the state s; where the next one stands and its
 -- first symbol, further on
@@ -105,7 +108,7 @@ pub record Given (t : List ℕ) (m : ℕ) (g : Stage) (s : State) (rs : List ℕ
   pub fuel : ℕ
   pub comes : ComesAny t s unit u rs
   pub at : w ≡ whereOf next
-  pub first : n ≡ cut (symbolAt t behind)
+  pub first : n ≡ cut t (symbolAt t behind)
   pub on : g .next .place < behind
   pub within : behind ≤ length t
   pub left : length t < behind + fuel
@@ -145,20 +148,24 @@ module _ {t : List ℕ} {m : ℕ} {g : Stage} {o w hs : List ℕ} (R : Runs t m 
   run-turn f e k h = R .goes-on ∙ ap (λ (n : ℕ). runFrom n t (lent m) here (R .state) (R .place)) (e ∙ h)
 
   module _ {rs₀ rs : List ℕ} {r : Step} (S : Steps t rs₀ rs (unitAt here) (g .next) r) where
-    -- ---- it cannot be read
-    pub unread-ends : {n p : ℕ} (o′ : List ℕ) → r ≡ Unread n p → Ended t m (Refused n p) o′
-    unread-ends {n} {p} o′ e = go (R .fuel) refl (unitAt here t (now R)) refl (S .steps (now R) (cuts-now R))
+    -- ---- it cannot be read, at a place of the text
+    pub unread-ends : {n p : ℕ} {q : Position} {x : Answer} (o′ : List ℕ) → length t ≤ 65535 → r ≡ Unread n p q
+        → x ≡ Refused n p (q .line) (q .column) → Ended t m x o′
+    unread-ends {n} {p} {q} {x} o′ small e y =
+        go (R .fuel) refl (unitAt here t (now R)) refl (S .steps (now R) (cuts-now R))
       where
-        go : (f : ℕ) → R .fuel ≡ f → (q : Result U.Step) → unitAt here t (now R) ≡ q
-            → StepIs t rs₀ rs q r → Ended t m (Refused n p) o′
-        go zero h q i s = absurd (omega (arith, R .left, R .within))
-        go (suc k) h (done q z′) i (u, j, a) = absurd (let q : _≡_ {A = ℕ} 0 1 = cc in omega arith)
-        go (suc k) h (refused f j) i s =
+        go : (f : ℕ) → R .fuel ≡ f → (v : Result U.Step) → unitAt here t (now R) ≡ v → StepIs t rs₀ rs v r
+            → Ended t m x o′
+        go zero h v i s = absurd (omega (arith, R .left, R .within))
+        go (suc k) h (done v z′) i (u, j, a) = absurd (let q : _≡_ {A = ℕ} 0 1 = cc in omega arith)
+        go (suc k) h (refused f j) i (s, w) =
             let a : n ≡ numberOf f = cc in
             let b : p ≡ j = cc in
+            let d : q ≡ onLine (lineAt t j) j = cc in
+            let z : q ≡ positionIn t j = d ∙ on-line t j w (omega arith) in
             let c : run t (lent m) ≡ C.unread (R .state) f j =
             run-turn (suc k) h k refl ∙ ap (turn k t m here (R .state)) i ∙ turn-refused k t m here (R .state) f j in
-            rw (a, b) (refused-ends t m o′ (R .state) f j c)
+            rw (y, a, b, z) (refused-ends t m o′ (R .state) f j c)
 
     -- ---- behind the model's END the text is at its end
     pub over-ends :
@@ -265,7 +272,7 @@ module _ {t : List ℕ} {m : ℕ} {g : Stage} {o w₀ hs : List ℕ}
       (sym (ap placeOf (G .at) ∙ place-where (G .next)))
 
   fine : {o′ v hs′ : List ℕ} (k : State) (st : code.State) → judged (lent m) (R .state) (G .unit) ≡ J.ok k
-      → Kept t k st o′ v hs′ → PartsStay (g .state) st → Turned t m g (after (Fine st) w n) o′ v hs′
+      → Kept t k st o′ v hs′ → PartsStay (g .state) st → Turned t m g (after t (Fine st) w n) o′ v hs′
   fine k st e h stay = (
     record {
       fuel = G .fuel;
@@ -283,13 +290,13 @@ module _ {t : List ℕ} {m : ℕ} {g : Stage} {o w₀ hs : List ℕ}
     stay,
   )
 
-  pub turned : {j : code-judged.Judged} {r : Turn} {o′ v hs′ : List ℕ} → r ≡ after j w n
+  pub turned : {j : code-judged.Judged} {r : Turn} {o′ v hs′ : List ℕ} → r ≡ after t j w n
       → Answers t m (R .state) (g .state) j o′ v hs′ (G .unit) → Turned t m g r o′ v hs′
   turned {j} {r} {o′} {v} {hs′} e A = subst (λ (r : Turn). Turned t m g r o′ v hs′) (sym e)
       (go (judged (lent m) (R .state) (G .unit)) refl (A .as-judged))
     where
       go : (q : J.Judged) → judged (lent m) (R .state) (G .unit) ≡ q → Answered t q (g .state) j o′ v hs′
-          → Turned t m g (after j w n) o′ v hs′
+          → Turned t m g (after t j w n) o′ v hs′
       go (J.ok k) e (st, i, h, stay) = rw i (fine k st e (kept-on t k (g .state) st o′ v hs′ stay h) stay)
       go (J.refused a b) e i =
           rw i (broken-ends t m o′ (R .state) a b (G .goes-on ∙ ap (λ (q : J.Judged). afterJudge (R .state) q (G .next)
@@ -302,7 +309,7 @@ module _ (t : List ℕ) (m : ℕ) (o w hs : List ℕ) where
   run-start h = rw (le-ltb 65535 (length t) h)
 
   pub begins : (g : Stage) (y : Layout) (n : ℕ) → length t ≤ 65535 → chainsIn y w ≡ replicate n 0
-      → g .state .listing .layout ≡ y → g .at ≡ Start → g .next ≡ cut (symbolAt t 0)
+      → g .state .listing .layout ≡ y → g .at ≡ Start → g .next ≡ cut t (symbolAt t 0)
       → Keeps t nothing (g .state) o (indexIn y w) (replicate n 0) (rowsIn y w) hs → Runs t m g o w hs
   begins g y n h e el v f k =
       record {
@@ -320,13 +327,13 @@ module _ (t : List ℕ) (m : ℕ) (o w hs : List ℕ) where
       }
 
 -- ---- judging's answer
-pub after-refused : {j : code-judged.Judged} {n p : ℕ} (w : Where) (y : Symbol) → j ≡ Broken n p
-    → End (Refused n p) ≡ after j w y
-after-refused w y e = rw e
+pub after-refused : (t : List ℕ) {j : code-judged.Judged} {n p : ℕ} {q : Position} {x : Answer} (w : Where) (y : Symbol)
+    → j ≡ Broken n p → q ≡ positionIn t p → x ≡ Refused n p (q .line) (q .column) → End x ≡ after t j w y
+after-refused t w y e i f = rw (e, f, i)
 
-pub after-fine : {j : code-judged.Judged} {st : code.State} (w : Where) (y : Symbol) → j ≡ Fine st
-    → On (record { state = st; at = w; next = y }) ≡ after j w y
-after-fine w y e = rw e
+pub after-fine : (t : List ℕ) {j : code-judged.Judged} {st : code.State} (w : Where) (y : Symbol) → j ≡ Fine st
+    → On (record { state = st; at = w; next = y }) ≡ after t j w y
+after-fine t w y e = rw e
 
 -- ---- a turn, of a buffer of as many bytes
 pub end-turn : (t : List ℕ) (m m′ : ℕ) (g : Stage) (r : Turn) (a : Answer) (o w hs : List ℕ) → m ≡ m′ → r ≡ End a

@@ -4,6 +4,7 @@ use mathlib.Core.List.{List}
 use Prim.Native.Nat.{ℕ, _+_, _*_, _≤_, _<_}
 use lib.ListN.{length, take}
 use Rattle.rules.specs.Symbols.{symbolAt}
+use Rattle.rules.specs.Lines.{positionOf}
 use Rattle.rules.specs.Declarations.{State}
 use Rattle.rules.specs.Book as B
 use Rattle.rules.specs.Check as C
@@ -21,6 +22,7 @@ use Rattle.state.specs.declared.Judged.the-variants.{Fine, Refused as Broken}
 use Rattle.state.specs.Keeping.{Kept}
 use Rattle.answers.specs.declared.Answer.{Answer}
 use Rattle.answers.specs.declared.Answer.the-variants.{Accepted, Refused}
+use Rattle.answers.specs.Answers.{answerOf}
 use Rattle.running.specs.declared.Stage.{Stage}
 use Rattle.running.specs.declared.Turn.{Turn}
 use Rattle.running.specs.declared.Turn.the-variants.{On, End}
@@ -39,7 +41,7 @@ pub record Runs (t : List ℕ) (m : ℕ) (g : Stage) (o w hs : List ℕ) : Type 
   pub within : place ≤ length t
   pub left : length t < place + fuel
   pub goes-on : C.run t (C.lent m) ≡ C.runFrom fuel t (C.lent m) (placeOf (g .at)) state place
-  pub first : g .next ≡ cut (symbolAt t place)
+  pub first : g .next ≡ cut t (symbolAt t place)
   pub keeps : Kept t state (g .state) o w hs
   pub placed : Placed (placeOf (g .at)) state
 
@@ -48,7 +50,7 @@ abbrev pub Ended : List ℕ → ℕ → Answer → List ℕ → Type 0
 Ended t m (Accepted n k) o =
     (s : State) × (C.run t (C.lent m) ≡ C.kept s) × (n ≡ length (B.book s)) × (k ≡ B.definitions (B.records s))
     × (n ≤ length o) × (take n o ≡ B.book s)
-Ended t m (Refused n p) o = C.answerOf (C.run t (C.lent m)) ≡ C.refusing n p
+Ended t m (Refused n p l c) o = C.answerOf t (C.run t (C.lent m)) ≡ answerOf (Refused n p l c)
 
 -- after a unit: the next one, further on, or the end
 abbrev pub Turned : List ℕ → ℕ → Stage → Turn → List ℕ → List ℕ → List ℕ → Type 0
@@ -57,7 +59,11 @@ Turned t m g (On h) o w hs =
     × (h .state .listing .layout ≡ g .state .listing .layout)
 Turned t m g (End a) o w hs = Ended t m a o
 
+-- the refusal with the number n at the place p of the text t
+abbrev pub refusedIn : List ℕ → ℕ → ℕ → Answer
+refusedIn t n p = Refused n p (positionOf t p .line) (positionOf t p .column)
+
 -- judging's answer, where the next unit stands, and its first symbol
-abbrev pub after : Judged → Where → Symbol → Turn
-after (Fine st) w y = On (record { state = st; at = w; next = y })
-after (Broken n p) w y = End (Refused n p)
+abbrev pub after : List ℕ → Judged → Where → Symbol → Turn
+after t (Fine st) w y = On (record { state = st; at = w; next = y })
+after t (Broken n p) w y = End (refusedIn t n p)

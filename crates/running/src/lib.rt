@@ -1,6 +1,7 @@
 // The loop over the units: each is read and judged, until one is refused or the text ends; and a text checked with what
 // is lent.
 use answers::Answer;
+use places::Position;
 use state::Judged;
 use state::Layout;
 use state::State;
@@ -15,6 +16,7 @@ ghost use Rattle.rules.specs.Check.{isOver};
 ghost use Rattle.members.specs.Members.{Hand};
 ghost use Rattle.units.specs.Steps.{placeOf};
 ghost use Rattle.state.specs.Parts.{chainsIn, Loan};
+ghost use Rattle.answers.specs.declared.Answer.the-variants.{Refused};
 ghost use Rattle.answers.specs.Answers.{answerOf};
 ghost use Rattle.running.specs.Running.{Suffice, Runs, Ended, Turned, after as Running·after};
 ghost use Rattle.running.specs.Trying.{Tried};
@@ -43,12 +45,26 @@ fn is_over(at: Where) -> bool
     }
 }
 
-// A unit has been judged; where the next one stands, and its first symbol.
-fn after(j: Judged, at: Where, next: Symbol) -> Turn
-    ensures { λ r. ⌜ r ≡ Running·after j at next ⌝ }
+fn refused_at(number: u8, place: usize, position: Position) -> Answer
+    ensures { λ r. ⌜ r ≡ Refused number place (position .line) (position .column) ⌝ }
+{
+    Answer::Refused {
+        number: number,
+        place: place,
+        line: position.line,
+        column: position.column,
+    }
+}
+
+// A unit has been judged; where the next one stands, and its first symbol. Judging has offsets alone.
+fn after(text: &[u8], j: Judged, at: Where, next: Symbol) -> Turn
+    requires { ⌜ length (now text) ≤ 65535 ⌝ }
+    ensures { λ r. ⌜ r ≡ Running·after (now (text .entry)) j at next ⌝ }
 {
     match j {
-        Judged::Refused { number, place } => Turn::End(Answer::Refused { number, place }),
+        Judged::Refused { number, place } => {
+            Turn::End(refused_at(number, place, places::position_of(text, place)))
+        }
         Judged::Fine(state) => Turn::On(Stage {
             state: state,
             at: at,
@@ -78,14 +94,18 @@ fn step(
     let y = g.next;
     let s = units::read_unit(text, scratch, at, y);
     match s {
-        Step::Unread { number, place } => Turn::End(Answer::Refused { number, place }),
+        Step::Unread {
+            number,
+            place,
+            position,
+        } => Turn::End(refused_at(number, place, position)),
         Step::Read { unit, at: w, next } => {
             if is_over(at) {
                 let a = answers::accepted(st.extent);
                 return Turn::End(a);
             }
             let j = judge::judge(text, book, work, hand, scratch, tables, st, unit);
-            after(j, w, next)
+            after(text, j, w, next)
         }
     }
 }

@@ -29,7 +29,8 @@ returns-2 c =
     let s = c .before .before in
     let v = s .before .loop in
     let w = whole-at _ _ _ (s .size-at .ensures) (omega arith) in
-    sym (v .inv .1 ∙ rw (c .if2 .taken) (begin-here w))
+    let z : v .left ≡ 0 = omega arith in
+    sym (v .inv .1 ∙ rw z (begin-here w))
 
 add-at : tie.Need-add-at Inv-loop μ-loop
 add-at c =

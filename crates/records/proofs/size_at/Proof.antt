@@ -13,14 +13,16 @@ returns-2 c =
     let s = c .before in
     let a = s .before .before .before .before .args in
     sym
-    (size-whole (a .book .now) (a .at) (s .record-size .result) (omega arith) (s .record-size .ensures) (c .if2 .taken))
+    (size-whole (a .book .now) (a .at) (s .record-size .result) (omega arith) (s .record-size .ensures)
+    (omega (arith, c .if2 .taken)))
 
 returns-3 : tie.Need-returns-3
 returns-3 c =
     let s = c .before in
     let a = s .before .before .before .before .args in
     sym
-    (size-short (a .book .now) (a .at) (s .record-size .result) (omega arith) (s .record-size .ensures) (c .if2 .left))
+    (size-short (a .book .now) (a .at) (s .record-size .result) (omega arith) (s .record-size .ensures)
+    (omega (arith, c .if2 .left)))
 
 pub size-at-spec : {M : Type 1} → statement M
 size-at-spec =

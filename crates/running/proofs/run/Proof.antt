@@ -1,6 +1,7 @@
 use Prim.Native.Nat.{_-_}
 use mathlib.Core.Path.{ap, _≡_, refl, _∙_}
 use lib.ListN.{length}
+use Rattle.symbols.proofs.CutLaws.{next-first}
 use Rattle.running.specs.Running.{Runs, Suffice}
 use Rattle.running.proofs.RunLaws.{begins, end-turn, on-turn, runs-sized, suffices}
 use native.Mathlib.Omega.{arith}
@@ -34,7 +35,7 @@ loop-holds c =
       refl,
       suffices refl refl l (s .pre .1 .0 .0),
       begins _ _ _ _ _ _ (s .args .layout) n (s .pre .0 .text-short) e l refl
-          (rw (start .ensures) at (c .before .next .ensures)) (c .nothing .ensures .1 _ _ _ _ _ n),
+          (rw (start .ensures) at (c .before .next .ensures) ∙ next-first _) (c .nothing .ensures .1 _ _ _ _ _ n),
     )
 
 step-requires : tie.Need-step-requires Inv-loop μ-loop

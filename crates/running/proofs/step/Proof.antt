@@ -1,5 +1,4 @@
 use mathlib.Core.Path.{sym, _∙_, refl}
-use mathlib.Core.List.{[]}
 use Rattle.running.proofs.RunLaws.{held-now, few-records, unread-ends, over-ends, given, turned}
 use borrow.Author.Needs.{needs}
 use Rattle.running.proofs.step.Statement.{statement}
@@ -42,9 +41,17 @@ judge-requires c κs =
 returns-2 : tie.Need-returns-2
 returns-2 c =
     let back = c .before .before .before .before .before .before .before .before .before .before in
-    let s = back .before .before .before .before .before in
-    let read-unit = c .before .before .before .before .before .read-unit in
-    unread-ends (s .pre .1 .1) (read-unit .ensures) [] (c .before .s .given .1)
+    let s = back .before .before .before .before .before .before in
+    let read-unit = c .before .before .before .before .before .before .read-unit in
+    unread-ends (s .pre .1 .1) (read-unit .ensures) _ (s .pre .0 .text-short) (c .before .before .s .given .1)
+    (c .refused-at .ensures)
+
+after-requires : tie.Need-after-requires
+after-requires c κs =
+    let back = c .before .before .before .before .before .before .before .before .before .before in
+    let further = back .before .before .before .before .before .before .before .before .before .before in
+    let s = further .before .before .before .before .before .before .before .before .before .before .before in
+    s .pre .0 .text-short
 
 returns-3 : tie.Need-returns-3
 returns-3 c =
@@ -66,13 +73,14 @@ step-spec =
     (tie.spec
     read-unit-requires
     (λ c. search needs)
+    (λ c κs. search needs)
     (λ c. search needs)
     (λ c κs. search needs)
     (λ c κs. search needs)
     (λ c. search needs)
     returns
     judge-requires
-    (λ c κs. search needs)
+    after-requires
     (λ c. search needs)
     returns-2
     (λ c. search needs)
