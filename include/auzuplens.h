@@ -1,11 +1,12 @@
 /* Auzuplens for C: the functions of libauzuplens.a (rust/archive makes it).
  *
  * No function asks anything of its arguments beyond what C itself does: each
- * pointer leads to as many bytes as the length behind it says, a pointer is not
- * null even where that length is 0, and the bytes of `book` that are written are
- * no part of `text`. Every text, buffer and number has an answer. Nothing is
- * kept between calls. A check keeps all that it needs on the stack, for which a
- * thread of 2 megabytes serves (docs/BENCH.md). */
+ * pointer to bytes leads to as many as the length behind it says, a pointer is not
+ * null even where that length is 0, and what is written, the bytes of `book` and
+ * the numbers of `answer`, is no part of `text` nor of each other. Every text,
+ * buffer and number has an answer. Nothing is kept between calls. A check keeps
+ * all that it needs on the stack, for which a thread of 2 megabytes serves
+ * (docs/BENCH.md). */
 #ifndef AUZUPLENS_H
 #define AUZUPLENS_H
 
@@ -16,29 +17,28 @@
 extern "C" {
 #endif
 
+/* The answer to a text: so many numbers, a slot each. What an answer does not have
+ * is 0: place, line and column of an accepted text, length and definitions of a
+ * refused one. Line and column are those of the place, both from 1, columns in
+ * bytes; CR LF ends a line, and so does CR or LF alone. */
+#define AUZUPLENS_ANSWER 8
+
+enum {
+    AUZUPLENS_NUMBER = 0,      /* of the refusal, 1 to 19 or 22; 0: accepted */
+    AUZUPLENS_PLACE = 1,       /* where the refusal stands in the text */
+    AUZUPLENS_LINE = 2,
+    AUZUPLENS_COLUMN = 3,
+    AUZUPLENS_LENGTH = 4,      /* of the book */
+    AUZUPLENS_DEFINITIONS = 5, /* how many the book has */
+    AUZUPLENS_EDITION = 6,     /* always 0 for now */
+    AUZUPLENS_PASSED = 7       /* always 0 for now */
+};
+
 /* Checks a text. `book` then holds the book with zeros behind it, or, after a
- * refusal, nothing but zeros. The answer is packed; the three functions below
- * take it apart. */
-uint64_t auzuplens_check(const uint8_t *text, size_t text_length,
-                         uint8_t *book, size_t book_length);
-
-/* The number of the refusal, 1 to 19 or 22, or 0: the text is accepted. */
-static inline unsigned auzuplens_number(uint64_t answer)
-{
-    return (unsigned)(answer >> 48);
-}
-
-/* The count of definitions of an accepted text. */
-static inline unsigned auzuplens_definitions(uint64_t answer)
-{
-    return (unsigned)(answer >> 32 & 0xFFFF);
-}
-
-/* The place of the refusal, or the length of the book of an accepted text. */
-static inline size_t auzuplens_extent(uint64_t answer)
-{
-    return (size_t)(answer & 0xFFFFFFFF);
-}
+ * refusal, nothing but zeros; `answer`, which leads to AUZUPLENS_ANSWER numbers,
+ * holds the answer. What they held before does not matter. */
+void auzuplens_check(const uint8_t *text, size_t text_length,
+                     uint8_t *book, size_t book_length, uint64_t *answer);
 
 /* Reads a whole number with so many decimals at the base's decimals: the
  * reading, 0 if it is refused; and the refusal, 20 or 21, 0 if there is none. */

@@ -1,5 +1,5 @@
 /* The archive from C: document 01's text of 63 bytes, its book, records and names,
- * and readings of numbers. Prints what is not as it must be. */
+ * lines and columns, and readings of numbers. Prints what is not as it must be. */
 #include <stdio.h>
 #include <string.h>
 
@@ -56,6 +56,40 @@ static void records(const uint8_t *text, size_t length, const uint8_t *book)
     walk(book, 0, beginnings, 0);
 }
 
+/* Checks the text on a buffer of this length and holds all eight numbers of the
+ * answer, full of other bits before, against these. */
+static void check(const char *what, const char *model, uint8_t *book, size_t book_length,
+                  const uint64_t expected[AUZUPLENS_ANSWER])
+{
+    uint64_t answer[AUZUPLENS_ANSWER];
+    memset(answer, 165, sizeof answer);
+    auzuplens_check((const uint8_t *)model, strlen(model), book, book_length, answer);
+    for (size_t slot = 0; slot < AUZUPLENS_ANSWER; slot++) {
+        char word[80];
+        snprintf(word, sizeof word, "%s, number %zu of the answer", what, slot);
+        expect(word, answer[slot], expected[slot]);
+    }
+}
+
+/* Refusals behind each sort of line end, and at the end of the text. */
+static void lines(uint8_t *book, size_t book_length)
+{
+    const uint64_t none[] = {5, 0, 1, 1, 0, 0, 0, 0};
+    const uint64_t line_feed[] = {7, 10, 2, 2, 0, 0, 0, 0};
+    const uint64_t carriage[] = {7, 9, 2, 1, 0, 0, 0, 0};
+    const uint64_t both[] = {7, 10, 2, 1, 0, 0, 0, 0};
+    const uint64_t turned[] = {7, 10, 3, 1, 0, 0, 0, 0};
+    const uint64_t comment[] = {7, 14, 2, 4, 0, 0, 0, 0};
+    const uint64_t end[] = {5, 15, 2, 1, 0, 0, 0, 0};
+    check("no text", "", book, book_length, none);
+    check("behind an LF", "INTERLIS\n 2.3;", book, book_length, line_feed);
+    check("behind a CR", "INTERLIS\r2.3;", book, book_length, carriage);
+    check("behind a CR LF", "INTERLIS\r\n2.3;", book, book_length, both);
+    check("behind an LF CR", "INTERLIS\n\r2.3;", book, book_length, turned);
+    check("behind a comment", "INTERLIS/*\r*/ 2.3;", book, book_length, comment);
+    check("at the end", "INTERLIS 2.4;\r\n", book, book_length, end);
+}
+
 int main(void)
 {
     const char *model = "INTERLIS 2.4;MODEL M AT \"u\" VERSION \"1\"=DOMAIN T=-10..40;END M.";
@@ -64,21 +98,26 @@ int main(void)
     uint8_t book[64];
 
     memset(book, 165, sizeof book);
-    uint64_t answer = auzuplens_check(text, length, book, 35);
-    expect("accepted", auzuplens_number(answer), 0);
-    expect("definitions", auzuplens_definitions(answer), 1);
-    expect("length of the book", auzuplens_extent(answer), 35);
+    const uint64_t accepted[AUZUPLENS_ANSWER] = {
+        [AUZUPLENS_LENGTH] = 35,
+        [AUZUPLENS_DEFINITIONS] = 1,
+    };
+    check("accepted", model, book, 35, accepted);
     expect("first byte", book[0], 1);
     expect("last byte but seven", book[27], 40);
     expect("byte behind the buffer", book[35], 165);
 
     records(text, length, book);
 
-    answer = auzuplens_check(text, length, book, 34);
-    expect("refused", auzuplens_number(answer), 19);
-    expect("definitions after a refusal", auzuplens_definitions(answer), 0);
-    expect("place", auzuplens_extent(answer), 47);
+    const uint64_t refused[AUZUPLENS_ANSWER] = {
+        [AUZUPLENS_NUMBER] = 19,
+        [AUZUPLENS_PLACE] = 47,
+        [AUZUPLENS_LINE] = 1,
+        [AUZUPLENS_COLUMN] = 48,
+    };
+    check("refused", model, book, 34, refused);
     expect("zero", book[0], 0);
+    lines(book, sizeof book);
 
     expect("reading", (unsigned long long)auzuplens_reading(45, 2, 1), 5);
     expect("no refusal", auzuplens_reading_refusal(45, 2, 1), 0);

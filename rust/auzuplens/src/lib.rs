@@ -14,7 +14,8 @@ unsafe extern "C" {
         text_length: usize,
         book: *mut u8,
         book_length: usize,
-    ) -> u64;
+        answer: *mut Slots,
+    );
     safe fn auzuplens_reading(value: i64, decimals: u64, base_decimals: u64) -> i64;
     safe fn auzuplens_reading_refusal(value: i64, decimals: u64, base_decimals: u64) -> u64;
     fn auzuplens_find(book: *const u8, book_length: usize, record: u64) -> u64;
@@ -27,6 +28,9 @@ unsafe extern "C" {
     ) -> u64;
 }
 
+/// The numbers of an answer, in the order of the header's names for them.
+type Slots = [u64; 8];
+
 /// What the archive gives for a record that is not there.
 const NONE: u64 = u64::MAX;
 
@@ -35,35 +39,59 @@ const NONE: u64 = u64::MAX;
 pub enum Answer {
     /// The book's length, and how many definitions it has.
     Accepted { book_len: usize, definitions: usize },
-    /// One of the refusals 1 to 19, or 22, and its place in the text.
-    Refused { number: u8, place: usize },
+    /// One of the refusals 1 to 19, or 22, its place in the text, and the line and
+    /// the column of that place, both from 1, columns in bytes. CR LF ends a line,
+    /// and so does CR or LF alone.
+    Refused {
+        number: u8,
+        place: usize,
+        line: usize,
+        column: usize,
+    },
 }
 
 impl Answer {
-    /// Takes the packed answer apart: number, definitions, and place or length.
-    fn unpacked(packed: u64) -> Answer {
-        let extent = (packed & 0xFFFF_FFFF) as usize;
-        match packed >> 48 {
+    fn of(slots: Slots) -> Answer {
+        let [number, rest @ ..] = slots;
+        // The last two are 0 for now.
+        let [place, line, column, book_len, definitions, _, _] = rest.map(|slot| slot as usize);
+        match number {
             0 => Answer::Accepted {
-                book_len: extent,
-                definitions: (packed >> 32 & 0xFFFF) as usize,
+                book_len,
+                definitions,
             },
             number => Answer::Refused {
                 number: number as u8,
-                place: extent,
+                place,
+                line,
+                column,
             },
         }
+    }
+}
+
+/// Hands a text, a buffer and the numbers of the answer to the archive.
+fn check_into(text: &[u8], book: &mut [u8], slots: &mut Slots) {
+    // SAFETY: the first two are slices, so each pointer leads to its length of
+    // bytes, and the third leads to its eight numbers; the second and the third
+    // are lent to be written by this call alone.
+    unsafe {
+        auzuplens_check(
+            text.as_ptr(),
+            text.len(),
+            book.as_mut_ptr(),
+            book.len(),
+            slots,
+        );
     }
 }
 
 /// Checks a text. The buffer then holds the book with zeros behind it, or, after
 /// a refusal, nothing but zeros.
 pub fn check(text: &[u8], book: &mut [u8]) -> Answer {
-    // SAFETY: both are slices, so each pointer leads to its length of bytes, and
-    // the second is lent to be written by this call alone.
-    let packed =
-        unsafe { auzuplens_check(text.as_ptr(), text.len(), book.as_mut_ptr(), book.len()) };
-    Answer::unpacked(packed)
+    let mut slots = Slots::default();
+    check_into(text, book, &mut slots);
+    Answer::of(slots)
 }
 
 /// A whole number with its decimals, read at the base's decimals; or 20 or 21.
@@ -167,3 +195,45 @@ impl<'b> Iterator for Records<'b> {
 }
 
 impl FusedIterator for Records<'_> {}
+
+#[cfg(test)]
+mod tests {
+    use super::{check_into, Slots};
+
+    /// All eight numbers of the answer, full of other bits before.
+    fn slots(text: &[u8], room: usize) -> Slots {
+        let mut slots = [u64::MAX; 8];
+        check_into(text, &mut vec![0xA5; room], &mut slots);
+        slots
+    }
+
+    #[test]
+    fn every_number_of_the_answer_is_written() {
+        let text = br#"INTERLIS 2.4;MODEL M AT "u" VERSION "1"=DOMAIN T=-10..40;END M."#;
+        assert_eq!(slots(text, 35), [0, 0, 0, 0, 35, 1, 0, 0]);
+        assert_eq!(slots(text, 65_535), [0, 0, 0, 0, 35, 1, 0, 0]);
+        assert_eq!(slots(text, 34), [19, 47, 1, 48, 0, 0, 0, 0]);
+        assert_eq!(slots(b"", 0), [5, 0, 1, 1, 0, 0, 0, 0]);
+        assert_eq!(
+            slots(&[b'\n'; 65_535], 9),
+            [5, 65_535, 65_536, 1, 0, 0, 0, 0]
+        );
+        assert_eq!(slots(&[b'\n'; 65_536], 9), [1, 0, 1, 1, 0, 0, 0, 0]);
+        assert_eq!(slots(b"INTERLIS\r\n 2.3;", 9), [7, 11, 2, 2, 0, 0, 0, 0]);
+    }
+
+    #[test]
+    fn what_an_answer_does_not_have_is_0() {
+        for seed in 0..3_000 {
+            let case = cases::gen_small(seed);
+            let [number, at @ .., length, definitions, edition, passed] =
+                slots(&case.text, case.buffer_len);
+            let place: [u64; 3] = at;
+            match number {
+                0 => assert_eq!(place, [0; 3], "seed {seed}"),
+                _ => assert_eq!((length, definitions), (0, 0), "seed {seed}"),
+            }
+            assert_eq!((edition, passed), (0, 0), "seed {seed}");
+        }
+    }
+}

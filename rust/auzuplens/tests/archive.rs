@@ -1,7 +1,7 @@
-//! The archive by way of the wrapper: document 01's examples, the part of the
-//! caller's text that a name is, the records of whole and of broken books, long
-//! texts on a thread of 2 megabytes, and generated cases beside the independent
-//! checker.
+//! The archive by way of the wrapper: document 01's examples, lines and columns,
+//! the part of the caller's text that a name is, the records of whole and of
+//! broken books, long texts on a thread of 2 megabytes, and generated cases beside
+//! the independent checker.
 
 use std::thread;
 
@@ -17,8 +17,13 @@ fn accepted(book_len: usize, definitions: usize) -> Answer {
     }
 }
 
-fn refused(number: u8, place: usize) -> Answer {
-    Answer::Refused { number, place }
+fn refused(number: u8, place: usize, line: usize, column: usize) -> Answer {
+    Answer::Refused {
+        number,
+        place,
+        line,
+        column,
+    }
 }
 
 fn beside(answer: peer::Answer) -> Answer {
@@ -27,7 +32,12 @@ fn beside(answer: peer::Answer) -> Answer {
             book_len,
             definitions,
         } => accepted(book_len, definitions),
-        peer::Answer::Refused { number, place } => refused(number, place),
+        peer::Answer::Refused {
+            number,
+            place,
+            line,
+            column,
+        } => refused(number, place, line, column),
     }
 }
 
@@ -55,12 +65,36 @@ fn the_63_bytes() {
     let expected: [(usize, usize, u8, &[u8]); 3] =
         [(0, 0, 1, b"M"), (1, 6, 7, b"T"), (2, 17, 10, b"")];
     assert_eq!(listed, expected);
-    assert_eq!(check(THERMOMETER, &mut book[..34]), refused(19, 47));
+    assert_eq!(check(THERMOMETER, &mut book[..34]), refused(19, 47, 1, 48));
     assert_eq!(book[..34], [0; 34]);
-    assert_eq!(check(b"", &mut []), refused(5, 0));
-    assert_eq!(check(THERMOMETER, &mut []), refused(19, 19));
+    assert_eq!(check(b"", &mut []), refused(5, 0, 1, 1));
+    assert_eq!(check(THERMOMETER, &mut []), refused(19, 19, 1, 20));
     assert_eq!(agree(THERMOMETER, 70_000), accepted(35, 1));
-    assert_eq!(agree(&[b' '; 65_536], 10), refused(1, 0));
+    assert_eq!(agree(&[b' '; 65_536], 10), refused(1, 0, 1, 1));
+}
+
+#[test]
+fn lines_and_columns() {
+    for (text, line, column) in [
+        ("INTERLIS 2.3;", 1, 10),
+        ("INTERLIS\n 2.3;", 2, 2),
+        ("INTERLIS\r2.3;", 2, 1),
+        ("INTERLIS\r\n2.3;", 2, 1),
+        ("INTERLIS\n\r2.3;", 3, 1),
+        ("INTERLIS/*\r*/ 2.3;", 2, 4),
+        ("INTERLIS !!\r\n2.3;", 2, 1),
+    ] {
+        let place = text.find("2.3").expect("it is there");
+        let expected = refused(7, place, line, column);
+        assert_eq!(agree(text.as_bytes(), 10), expected, "{text:?}");
+    }
+    assert_eq!(agree(b"INTERLIS 2.4;\r\n", 0), refused(5, 15, 2, 1));
+    assert_eq!(agree(&[b'\n'; 65_535], 0), refused(5, 65_535, 65_536, 1));
+    let doubled = br#"INTERLIS 2.4;MODEL M AT "u" VERSION "1"=DOMAIN D=(a,/*
+*/ a);END M."#;
+    assert_eq!(agree(doubled, 99), refused(9, 58, 2, 4));
+    let string = b"INTERLIS 2.4;\rMODEL M AT \"a\nb\"";
+    assert_eq!(agree(string, 99), refused(2, 27, 2, 14));
 }
 
 #[test]
@@ -187,7 +221,7 @@ fn long_texts_on_a_thread_of_2_megabytes() {
     let run = move || {
         for (word, text) in &texts {
             let answer = agree(text, 65_535);
-            assert_ne!(answer, refused(1, 0), "{word}");
+            assert_ne!(answer, refused(1, 0, 1, 1), "{word}");
         }
     };
     let thread = thread::Builder::new().stack_size(2 << 20).spawn(run);

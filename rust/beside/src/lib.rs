@@ -46,7 +46,17 @@ fn same(answer: peer::Answer) -> Answer {
             book_len,
             definitions,
         },
-        peer::Answer::Refused { number, place } => Answer::Refused { number, place },
+        peer::Answer::Refused {
+            number,
+            place,
+            line,
+            column,
+        } => Answer::Refused {
+            number,
+            place,
+            line,
+            column,
+        },
     }
 }
 
@@ -57,6 +67,11 @@ pub fn printed(answer: Answer) -> String {
             book_len,
             definitions,
         } => format!("ok {book_len} {definitions}"),
-        Answer::Refused { number, place } => format!("refused {number} {place}"),
+        Answer::Refused {
+            number,
+            place,
+            line,
+            column,
+        } => format!("refused {number} {place} {line} {column}"),
     }
 }

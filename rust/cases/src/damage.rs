@@ -105,6 +105,8 @@ fn break_string(random: &mut Random, symbols: &mut [String]) {
         "\"\\x\"",
         "\"\\u12\"",
         "\"a\nb\"",
+        "\"a\rb\"",
+        "\"\r\n\"",
         "\"a",
         "\"\\\"",
         "\"\\",
@@ -131,7 +133,7 @@ pub fn bytes(random: &mut Random, text: &mut Vec<u8>) {
         return;
     }
     let at = random.below(text.len());
-    let likely = b" ()[];:,=*.\"\\/!+-059aAzZ_\n\0\x1F\x7F\x80\xFF";
+    let likely = b" ()[];:,=*.\"\\/!+-059aAzZ_\n\r\0\x1F\x7F\x80\xFF";
     let byte = match random.below(3) {
         0 => random.below(256) as u8,
         _ => likely[random.below(likely.len())],

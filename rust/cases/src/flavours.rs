@@ -1,7 +1,8 @@
-//! What a case says of units of numbers and of classes over structures, by its
-//! text and its answer: the ways in which requests No. 1 and No. 2 can show, so
-//! that they can be counted.
+//! What a case says of units of numbers, of classes over structures and of lines
+//! and columns, by its text and its answer: the ways in which requests No. 1, 2
+//! and 6 can show, so that they can be counted.
 
+mod lines;
 mod over_structures;
 
 use std::ops::Range;
@@ -9,8 +10,8 @@ use std::ops::Range;
 use crate::Case;
 use peer::{Answer, UnitAt};
 
-/// Every flavour: of request No. 1, then of No. 2.
-pub const FLAVOURS: [&str; 60] = [
+/// Every flavour: of request No. 1, then of No. 2, then of No. 6.
+pub const FLAVOURS: [&str; 72] = [
     "a unit",
     "a unit in a topic",
     "a unit that is ABSTRACT",
@@ -71,6 +72,18 @@ pub const FLAVOURS: [&str; 60] = [
     "19 at a class over a structure",
     "19 at an attribute over a structure's",
     "22 at an attribute over a structure's",
+    "a refusal on a line behind an LF",
+    "a refusal on a line behind a CR",
+    "a refusal on a line behind a CR LF",
+    "a refusal on a line behind an LF CR",
+    "a refusal on a line behind an empty one",
+    "a refusal on a line behind a `!!` comment",
+    "a refusal on a line that begins within a comment",
+    "a refusal on a line that begins with a comment's end",
+    "2 at a CR in a string",
+    "2 at an LF in a string",
+    "5 at the end of the text behind a line end",
+    "9 at an element twice, on a later line than its unit begins",
 ];
 
 /// The flavours that take a longer text than a small case has.
@@ -89,9 +102,23 @@ pub fn flavours(case: &Case) -> Vec<&'static str> {
             let book = &buffer[..book_len];
             [view.accepted(book), over_structures::accepted(&view, book)].concat()
         }
-        Answer::Refused { number, place } => [
+        Answer::Refused {
+            number,
+            place,
+            line,
+            column,
+        } => [
             view.refused(number, place),
             over_structures::refused(&view, number, place),
+            lines::refused(
+                &view,
+                lines::At {
+                    number,
+                    place,
+                    line,
+                    column,
+                },
+            ),
         ]
         .concat(),
     }
@@ -108,7 +135,7 @@ struct View<'t> {
 fn answer(text: &[u8]) -> (u8, usize) {
     match peer::check(text, &mut vec![0; peer::LONGEST_BOOK]) {
         Answer::Accepted { .. } => (0, 0),
-        Answer::Refused { number, place } => (number, place),
+        Answer::Refused { number, place, .. } => (number, place),
     }
 }
 
@@ -120,7 +147,10 @@ impl<'t> View<'t> {
     fn new(text: &'t [u8]) -> Self {
         View {
             text,
-            symbols: peer::symbols(text),
+            symbols: peer::symbols(text)
+                .into_iter()
+                .map(|(at, length)| (at.place as usize, length))
+                .collect(),
             units: peer::units(text).0,
         }
     }

@@ -9,6 +9,11 @@ impl Random {
         Random(seed)
     }
 
+    /// Another generator beside this one, which draws on as if there were none.
+    pub fn aside(&self) -> Random {
+        Random(!self.0)
+    }
+
     pub fn draw(&mut self) -> u64 {
         self.0 = self.0.wrapping_add(0x9E37_79B9_7F4A_7C15);
         let mut mixed = self.0;

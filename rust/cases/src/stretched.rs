@@ -307,6 +307,18 @@ fn separators(limit: usize) -> Vec<(&'static str, Vec<u8>)> {
     vec![
         ("blanks", filled(limit, "", |_| " ".to_owned(), "END M.")),
         (
+            "line ends",
+            filled(limit, "", |_| "\n".to_owned(), "END M."),
+        ),
+        (
+            "line ends of two bytes",
+            filled(limit, "", |_| "\r\n".to_owned(), "END M."),
+        ),
+        (
+            "one comment of line ends",
+            filled(limit, "/*", |_| "\r\n".to_owned(), "*/END M."),
+        ),
+        (
             "one comment",
             format!("{HEAD}/*{comment}*/END M.").into_bytes(),
         ),

@@ -1,5 +1,5 @@
-//! The flavours of classes over structures, each on a text that has it and,
-//! beside it, one that has not.
+//! The flavours of classes over structures and of lines, each on a text that has it
+//! and, beside it, one that has not.
 
 use cases::{flavours, Case};
 
@@ -167,4 +167,71 @@ fn of_counts_and_buffers() {
     assert!(on(61).is_empty());
     let class = small.replacen("STRUCTURE", "CLASS", 1);
     assert!(found_in(&class, 44).is_empty());
+}
+
+/// The flavours of a text as it is.
+#[track_caller]
+fn shows(text: &str, expected: &[&str]) {
+    let case = Case {
+        text: text.into(),
+        buffer_len: 65_535,
+    };
+    assert_eq!(flavours(&case), expected, "{text:?}");
+}
+
+#[test]
+fn of_line_ends() {
+    let line_feed = "a refusal on a line behind an LF";
+    let (carriage, both) = (
+        "a refusal on a line behind a CR",
+        "a refusal on a line behind a CR LF",
+    );
+    let turned = "a refusal on a line behind an LF CR";
+    let empty = "a refusal on a line behind an empty one";
+    shows("#", &[]);
+    shows("\n #", &[line_feed]);
+    shows("\r #", &[carriage]);
+    shows(" \r\n#", &[both]);
+    shows(" \n\r#", &[turned, empty]);
+    shows("\n\n#", &[line_feed, empty]);
+    shows("\r\r#", &[carriage, empty]);
+    shows("\r\n\r\n#", &[both, empty]);
+    shows("\r \r\n#", &[both]);
+    shows(
+        "\n",
+        &[line_feed, "5 at the end of the text behind a line end"],
+    );
+    shows("INTERLIS\n2.4", &[line_feed]);
+}
+
+#[test]
+fn of_lines_and_comments() {
+    let line_feed = "a refusal on a line behind an LF";
+    let behind = "a refusal on a line behind a `!!` comment";
+    let within = "a refusal on a line that begins within a comment";
+    let close = "a refusal on a line that begins with a comment's end";
+    shows("!! /*\n#", &[line_feed, behind]);
+    shows("!!\n #", &[line_feed, behind]);
+    shows("/* !!\n */ #", &[line_feed, within]);
+    shows("/* \n*/ INTERLIS #", &[line_feed, within, close]);
+    shows("/* */\n#", &[line_feed]);
+    shows("!!\n \n#", &[line_feed]);
+    shows("/*\n*/\n#", &[line_feed]);
+    shows("INTERLIS !!\r\n2.4\n#", &[line_feed]);
+    let crossed = "a refusal on a line behind a CR LF";
+    shows("INTERLIS !! a\r\n#", &[crossed, behind]);
+}
+
+#[test]
+fn of_places_on_lines() {
+    let string = |inside: &str| format!("INTERLIS 2.4;MODEL M AT \"{inside}\"");
+    shows(&string("\r\n"), &["2 at a CR in a string"]);
+    shows(&string("a\n"), &["2 at an LF in a string"]);
+    shows(&string("\t\n"), &[]);
+    let line_feed = "a refusal on a line behind an LF";
+    let twice = "9 at an element twice, on a later line than its unit begins";
+    has("DOMAIN D=(a,\na);", &[line_feed, twice]);
+    has("DOMAIN\nD=(a,a);", &[line_feed]);
+    has("DOMAIN D=TEXT;\nD=(a,\na);", &[line_feed]);
+    has("CLASS C=b\n:(a,a);END C;", &[line_feed, twice]);
 }

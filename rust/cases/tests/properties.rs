@@ -1,9 +1,9 @@
 //! What holds for every case, and how often each answer comes.
 
-use std::collections::HashMap;
+use std::collections::{HashMap, HashSet};
 
 use cases::{flavours, gen, gen_small, is_named, Case, FLAVOURS, LARGE_ONLY, SIZES, SMALL};
-use peer::{check, find_record, show_name, units, Answer};
+use peer::{check, find_record, show_name, symbols, units, Answer, Spot};
 
 /// Checks with a buffer of this length, full of other bytes before.
 fn checked(text: &[u8], length: usize) -> (Answer, Vec<u8>) {
@@ -122,10 +122,10 @@ fn units_agree_with_the_check() {
         assert!(increasing, "seed {seed}");
         match (answer, refusal) {
             (Answer::Accepted { .. }, refusal) => assert_eq!(refusal, None, "seed {seed}"),
-            (Answer::Refused { number, place }, Some(fault)) if number <= 6 => {
+            (Answer::Refused { number, place, .. }, Some(fault)) if number <= 6 => {
                 // The attribute count of 4 stands at a unit's name.
                 let counted = found.iter().any(|unit| unit.place == place);
-                let same = (fault.number, fault.place) == (number, place);
+                let same = (fault.number, fault.at.place as usize) == (number, place);
                 assert!(same || (number == 4 && counted), "seed {seed}");
             }
             (Answer::Refused { number, .. }, None) => {
@@ -133,6 +133,56 @@ fn units_agree_with_the_check() {
             }
             (Answer::Refused { .. }, Some(_)) => {}
         }
+    });
+}
+
+/// The line and the column of a place, counted in what stands before it with each
+/// line end made an LF. The place is not within a CR LF.
+fn counted_at(text: &[u8], place: usize) -> (usize, usize) {
+    let before: String = text[..place].iter().copied().map(char::from).collect();
+    let unified = before.replace("\r\n", "\n").replace('\r', "\n");
+    let last = unified.rsplit('\n').next().unwrap_or("");
+    (1 + unified.matches('\n').count(), 1 + last.chars().count())
+}
+
+#[test]
+fn lines_and_columns_are_those_of_the_place() {
+    every(16_000..22_000, |seed, case| {
+        let (answer, _) = checked(&case.text, case.buffer_len);
+        if let Answer::Refused {
+            place,
+            line,
+            column,
+            ..
+        } = answer
+        {
+            let expected = counted_at(&case.text, place);
+            assert_eq!((line, column), expected, "seed {seed}");
+        }
+    });
+}
+
+#[test]
+fn every_symbol_has_its_line_and_column() {
+    every(22_000..22_300, |seed, case| {
+        for (at, _) in symbols(&case.text) {
+            let (line, column) = counted_at(&case.text, at.place as usize);
+            let found = (at.line as usize, at.column as usize);
+            assert_eq!(found, (line, column), "seed {seed}");
+            assert_eq!(at, Spot::of(&case.text, at.place as usize), "seed {seed}");
+        }
+    });
+}
+
+/// Two places of a text have different lines or columns, within line ends too.
+#[test]
+fn line_and_column_tell_places_apart() {
+    every(22_300..22_600, |seed, case| {
+        let all: HashSet<(u32, u32)> = (0..=case.text.len())
+            .map(|place| Spot::of(&case.text, place))
+            .map(|at| (at.line, at.column))
+            .collect();
+        assert_eq!(all.len(), case.text.len() + 1, "seed {seed}");
     });
 }
 

@@ -31,19 +31,17 @@ fn agrees(line: &str, case: &Case) {
     assert_eq!(bytes(fields[0]), case.text);
     assert_eq!(fields[1], case.buffer_len.to_string());
     let mut buffer = vec![0; case.buffer_len];
-    match check(&case.text, &mut buffer) {
-        Answer::Accepted {
-            book_len,
-            definitions,
-        } => {
-            let expected = ["ok", &book_len.to_string(), &definitions.to_string()];
-            assert_eq!(fields[2..5], expected);
-            assert_eq!(bytes(fields[5]), buffer[..book_len]);
+    let answer = check(&case.text, &mut buffer);
+    let printed = answer.to_string();
+    let expected: Vec<&str> = printed.split(' ').collect();
+    let (said, book) = fields[2..].split_at(expected.len());
+    assert_eq!(said, expected);
+    match answer {
+        Answer::Accepted { book_len, .. } => {
+            assert_eq!(book.len(), 1);
+            assert_eq!(bytes(book[0]), buffer[..book_len]);
         }
-        Answer::Refused { number, place } => {
-            let expected = ["refused", &number.to_string(), &place.to_string()];
-            assert_eq!(fields[2..], expected);
-        }
+        Answer::Refused { .. } => assert!(book.is_empty()),
     }
 }
 

@@ -1,7 +1,7 @@
 //! The book: writing its records, finding one, and showing its name.
 
 use crate::enumerations::Piece;
-use crate::units::Name;
+use crate::units::Word;
 
 pub const LONGEST_BOOK: usize = 65_535;
 pub const NO_BASE: u32 = u32::MAX;
@@ -88,13 +88,13 @@ impl<'b> Book<'b> {
         Ok(())
     }
 
-    pub fn named(&mut self, kind: u8, name: Name) -> Result<(), Full> {
+    pub fn named(&mut self, kind: u8, name: Word) -> Result<(), Full> {
         let [a, b, c, d] = name.place.to_le_bytes();
         self.put([kind, a, b, c, d, name.length])
     }
 
     /// A record of kind 4 to 7, which is counted, or 18, which is not.
-    pub fn definition(&mut self, kind: u8, name: Name, flags: u8, base: u32) -> Result<(), Full> {
+    pub fn definition(&mut self, kind: u8, name: Word, flags: u8, base: u32) -> Result<(), Full> {
         let mut record = [0; 11];
         record[0] = kind;
         record[1..5].copy_from_slice(&name.place.to_le_bytes());

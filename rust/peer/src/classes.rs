@@ -3,7 +3,7 @@
 use std::rc::Rc;
 
 use crate::types::Attribute;
-use crate::units::Name;
+use crate::units::Id;
 
 pub const MOST_ATTRIBUTES: usize = 256;
 
@@ -95,7 +95,7 @@ impl Classes {
         self.open.len() == MOST_ATTRIBUTES
     }
 
-    pub fn standing(&mut self, name: Name) -> Standing {
+    pub fn standing(&mut self, name: Id) -> Standing {
         if !self.filled {
             self.fill();
         }
@@ -125,13 +125,13 @@ impl Classes {
         }
     }
 
-    fn position(&self, name: Name) -> Option<usize> {
-        let slot = self.slots.get(name.id as usize)?;
+    fn position(&self, name: Id) -> Option<usize> {
+        let slot = self.slots.get(name as usize)?;
         (slot.stamp == self.stamp).then_some(slot.position as usize)
     }
 
-    fn note(&mut self, name: Name, position: usize) {
-        let id = name.id as usize;
+    fn note(&mut self, name: Id, position: usize) {
+        let id = name as usize;
         if id >= self.slots.len() {
             self.slots.resize(id + 1, Slot::default());
         }

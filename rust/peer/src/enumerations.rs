@@ -1,7 +1,7 @@
 //! Enumerations as flat lists of pieces, in the order of the book's records.
 
 use crate::tables::Pairs;
-use crate::units::Name;
+use crate::units::Word;
 
 #[derive(Clone, Copy, Debug, PartialEq, Eq)]
 pub enum Piece {
@@ -10,7 +10,7 @@ pub enum Piece {
         is_final: bool,
         size: usize,
     },
-    Element(Name),
+    Element(Word),
     Close,
 }
 
@@ -41,7 +41,7 @@ fn inner(pieces: &[Piece], element: usize) -> Option<usize> {
 }
 
 /// The elements of a list with their positions, inner lists passed over.
-fn elements(pieces: &[Piece], open: usize) -> impl Iterator<Item = (usize, Name)> + '_ {
+fn elements(pieces: &[Piece], open: usize) -> impl Iterator<Item = (usize, Word)> + '_ {
     let mut next = open + 1;
     std::iter::from_fn(move || {
         let at = next;
@@ -55,7 +55,7 @@ fn elements(pieces: &[Piece], open: usize) -> impl Iterator<Item = (usize, Name)
 
 /// Enters all elements of all lists into `index`, under the list and the
 /// name. Gives the first element, in text order, that its list had already.
-pub fn index_lists(pieces: &[Piece], open: usize, index: &mut Pairs) -> Option<Name> {
+pub fn index_lists(pieces: &[Piece], open: usize, index: &mut Pairs) -> Option<Word> {
     let mut outer = [0; 8];
     let mut depth = 0;
     let size = opening(pieces, open).1;

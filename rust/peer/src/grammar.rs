@@ -50,11 +50,7 @@ impl<'t> Reader<'t> {
     pub fn new(text: &'t [u8]) -> Self {
         Reader {
             cursor: Cursor::new(text),
-            symbol: Symbol {
-                kind: Kind::End,
-                place: 0,
-                length: 0,
-            },
+            symbol: Symbol::NONE,
             names: Names::new(text),
             stage: Stage::Header,
             in_topic: false,
@@ -82,7 +78,7 @@ impl<'t> Reader<'t> {
         self.last(Kind::Semicolon)?;
         self.stage = Stage::Model;
         Ok(Unit::Header {
-            version: number.place as usize,
+            version: number.at,
             length: number.length as usize,
         })
     }
@@ -272,18 +268,18 @@ impl<'t> Reader<'t> {
     }
 
     fn reference(&mut self) -> Result<Reference, Refusal> {
-        let place = self.place();
-        let first = self.name()?;
+        let at = self.symbol.at;
+        let first = self.word()?.id;
         if !self.take(Kind::Dot)? {
             let parts = Parts::Bare(first);
-            return Ok(Reference { place, parts });
+            return Ok(Reference { at, parts });
         }
-        let second = self.name()?;
+        let second = self.word()?.id;
         let parts = if self.take(Kind::Dot)? {
             Parts::InTopic {
                 model: first,
                 topic: second,
-                name: self.name()?,
+                name: self.word()?.id,
             }
         } else {
             Parts::InModel {
@@ -291,12 +287,12 @@ impl<'t> Reader<'t> {
                 name: second,
             }
         };
-        Ok(Reference { place, parts })
+        Ok(Reference { at, parts })
     }
 
     /// A type; a reference or nothing only where it may stand.
     fn written(&mut self, may_lack: bool, may_name: bool) -> Result<Written, Refusal> {
-        let place = self.place();
+        let at = self.symbol.at;
         let form = match self.symbol.kind {
             Kind::Semicolon if may_lack => return Ok(Written::Nothing),
             Kind::Name if may_name => return self.reference().map(Written::Named),
@@ -314,11 +310,7 @@ impl<'t> Reader<'t> {
             InPlace::Range { .. } | InPlace::Numeric => self.bracketed()?,
             _ => None,
         };
-        Ok(Written::Type {
-            place,
-            form,
-            measure,
-        })
+        Ok(Written::Type { at, form, measure })
     }
 
     /// Optionally a reference in brackets.
@@ -339,18 +331,18 @@ impl<'t> Reader<'t> {
                 written: None,
             });
         }
-        let place = self.place();
+        let at = self.symbol.at;
         let number = self.number_here()?;
         if !number.plain {
             return Err(self.impossible());
         }
         if number.value > LONGEST_TEXT_LENGTH {
-            return Err(Refusal::new(4, place));
+            return Err(Refusal::new(4, at));
         }
         self.step()?;
         Ok(Length {
             value: number.value as u32,
-            written: Some(place),
+            written: Some(at),
         })
     }
 
@@ -364,7 +356,7 @@ impl<'t> Reader<'t> {
     /// Reads an enumeration from its `(`; gives where it opens.
     fn enumeration(&mut self, depth: usize) -> Result<usize, Refusal> {
         if depth > DEEPEST {
-            return Err(Refusal::new(4, self.place()));
+            return Err(Refusal::new(4, self.symbol.at));
         }
         self.step()?;
         let open = self.pieces.len();
@@ -388,7 +380,7 @@ impl<'t> Reader<'t> {
     }
 
     fn element(&mut self, depth: usize) -> Result<(), Refusal> {
-        let name = self.name()?;
+        let name = self.word()?;
         self.pieces.push(Piece::Element(name));
         if self.symbol.kind == Kind::Open {
             self.enumeration(depth + 1)?;
@@ -397,19 +389,22 @@ impl<'t> Reader<'t> {
     }
 
     fn name(&mut self) -> Result<Name, Refusal> {
-        let Symbol {
-            kind,
-            place,
-            length,
-        } = self.symbol;
+        let at = self.symbol.at;
+        let word = self.word()?;
+        Ok(Name::new(word, at))
+    }
+
+    /// A name of which the place is enough.
+    fn word(&mut self) -> Result<Word, Refusal> {
+        let Symbol { kind, at, length } = self.symbol;
         if kind != Kind::Name {
             return Err(self.impossible());
         }
-        let id = self.names.id(place, length);
+        let id = self.names.id(at.place, length);
         self.step()?;
-        Ok(Name {
+        Ok(Word {
             id,
-            place,
+            place: at.place,
             length: length as u8,
         })
     }
@@ -428,8 +423,7 @@ impl<'t> Reader<'t> {
     }
 
     fn step(&mut self) -> Result<(), Refusal> {
-        self.symbol = self.cursor.next()?;
-        Ok(())
+        self.cursor.next(&mut self.symbol)
     }
 
     /// Steps over the symbol if it is of this kind.
@@ -455,10 +449,6 @@ impl<'t> Reader<'t> {
     }
 
     fn impossible(&self) -> Refusal {
-        Refusal::new(5, self.place())
-    }
-
-    fn place(&self) -> usize {
-        self.symbol.place as usize
+        Refusal::new(5, self.symbol.at)
     }
 }

@@ -6,6 +6,7 @@ use crate::chains::Chains;
 use crate::classes::{Classes, Standing};
 use crate::enumerations::{index_lists, is_empty, list, merge, reads, Piece};
 use crate::grammar::Reader;
+use crate::lines::Spot;
 use crate::scope::{Known, Scope};
 use crate::tables::Pairs;
 use crate::types::{self, Measured, Type};
@@ -24,7 +25,7 @@ pub fn judge(text: &[u8], book: &mut Book) -> Result<(), Refusal> {
 
 /// The class or structure that is open.
 struct OpenClass {
-    name: Name,
+    name: Id,
     is_structure: bool,
     is_final: bool,
     base: Option<u32>,
@@ -35,8 +36,8 @@ struct Judge<'t, 'j, 'b> {
     text: &'t [u8],
     book: &'j mut Book<'b>,
     scope: Scope,
-    model: Option<Name>,
-    topic: Option<Name>,
+    model: Option<Id>,
+    topic: Option<Id>,
     class: Option<OpenClass>,
     classes: Classes,
     class_chains: Chains,
@@ -49,35 +50,35 @@ struct Judge<'t, 'j, 'b> {
     elements: Pairs,
 }
 
-fn refuse<T>(number: u8, place: usize) -> Result<T, Refusal> {
-    Err(Refusal::new(number, place))
+fn refuse<T>(number: u8, at: Spot) -> Result<T, Refusal> {
+    Err(Refusal::new(number, at))
 }
 
 /// Refuses if the condition holds.
-fn refuse_if(condition: bool, number: u8, place: usize) -> Result<(), Refusal> {
+fn refuse_if(condition: bool, number: u8, at: Spot) -> Result<(), Refusal> {
     if condition {
-        return refuse(number, place);
+        return refuse(number, at);
     }
     Ok(())
 }
 
-/// Refusal 19 for a unit whose records did not fit.
-fn fitting(written: Result<(), Full>, name: Name) -> Result<(), Refusal> {
-    written.map_err(|Full| Refusal::new(19, name.place()))
+/// Refusal 19 for a unit whose records did not fit, at its name.
+fn fitting(written: Result<(), Full>, name: &Name) -> Result<(), Refusal> {
+    written.map_err(|Full| Refusal::new(19, name.at()))
 }
 
 /// Refusal 14.
 fn sound(written: &Written) -> Result<(), Refusal> {
-    let Written::Type { place, form, .. } = *written else {
+    let Written::Type { at, form, .. } = *written else {
         return Ok(());
     };
     match form {
         InPlace::Range { first, second } => {
             let unlike = first.decimals != second.decimals;
-            refuse_if(unlike || first.value > second.value, 14, place)
+            refuse_if(unlike || first.value > second.value, 14, at)
         }
         InPlace::Text(length) | InPlace::Mtext(length) => match length.written {
-            Some(place) => refuse_if(length.value == 0, 14, place),
+            Some(at) => refuse_if(length.value == 0, 14, at),
             None => Ok(()),
         },
         InPlace::Numeric | InPlace::Enumeration(_) => Ok(()),
@@ -88,10 +89,10 @@ fn sound(written: &Written) -> Result<(), Refusal> {
 fn rooted(written: &Written, pieces: &[Piece]) -> Result<(), Refusal> {
     match *written {
         Written::Type {
-            place,
+            at,
             form: InPlace::Enumeration(open),
             ..
-        } => refuse_if(is_empty(pieces, open), 15, place),
+        } => refuse_if(is_empty(pieces, open), 15, at),
         _ => Ok(()),
     }
 }
@@ -157,41 +158,41 @@ impl<'t, 'j, 'b> Judge<'t, 'j, 'b> {
     fn unit(&mut self, unit: &Unit, pieces: &mut Vec<Piece>) -> Result<(), Refusal> {
         match unit {
             Unit::Header { version, length } => self.header(*version, *length),
-            Unit::Model { name } => self.model(*name),
-            Unit::Topic { name } => self.topic(*name),
+            Unit::Model { name } => self.model(name),
+            Unit::Topic { name } => self.topic(name),
             Unit::Class(head) => self.class_head(head),
             Unit::Measure(measure) => self.measure(measure),
             Unit::Domain(domain) => self.domain(domain, pieces),
             Unit::Attribute(attribute) => self.attribute(attribute, pieces),
             Unit::End { name, closed } => match closed {
-                Closed::Class => self.end_of_class(*name),
-                Closed::Topic => self.end_of_topic(*name),
-                Closed::Model => self.same_name(self.model, *name),
+                Closed::Class => self.end_of_class(name),
+                Closed::Topic => self.end_of_topic(name),
+                Closed::Model => self.same_name(self.model, name),
             },
         }
     }
 
-    fn header(&self, version: usize, length: usize) -> Result<(), Refusal> {
-        let written = &self.text[version..version + length];
+    fn header(&self, version: Spot, length: usize) -> Result<(), Refusal> {
+        let written = &self.text[version.place as usize..][..length];
         refuse_if(written != b"2.4", 7, version)
     }
 
-    fn model(&mut self, name: Name) -> Result<(), Refusal> {
-        fitting(self.book.named(kind::MODEL, name), name)?;
-        self.model = Some(name);
-        self.scope.set_model(name);
+    fn model(&mut self, name: &Name) -> Result<(), Refusal> {
+        fitting(self.book.named(kind::MODEL, name.word), name)?;
+        self.model = Some(name.word.id);
+        self.scope.set_model(name.word.id);
         Ok(())
     }
 
-    fn topic(&mut self, name: Name) -> Result<(), Refusal> {
+    fn topic(&mut self, name: &Name) -> Result<(), Refusal> {
         self.free(name)?;
-        fitting(self.book.named(kind::TOPIC, name), name)?;
-        self.topic = Some(name);
-        self.scope.open_topic(name);
+        fitting(self.book.named(kind::TOPIC, name.word), name)?;
+        self.topic = Some(name.word.id);
+        self.scope.open_topic(name.word.id);
         Ok(())
     }
 
-    fn end_of_topic(&mut self, name: Name) -> Result<(), Refusal> {
+    fn end_of_topic(&mut self, name: &Name) -> Result<(), Refusal> {
         self.same_name(self.topic, name)?;
         fitting(self.book.put([kind::END_OF_TOPIC]), name)?;
         self.scope.close_topic();
@@ -199,14 +200,13 @@ impl<'t, 'j, 'b> Judge<'t, 'j, 'b> {
     }
 
     /// Refusal 8.
-    fn same_name(&self, opened: Option<Name>, name: Name) -> Result<(), Refusal> {
-        let same = opened.is_some_and(|opened| opened.id == name.id);
-        refuse_if(!same, 8, name.place())
+    fn same_name(&self, opened: Option<Id>, name: &Name) -> Result<(), Refusal> {
+        refuse_if(opened != Some(name.word.id), 8, name.at())
     }
 
     /// Refusal 9 for a name that is taken.
-    fn free(&self, name: Name) -> Result<(), Refusal> {
-        refuse_if(self.scope.bare(name).is_some(), 9, name.place())
+    fn free(&self, name: &Name) -> Result<(), Refusal> {
+        refuse_if(self.scope.bare(name.word.id).is_some(), 9, name.at())
     }
 
     /// Refusal 9 for an element that stands twice in one list.
@@ -219,14 +219,15 @@ impl<'t, 'j, 'b> Judge<'t, 'j, 'b> {
             return Ok(());
         };
         match index_lists(pieces, open, &mut self.elements) {
-            Some(name) => refuse(9, name.place()),
+            // The place is all there is of an element.
+            Some(name) => refuse(9, Spot::of(self.text, name.place as usize)),
             None => Ok(()),
         }
     }
 
     /// Refusal 10 for a reference.
     fn find(&self, reference: &Reference) -> Result<Known, Refusal> {
-        let unknown = Refusal::new(10, reference.place);
+        let unknown = Refusal::new(10, reference.at);
         self.scope.find(&reference.parts).ok_or(unknown)
     }
 
@@ -242,18 +243,18 @@ impl<'t, 'j, 'b> Judge<'t, 'j, 'b> {
         }
         for (known, (reference, fits)) in found.iter().zip(expected) {
             if let (Some(known), Some(reference)) = (*known, reference) {
-                refuse_if(!fits(known), 11, reference.place)?;
+                refuse_if(!fits(known), 11, reference.at)?;
             }
         }
         Ok(found)
     }
 
     fn class_head(&mut self, head: &ClassHead) -> Result<(), Refusal> {
-        self.free(head.name)?;
+        self.free(&head.name)?;
         let base = self.class_base(head)?;
         let properties = head.properties;
         let contrary = properties.is_abstract && properties.is_final;
-        refuse_if(properties.doubled || contrary, 13, head.name.place())?;
+        refuse_if(properties.doubled || contrary, 13, head.name.at())?;
         let record = self.book.next_record();
         let base_record = base.map_or(NO_BASE, |number| self.classes.get(number).record);
         let kind = if head.is_structure {
@@ -262,11 +263,11 @@ impl<'t, 'j, 'b> Judge<'t, 'j, 'b> {
             kind::CLASS
         };
         let written =
-            (self.book).definition(kind, head.name, flags(properties, false), base_record);
-        fitting(written, head.name)?;
+            (self.book).definition(kind, head.name.word, flags(properties, false), base_record);
+        fitting(written, &head.name)?;
         self.classes.open(base);
         self.class = Some(OpenClass {
-            name: head.name,
+            name: head.name.word.id,
             is_structure: head.is_structure,
             is_final: properties.is_final,
             base,
@@ -289,11 +290,11 @@ impl<'t, 'j, 'b> Judge<'t, 'j, 'b> {
         let [base] = self.sorts([(Some(reference), fits)])?;
         let number = base.map(Known::number);
         let is_final = number.is_some_and(|number| self.classes.get(number).is_final);
-        refuse_if(is_final, 12, reference.place)?;
+        refuse_if(is_final, 12, reference.at)?;
         Ok(number)
     }
 
-    fn end_of_class(&mut self, name: Name) -> Result<(), Refusal> {
+    fn end_of_class(&mut self, name: &Name) -> Result<(), Refusal> {
         self.same_name(self.class.as_ref().map(|class| class.name), name)?;
         fitting(self.book.put([kind::END_OF_CLASS]), name)?;
         if let Some(class) = self.class.take() {
@@ -310,7 +311,7 @@ impl<'t, 'j, 'b> Judge<'t, 'j, 'b> {
     }
 
     fn domain(&mut self, unit: &Domain, pieces: &mut Vec<Piece>) -> Result<(), Refusal> {
-        self.free(unit.name)?;
+        self.free(&unit.name)?;
         self.undoubled(&unit.written, pieces)?;
         let based: Expected = (unit.base.as_ref(), Known::is_domain);
         let [named, found] = self.sorts([based, within(&unit.written)])?;
@@ -321,11 +322,7 @@ impl<'t, 'j, 'b> Judge<'t, 'j, 'b> {
         let properties = unit.properties;
         let contrary = properties.is_abstract && properties.is_final;
         let open = meant.written == Type::Numeric && !properties.is_abstract;
-        refuse_if(
-            properties.doubled || contrary || open,
-            13,
-            unit.name.place(),
-        )?;
+        refuse_if(properties.doubled || contrary || open, 13, unit.name.at())?;
         sound(&unit.written)?;
         let whole = self.whole(&unit.written, meant, over, pieces)?;
         let mandatory = unit.mandatory || base.is_some_and(|base| base.mandatory);
@@ -338,11 +335,11 @@ impl<'t, 'j, 'b> Judge<'t, 'j, 'b> {
         };
         let base_record = base.map_or(NO_BASE, |base| base.record);
         let bits = flags(properties, mandatory);
-        let head = (self.book).definition(kind::DOMAIN, unit.name, bits, base_record);
-        fitting(head, unit.name)?;
-        fitting(self.put_type(whole, pieces), unit.name)?;
+        let head = (self.book).definition(kind::DOMAIN, unit.name.word, bits, base_record);
+        fitting(head, &unit.name)?;
+        fitting(self.put_type(whole, pieces), &unit.name)?;
         self.scope
-            .define(unit.name, Known::Domain(self.domains.len() as u32));
+            .define(unit.name.word.id, Known::Domain(self.domains.len() as u32));
         self.domains.push(known);
         self.domain_chains.add(number);
         Ok(())
@@ -358,22 +355,24 @@ impl<'t, 'j, 'b> Judge<'t, 'j, 'b> {
             return Ok(None);
         };
         let base = self.domains[number as usize];
-        refuse_if(base.is_final, 12, reference.place)?;
+        refuse_if(base.is_final, 12, reference.at)?;
         Ok(Some(base))
     }
 
     fn measure(&mut self, unit: &Measure) -> Result<(), Refusal> {
-        self.free(unit.name)?;
+        self.free(&unit.name)?;
         let [base] = self.sorts([(unit.base.as_ref(), Known::is_measure)])?;
-        refuse_if(unit.properties.doubled, 13, unit.name.place())?;
+        refuse_if(unit.properties.doubled, 13, unit.name.at())?;
         let number = base.map(Known::number);
         let record = self.book.next_record();
         let base_record = number.map_or(NO_BASE, |number| self.measures[number as usize]);
         let bits = flags(unit.properties, false);
-        let head = (self.book).definition(kind::MEASURE, unit.name, bits, base_record);
-        fitting(head, unit.name)?;
-        self.scope
-            .define(unit.name, Known::Measure(self.measures.len() as u32));
+        let head = (self.book).definition(kind::MEASURE, unit.name.word, bits, base_record);
+        fitting(head, &unit.name)?;
+        self.scope.define(
+            unit.name.word.id,
+            Known::Measure(self.measures.len() as u32),
+        );
         self.measures.push(record);
         self.measure_chains.add(number);
         Ok(())
@@ -393,9 +392,9 @@ impl<'t, 'j, 'b> Judge<'t, 'j, 'b> {
         };
         match written {
             Written::Nothing => Ok(meant),
-            Written::Type { place, .. } => self.extended(*place, meant, base, pieces),
+            Written::Type { at, .. } => self.extended(*at, meant, base, pieces),
             Written::Named(reference) => {
-                self.named(reference.place, meant.written, base.written, pieces)?;
+                self.named(reference.at, meant.written, base.written, pieces)?;
                 Ok(meant)
             }
         }
@@ -412,20 +411,20 @@ impl<'t, 'j, 'b> Judge<'t, 'j, 'b> {
     /// Refusals 16, 17 and 22 for a type written in place over a base.
     fn extended(
         &self,
-        place: usize,
+        at: Spot,
         own: Measured,
         base: Measured,
         pieces: &mut Vec<Piece>,
     ) -> Result<Measured, Refusal> {
         let base = self.resolved(base);
-        refuse_if(!own.written.same_kind(base.written), 16, place)?;
+        refuse_if(!own.written.same_kind(base.written), 16, at)?;
         if let (Type::Enumeration(written), Type::Enumeration(base)) = (own.written, base.written) {
             let merged = merge(pieces, &self.elements, base, written);
-            let merged = merged.map_err(|_| Refusal::new(17, place))?;
+            let merged = merged.map_err(|_| Refusal::new(17, at))?;
             return Ok(Measured::plain(Type::Enumeration(merged)));
         }
-        refuse_if(!own.written.reads(base.written), 17, place)?;
-        refuse_if(!self.measure_fits(own.measure, base.measure), 22, place)?;
+        refuse_if(!own.written.reads(base.written), 17, at)?;
+        refuse_if(!self.measure_fits(own.measure, base.measure), 22, at)?;
         Ok(own)
     }
 
@@ -438,7 +437,7 @@ impl<'t, 'j, 'b> Judge<'t, 'j, 'b> {
     }
 
     /// Refusals 16 to 18 for a domain or structure named over a base.
-    fn named(&self, place: usize, own: Type, base: Type, pieces: &[Piece]) -> Result<(), Refusal> {
+    fn named(&self, at: Spot, own: Type, base: Type, pieces: &[Piece]) -> Result<(), Refusal> {
         let descends = match (own, base) {
             (Type::Domain(own), Type::Domain(base)) => self.domain_chains.descends(own, base),
             (Type::Structure(own), Type::Structure(base)) => self.class_chains.descends(own, base),
@@ -449,7 +448,7 @@ impl<'t, 'j, 'b> Judge<'t, 'j, 'b> {
         }
         let resolved = |named| self.resolved(Measured::plain(named)).written;
         let (own, base) = (resolved(own), resolved(base));
-        refuse_if(!own.same_kind(base), 16, place)?;
+        refuse_if(!own.same_kind(base), 16, at)?;
         let legal = match (own, base) {
             (Type::Enumeration(own), Type::Enumeration(base)) => {
                 // The base may be a merged one, whose lists have no index.
@@ -459,15 +458,15 @@ impl<'t, 'j, 'b> Judge<'t, 'j, 'b> {
             }
             _ => own.reads(base),
         };
-        refuse_if(!legal, 17, place)?;
-        refuse(18, place)
+        refuse_if(!legal, 17, at)?;
+        refuse(18, at)
     }
 
     fn attribute(&mut self, unit: &Attribute, pieces: &mut Vec<Piece>) -> Result<(), Refusal> {
         let base = self.inherited(unit)?;
         self.undoubled(&unit.written, pieces)?;
         let found = self.attribute_sorts(unit, base.is_some())?;
-        let name = unit.name.place();
+        let name = unit.name.at();
         refuse_if(base.is_some_and(|base| base.is_final), 12, name)?;
         let over = base.map(|base| base.held);
         let meant = meant(&unit.written, found, over);
@@ -485,11 +484,11 @@ impl<'t, 'j, 'b> Judge<'t, 'j, 'b> {
         let record = self.book.next_record();
         let base_record = base.map_or(NO_BASE, |base| base.record);
         let bits = flags(unit.properties, mandatory);
-        let head = (self.book).definition(kind::ATTRIBUTE, unit.name, bits, base_record);
-        fitting(head, unit.name)?;
-        fitting(self.put_type(whole, pieces), unit.name)?;
+        let head = (self.book).definition(kind::ATTRIBUTE, unit.name.word, bits, base_record);
+        fitting(head, &unit.name)?;
+        fitting(self.put_type(whole, pieces), &unit.name)?;
         self.classes.add(types::Attribute {
-            name: unit.name,
+            name: unit.name.word.id,
             record,
             is_final: unit.properties.is_final,
             mandatory,
@@ -500,19 +499,19 @@ impl<'t, 'j, 'b> Judge<'t, 'j, 'b> {
 
     /// The attribute count of 4, and 9 for the name; gives the base.
     fn inherited(&mut self, unit: &Attribute) -> Result<Option<types::Attribute>, Refusal> {
-        let place = unit.name.place();
-        match self.classes.standing(unit.name) {
-            Standing::New if self.classes.is_full() => refuse(4, place),
+        let at = unit.name.at();
+        match self.classes.standing(unit.name.word.id) {
+            Standing::New if self.classes.is_full() => refuse(4, at),
             Standing::New => Ok(None),
             Standing::Inherited(base) if unit.properties.is_extended => Ok(Some(base)),
-            Standing::Inherited(_) | Standing::Own => refuse(9, place),
+            Standing::Inherited(_) | Standing::Own => refuse(9, at),
         }
     }
 
     /// Refusals 10 and 11; gives what the reference stands for.
     fn attribute_sorts(&self, unit: &Attribute, based: bool) -> Result<Option<Known>, Refusal> {
         let unfounded = unit.properties.is_extended && !based;
-        refuse_if(unfounded, 10, unit.name.place())?;
+        refuse_if(unfounded, 10, unit.name.at())?;
         let [found] = self.sorts([within(&unit.written)])?;
         Ok(found)
     }

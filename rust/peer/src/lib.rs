@@ -1,8 +1,10 @@
 //! A checker for model texts in a part of INTERLIS 2.4, after the rules of
-//! document 01 and of requests No. 1, 2, 3 and 5 in document 02. It is read and
-//! written independently of the proved checker, to be compared with it and to be
-//! the baseline of its speed.
+//! document 01 and of requests No. 1, 2, 3, 5 and 6 in document 02. It is read and
+//! written independently of the proved checker (docs/COMPARISON.md says how far),
+//! to be compared with it and to be the baseline of its speed.
 #![forbid(unsafe_code)]
+
+use std::fmt;
 
 mod book;
 mod chains;
@@ -10,6 +12,7 @@ mod classes;
 mod enumerations;
 mod grammar;
 mod judge;
+mod lines;
 mod reserved;
 mod scope;
 mod symbols;
@@ -18,6 +21,7 @@ mod types;
 mod units;
 
 pub use book::{find_record, name_part, show_name, LONGEST_BOOK};
+pub use lines::Spot;
 pub use reserved::WORDS;
 pub use types::read_number;
 
@@ -27,20 +31,46 @@ pub const LONGEST_TEXT: usize = 65_535;
 /// The answer of `check`.
 #[derive(Clone, Copy, Debug, PartialEq, Eq)]
 pub enum Answer {
-    Accepted { book_len: usize, definitions: usize },
-    Refused { number: u8, place: usize },
+    Accepted {
+        book_len: usize,
+        definitions: usize,
+    },
+    Refused {
+        number: u8,
+        place: usize,
+        line: usize,
+        column: usize,
+    },
 }
 
-/// One of the refusals 1 to 19, or 22.
+/// As the program `check` prints it, without the LF.
+impl fmt::Display for Answer {
+    fn fmt(&self, to: &mut fmt::Formatter) -> fmt::Result {
+        match self {
+            Answer::Accepted {
+                book_len,
+                definitions,
+            } => write!(to, "ok {book_len} {definitions}"),
+            Answer::Refused {
+                number,
+                place,
+                line,
+                column,
+            } => write!(to, "refused {number} {place} {line} {column}"),
+        }
+    }
+}
+
+/// One of the refusals 1 to 19, or 22, and where it stands.
 #[derive(Clone, Copy, Debug, PartialEq, Eq)]
 pub struct Refusal {
     pub number: u8,
-    pub place: usize,
+    pub at: Spot,
 }
 
 impl Refusal {
-    pub(crate) fn new(number: u8, place: usize) -> Self {
-        Refusal { number, place }
+    pub(crate) fn new(number: u8, at: Spot) -> Self {
+        Refusal { number, at }
     }
 }
 
@@ -49,7 +79,7 @@ impl Refusal {
 pub fn check(text: &[u8], buffer: &mut [u8]) -> Answer {
     let mut book = book::Book::new(buffer);
     let verdict = if text.len() > LONGEST_TEXT {
-        Err(Refusal::new(1, 0))
+        Err(Refusal::new(1, Spot::FIRST))
     } else {
         judge::judge(text, &mut book)
     };
@@ -61,23 +91,26 @@ pub fn check(text: &[u8], buffer: &mut [u8]) -> Answer {
                 definitions,
             }
         }
-        Err(Refusal { number, place }) => {
+        Err(Refusal { number, at }) => {
             book.erase();
-            Answer::Refused { number, place }
+            Answer::Refused {
+                number,
+                place: at.place as usize,
+                line: at.line as usize,
+                column: at.column as usize,
+            }
         }
     }
 }
 
-/// The symbols of a text, each with its place and length, up to its end or to a
-/// refusal among 2, 3, 4 and 6.
-pub fn symbols(text: &[u8]) -> Vec<(usize, usize)> {
+/// The symbols of a text, each with where it stands and its length, up to its end
+/// or to a refusal among 2, 3, 4 and 6.
+pub fn symbols(text: &[u8]) -> Vec<(Spot, usize)> {
     let mut cursor = symbols::Cursor::new(text);
     let mut found = Vec::new();
-    while let Ok(symbol) = cursor.next() {
-        if symbol.kind == symbols::Kind::End {
-            break;
-        }
-        found.push((symbol.place as usize, symbol.length as usize));
+    let mut symbol = symbols::Symbol::NONE;
+    while cursor.next(&mut symbol).is_ok() && symbol.kind != symbols::Kind::End {
+        found.push((symbol.at, symbol.length as usize));
     }
     found
 }
@@ -95,7 +128,7 @@ pub struct UnitAt {
 pub fn units(text: &[u8]) -> (Vec<UnitAt>, Option<Refusal>) {
     let mut found = Vec::new();
     if text.len() > LONGEST_TEXT {
-        return (found, Some(Refusal::new(1, 0)));
+        return (found, Some(Refusal::new(1, Spot::FIRST)));
     }
     let mut reader = grammar::Reader::new(text);
     loop {

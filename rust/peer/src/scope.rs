@@ -1,7 +1,7 @@
 //! The name space that topics, measures, domains, structures and classes share.
 
 use crate::tables::Pairs;
-use crate::units::{Name, Parts};
+use crate::units::{Id, Parts};
 
 /// What a name stands for; the number counts topics from 1, measures and
 /// domains from 0, and classes and structures together from 0.
@@ -47,7 +47,7 @@ impl Known {
 const MODEL_LEVEL: u32 = 0;
 
 pub struct Scope {
-    model: Option<Name>,
+    model: Option<Id>,
     /// Topics are numbered from 1; zero is the model's level.
     topics: u32,
     open: u32,
@@ -66,11 +66,11 @@ impl Scope {
         }
     }
 
-    pub fn set_model(&mut self, name: Name) {
+    pub fn set_model(&mut self, name: Id) {
         self.model = Some(name);
     }
 
-    pub fn open_topic(&mut self, name: Name) {
+    pub fn open_topic(&mut self, name: Id) {
         self.topics += 1;
         self.define(name, Known::Topic(self.topics));
         self.open = self.topics;
@@ -81,19 +81,19 @@ impl Scope {
     }
 
     /// Makes a name known at the model's level or in the open topic.
-    pub fn define(&mut self, name: Name, known: Known) {
+    pub fn define(&mut self, name: Id, known: Known) {
         let number = self.known.len() as u32;
         self.known.push(known);
-        self.places.insert(self.open, name.id, number);
+        self.places.insert(self.open, name, number);
     }
 
-    fn within(&self, level: u32, name: Name) -> Option<Known> {
-        let number = self.places.get(level, name.id)?;
+    fn within(&self, level: u32, name: Id) -> Option<Known> {
+        let number = self.places.get(level, name)?;
         Some(self.known[number as usize])
     }
 
     /// What a bare name stands for; a new name is taken if this is something.
-    pub fn bare(&self, name: Name) -> Option<Known> {
+    pub fn bare(&self, name: Id) -> Option<Known> {
         match self.within(MODEL_LEVEL, name) {
             None if self.open != MODEL_LEVEL => self.within(self.open, name),
             found => found,
@@ -116,7 +116,7 @@ impl Scope {
         }
     }
 
-    fn is_model(&self, name: Name) -> bool {
-        self.model.is_some_and(|model| model.id == name.id)
+    fn is_model(&self, name: Id) -> bool {
+        self.model == Some(name)
     }
 }

@@ -1,5 +1,6 @@
 //! The symbol reader: one pass over the bytes, refusals 2, 3, 4 and 6.
 
+use crate::lines::{later_lines, line_end, Spot};
 use crate::reserved::{self, Form, Word};
 use crate::Refusal;
 
@@ -22,6 +23,23 @@ static IN_WORD: [u8; 256] = {
         };
         byte += 1;
     }
+    table
+};
+
+/// What a byte may begin between symbols: nothing, a blank, a line end, a comment.
+const NOTHING: u8 = 0;
+const BLANK: u8 = 1;
+const LINE_END: u8 = 2;
+const COMMENT: u8 = 3;
+
+static BETWEEN: [u8; 256] = {
+    let mut table = [NOTHING; 256];
+    table[b' ' as usize] = BLANK;
+    table[b'\t' as usize] = BLANK;
+    table[b'\r' as usize] = LINE_END;
+    table[b'\n' as usize] = LINE_END;
+    table[b'!' as usize] = COMMENT;
+    table[b'/' as usize] = COMMENT;
     table
 };
 
@@ -57,15 +75,27 @@ pub enum Kind {
 #[derive(Clone, Copy, Debug, PartialEq, Eq)]
 pub struct Symbol {
     pub kind: Kind,
-    pub place: u32,
+    pub at: Spot,
     pub length: u32,
 }
 
-/// The place reached in a text.
+impl Symbol {
+    /// What stands for the symbol before one is read.
+    pub const NONE: Symbol = Symbol {
+        kind: Kind::End,
+        at: Spot::FIRST,
+        length: 0,
+    };
+}
+
+/// The place reached in a text, and the line it is on.
 #[derive(Clone, Copy, Debug)]
 pub struct Cursor<'t> {
     text: &'t [u8],
     at: usize,
+    line: usize,
+    /// Where the line begins.
+    beginning: usize,
     number: Number,
 }
 
@@ -79,6 +109,8 @@ impl<'t> Cursor<'t> {
         Cursor {
             text,
             at: 0,
+            line: 1,
+            beginning: 0,
             number,
         }
     }
@@ -88,8 +120,9 @@ impl<'t> Cursor<'t> {
         self.number
     }
 
-    /// Reads the next symbol; at the end of the text that is `Kind::End`.
-    pub fn next(&mut self) -> Result<Symbol, Refusal> {
+    /// Reads the next symbol; at the end of the text that is `Kind::End`. It is
+    /// written where it is wanted, since copying it takes a good part of the time.
+    pub fn next(&mut self, symbol: &mut Symbol) -> Result<(), Refusal> {
         self.skip()?;
         let place = self.at;
         let kind = match self.peek(0) {
@@ -100,11 +133,20 @@ impl<'t> Cursor<'t> {
             Some(b'"') => self.string()?,
             Some(byte) => self.mark(byte)?,
         };
-        Ok(Symbol {
-            kind,
-            place: place as u32,
-            length: (self.at - place) as u32,
-        })
+        symbol.kind = kind;
+        symbol.at = self.spot(place);
+        symbol.length = (self.at - place) as u32;
+        Ok(())
+    }
+
+    /// A place behind the line end that was passed last. No symbol holds one, so
+    /// this serves for any place from the symbol's first byte on.
+    fn spot(&self, place: usize) -> Spot {
+        Spot::on_line(place, self.line, self.beginning)
+    }
+
+    fn refusal(&self, number: u8, place: usize) -> Refusal {
+        Refusal::new(number, self.spot(place))
     }
 
     fn peek(&self, ahead: usize) -> Option<u8> {
@@ -113,14 +155,24 @@ impl<'t> Cursor<'t> {
 
     /// Passes separators and comments.
     fn skip(&mut self) -> Result<(), Refusal> {
-        loop {
-            match self.peek(0) {
-                Some(b' ' | b'\t' | b'\r' | b'\n') => self.at += 1,
-                Some(b'!') if self.peek(1) == Some(b'!') => self.line_comment(),
-                Some(b'/') if self.peek(1) == Some(b'*') => self.block_comment()?,
-                _ => return Ok(()),
+        while let Some(byte) = self.peek(0) {
+            match BETWEEN[usize::from(byte)] {
+                NOTHING => break,
+                BLANK => self.at += 1,
+                LINE_END => self.end_line(byte),
+                _ if self.peek(1) == Some(b'!') && byte == b'!' => self.line_comment(),
+                _ if self.peek(1) == Some(b'*') && byte == b'/' => self.block_comment()?,
+                _ => break,
             }
         }
+        Ok(())
+    }
+
+    /// Passes a line end, which begins with this byte.
+    fn end_line(&mut self, first: u8) {
+        self.at += line_end(first, self.peek(1));
+        self.line += 1;
+        self.beginning = self.at;
     }
 
     fn line_comment(&mut self) {
@@ -131,10 +183,15 @@ impl<'t> Cursor<'t> {
 
     fn block_comment(&mut self) -> Result<(), Refusal> {
         // From behind the opening: its star does not close the comment.
-        let inside = &self.text[self.at + 2..];
-        match inside.windows(2).position(|pair| pair == b"*/") {
-            Some(length) => self.at += 2 + length + 2,
-            None => return Err(Refusal::new(3, self.at)),
+        let first = self.at + 2;
+        let inside = &self.text[first..];
+        let Some(length) = inside.windows(2).position(|pair| pair == b"*/") else {
+            return Err(self.refusal(3, self.at));
+        };
+        self.at = first + length + 2;
+        for beginning in later_lines(&inside[..length]) {
+            self.line += 1;
+            self.beginning = first + beginning;
         }
         Ok(())
     }
@@ -153,7 +210,7 @@ impl<'t> Cursor<'t> {
             length += 1;
         }
         if length > LONGEST_WORD {
-            return Err(Refusal::new(4, place));
+            return Err(self.refusal(4, place));
         }
         self.at += length;
         // Reserved words have capitals and digits only.
@@ -163,7 +220,7 @@ impl<'t> Cursor<'t> {
         match reserved::classify(&rest[..length]) {
             Word::Name => Ok(Kind::Name),
             Word::Form(form) => Ok(Kind::Form(form)),
-            Word::Foreign => Err(Refusal::new(6, place)),
+            Word::Foreign => Err(self.refusal(6, place)),
         }
     }
 
@@ -176,7 +233,7 @@ impl<'t> Cursor<'t> {
         self.at += usize::from(dotted);
         let (decimals, value) = self.digits(whole);
         if whole_digits + decimals > MOST_DIGITS {
-            return Err(Refusal::new(4, place));
+            return Err(self.refusal(4, place));
         }
         let negative = self.text[place] == b'-';
         self.number = Number {
@@ -204,9 +261,9 @@ impl<'t> Cursor<'t> {
         self.at += 1;
         loop {
             match self.peek(0) {
-                None => return Err(Refusal::new(3, opening)),
+                None => return Err(self.refusal(3, opening)),
                 Some(b'"') => break,
-                Some(0..=31) => return Err(Refusal::new(2, self.at)),
+                Some(0..=31) => return Err(self.refusal(2, self.at)),
                 Some(b'\\') => self.escape()?,
                 Some(_) => self.at += 1,
             }
@@ -219,7 +276,7 @@ impl<'t> Cursor<'t> {
         let length = match self.peek(1) {
             Some(b'"' | b'\\') => 2,
             Some(b'u') if (2..6).all(|ahead| is_hexadecimal(self.peek(ahead))) => 6,
-            _ => return Err(Refusal::new(2, self.at)),
+            _ => return Err(self.refusal(2, self.at)),
         };
         self.at += length;
         Ok(())
@@ -238,7 +295,7 @@ impl<'t> Cursor<'t> {
             b'*' => Kind::Star,
             b'.' if self.peek(1) == Some(b'.') => Kind::Dots,
             b'.' => Kind::Dot,
-            _ => return Err(Refusal::new(2, self.at)),
+            _ => return Err(self.refusal(2, self.at)),
         };
         self.at += if kind == Kind::Dots { 2 } else { 1 };
         Ok(kind)

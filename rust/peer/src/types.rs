@@ -1,7 +1,7 @@
 //! Types and the reading of numbers.
 
 use crate::symbols::MOST_DIGITS;
-use crate::units::{InPlace, Name};
+use crate::units::{Id, InPlace};
 
 /// One digit stands before the dot.
 const MOST_DECIMALS: u64 = MOST_DIGITS as u64 - 1;
@@ -134,7 +134,7 @@ impl Measured {
 /// An attribute known in a class.
 #[derive(Clone, Copy, Debug)]
 pub struct Attribute {
-    pub name: Name,
+    pub name: Id,
     pub record: u32,
     pub is_final: bool,
     pub mandatory: bool,

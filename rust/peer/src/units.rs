@@ -1,35 +1,41 @@
 //! What the grammar hands to the judge: a text cut into units. Since a unit
 //! here is a part of the text, a unit of numbers is called a measure.
 
+use crate::lines::Spot;
 use crate::symbols::Number;
 
-/// A name as it stands in the text; equal names have equal numbers.
+/// The number of a name: equal names have equal numbers.
+pub type Id = u32;
+
+/// A name as it stands in the text. Of an element there is no more than this, so
+/// that long lists stay small.
 #[derive(Clone, Copy, Debug, PartialEq, Eq)]
-pub struct Name {
-    pub id: u32,
+pub struct Word {
+    pub id: Id,
     pub place: u32,
     pub length: u8,
+}
+
+/// The name of a unit, with its line and column.
+#[derive(Clone, Copy, Debug, PartialEq, Eq)]
+pub struct Name {
+    pub word: Word,
+    pub line: u32,
+    pub column: u32,
 }
 
 /// One to three names with dots between.
 #[derive(Clone, Copy, Debug, PartialEq, Eq)]
 pub struct Reference {
-    pub place: usize,
+    pub at: Spot,
     pub parts: Parts,
 }
 
 #[derive(Clone, Copy, Debug, PartialEq, Eq)]
 pub enum Parts {
-    Bare(Name),
-    InModel {
-        model: Name,
-        name: Name,
-    },
-    InTopic {
-        model: Name,
-        topic: Name,
-        name: Name,
-    },
+    Bare(Id),
+    InModel { model: Id, name: Id },
+    InTopic { model: Id, topic: Id, name: Id },
 }
 
 #[derive(Clone, Copy, Debug, Default, PartialEq, Eq)]
@@ -59,8 +65,8 @@ pub enum InPlace {
 #[derive(Clone, Copy, Debug, PartialEq, Eq)]
 pub struct Length {
     pub value: u32,
-    /// The place of the written length.
-    pub written: Option<usize>,
+    /// Where the length is written.
+    pub written: Option<Spot>,
 }
 
 /// What stands where a type or a reference may stand.
@@ -69,7 +75,7 @@ pub enum Written {
     /// MANDATORY alone: the base's type.
     Nothing,
     Type {
-        place: usize,
+        at: Spot,
         form: InPlace,
         /// In brackets behind a range or NUMERIC.
         measure: Option<Reference>,
@@ -119,7 +125,7 @@ pub enum Closed {
 
 #[derive(Clone, Copy, Debug, PartialEq, Eq)]
 pub enum Unit {
-    Header { version: usize, length: usize },
+    Header { version: Spot, length: usize },
     Model { name: Name },
     Topic { name: Name },
     Class(ClassHead),
@@ -152,19 +158,31 @@ impl Unit {
     /// The place of the unit's name, or of the header's number.
     pub fn place(&self) -> usize {
         let name = match self {
-            Unit::Header { version, .. } => return *version,
+            Unit::Header { version, .. } => return version.place as usize,
             Unit::Model { name } | Unit::Topic { name } | Unit::End { name, .. } => name,
             Unit::Class(head) => &head.name,
             Unit::Measure(measure) => &measure.name,
             Unit::Domain(domain) => &domain.name,
             Unit::Attribute(attribute) => &attribute.name,
         };
-        name.place()
+        name.word.place as usize
     }
 }
 
 impl Name {
-    pub fn place(&self) -> usize {
-        self.place as usize
+    pub fn new(word: Word, at: Spot) -> Name {
+        Name {
+            word,
+            line: at.line,
+            column: at.column,
+        }
+    }
+
+    pub fn at(&self) -> Spot {
+        Spot {
+            place: self.word.place,
+            line: self.line,
+            column: self.column,
+        }
     }
 }

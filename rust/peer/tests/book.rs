@@ -136,7 +136,7 @@ fn buffers_for_units() {
         };
         let (found, book) = answer_in(text.as_bytes(), room);
         match expected {
-            Some(place) => assert_eq!(found, Answer::Refused { number: 19, place }),
+            Some(place) => assert_eq!(found, refusal(text.as_bytes(), 19, place)),
             None => assert_eq!(book.len(), 51),
         }
     }
@@ -279,17 +279,10 @@ fn buffers_of_every_length() {
 fn empty_buffers() {
     // The header and the model's END never give 19, the model does.
     let (found, _) = answer_in(b"INTERLIS 2.4;", 0);
-    let expected = Answer::Refused {
-        number: 5,
-        place: 13,
-    };
-    assert_eq!(found, expected);
-    let (found, _) = answer_in(format!("{HEAD}END X.").as_bytes(), 5);
-    let expected = Answer::Refused {
-        number: 19,
-        place: 19,
-    };
-    assert_eq!(found, expected);
+    assert_eq!(found, refusal(b"INTERLIS 2.4;", 5, 13));
+    let text = format!("{HEAD}END X.");
+    let (found, _) = answer_in(text.as_bytes(), 5);
+    assert_eq!(found, refusal(text.as_bytes(), 19, 19));
     let (found, book) = answer_in(model("").as_bytes(), 6);
     assert!(matches!(found, Answer::Accepted { .. }));
     assert_eq!(book, bytes("01 13000000 01"));

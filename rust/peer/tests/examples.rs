@@ -42,11 +42,7 @@ fn buffers_of_35_and_34() {
         definitions: 1,
     };
     assert_eq!(enough, expected);
-    let expected = Answer::Refused {
-        number: 19,
-        place: 47,
-    };
-    assert_eq!(short, expected);
+    assert_eq!(short, refusal(THERMOMETER.as_bytes(), 19, 47));
 }
 
 #[test]

@@ -2,7 +2,7 @@
 
 mod common;
 use common::*;
-use peer::{units, Refusal, UnitAt};
+use peer::{units, Refusal, Spot, UnitAt};
 
 #[test]
 fn header() {
@@ -179,20 +179,17 @@ fn units_stop_at_the_first_fault_but_judge_nothing() {
         place: 9,
     };
     assert_eq!(found, [header]);
-    let refusal = refusal.unwrap();
-    assert_eq!(
-        refusal,
-        Refusal {
-            number: 2,
-            place: 17
-        }
-    );
-    let (_, refusal) = units(&vec![b' '; 65_536]);
-    assert_eq!(
-        refusal,
-        Some(Refusal {
-            number: 1,
-            place: 0
-        })
-    );
+    let at = |place, line, column| Spot {
+        place,
+        line,
+        column,
+    };
+    let (number, place) = (2, at(17, 1, 18));
+    assert_eq!(refusal, Some(Refusal { number, at: place }));
+    let (_, refusal) = units(b"INTERLIS 9;\r\nMODEL #");
+    let place = at(19, 2, 7);
+    assert_eq!(refusal, Some(Refusal { number, at: place }));
+    let (_, refusal) = units(&vec![b'\n'; 65_536]);
+    let (number, place) = (1, at(0, 1, 1));
+    assert_eq!(refusal, Some(Refusal { number, at: place }));
 }

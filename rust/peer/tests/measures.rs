@@ -230,7 +230,7 @@ fn domains_named_over_a_base() {
 fn nineteen_comes_after_22() {
     let text = model("UNIT a;DOMAIN D=1..2;E EXTENDS D=1..2[a];");
     let place = text.find("1..2[").unwrap();
-    let expected = peer::Answer::Refused { number: 22, place };
+    let expected = refusal(text.as_bytes(), 22, place);
     for room in 46..90 {
         assert_eq!(answer_in(text.as_bytes(), room).0, expected);
     }

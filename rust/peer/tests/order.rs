@@ -140,13 +140,8 @@ fn nineteen_comes_last() {
     let place = text.find("5..4").unwrap();
     for room in 6..40 {
         let (found, _) = answer_in(text.as_bytes(), room);
-        let expected = peer::Answer::Refused { number: 14, place };
-        assert_eq!(found, expected);
+        assert_eq!(found, refusal(text.as_bytes(), 14, place));
     }
     let (found, _) = answer_in(text.as_bytes(), 5);
-    let expected = peer::Answer::Refused {
-        number: 19,
-        place: 19,
-    };
-    assert_eq!(found, expected);
+    assert_eq!(found, refusal(text.as_bytes(), 19, 19));
 }

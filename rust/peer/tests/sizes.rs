@@ -13,21 +13,15 @@ fn text_of_65535_bytes() {
     let short = model("");
     let longest = format!("{short}{}", " ".repeat(65_535 - short.len()));
     passes_text(&longest);
-    let (found, _) = answer(format!("{longest} ").as_bytes());
-    let expected = Answer::Refused {
-        number: 1,
-        place: 0,
-    };
-    assert_eq!(found, expected);
+    let longer = format!("{longest} ");
+    let (found, _) = answer(longer.as_bytes());
+    assert_eq!(found, refusal(longer.as_bytes(), 1, 0));
 }
 
 #[test]
 fn a_text_too_long_is_refused_before_all() {
     for text in [vec![0; 65_536], vec![b'"'; 100_000]] {
-        let expected = Answer::Refused {
-            number: 1,
-            place: 0,
-        };
+        let expected = refusal(&text, 1, 0);
         assert_eq!(answer(&text).0, expected);
         assert_eq!(answer_in(&text, 0).0, expected);
     }

@@ -3,7 +3,7 @@
 use std::fs;
 use std::path::{Path, PathBuf};
 
-use peer::{check, Answer};
+use peer::check;
 
 fn examples() -> PathBuf {
     Path::new(env!("CARGO_MANIFEST_DIR")).join("../../examples")
@@ -38,18 +38,13 @@ fn every_model_gets_its_answer() {
     for (file, expected) in listed() {
         let text = fs::read(examples().join(&file)).expect("it is there");
         let mut buffer = vec![0; 65_535];
-        let printed = match check(&text, &mut buffer) {
-            Answer::Accepted {
-                book_len,
-                definitions,
-            } => format!("ok {book_len} {definitions}"),
-            Answer::Refused { number, place } => format!("refused {number} {place}"),
-        };
+        let printed = check(&text, &mut buffer).to_string();
         assert_eq!(printed, expected, "{file}");
     }
 }
 
-/// The place of a refusal is the symbol that its model's comment speaks of.
+/// The place of a refusal, and its line and column, is the symbol that its model's
+/// comment speaks of.
 #[test]
 fn refusals_stand_where_the_comments_say() {
     let places = [
@@ -69,11 +64,16 @@ fn refusals_stand_where_the_comments_say() {
     for (file, expected) in listed() {
         let text = fs::read_to_string(examples().join(&file)).expect("it is there");
         let symbol = places.iter().find(|(name, _)| *name == file);
-        let place = expected.split(' ').nth(2).map(|place| place.parse());
-        match (expected.starts_with("refused"), symbol, place) {
-            (false, None, _) => {}
-            (true, Some((_, symbol)), Some(Ok(place))) => {
+        let words: Vec<&str> = expected.split(' ').collect();
+        match (&words[..], symbol) {
+            (["ok", ..], None) => {}
+            (["refused", _, place, line, column], Some((_, symbol))) => {
+                let [place, line, column] =
+                    [place, line, column].map(|word| word.parse::<usize>().expect("a number"));
                 assert_eq!(text.rfind(symbol), Some(place), "{file}");
+                let line = text.lines().nth(line - 1).expect("the line is there");
+                let first = symbol.lines().next().expect("a symbol");
+                assert!(line[column - 1..].starts_with(first), "{file}");
             }
             _ => panic!("{file} is listed with {expected}"),
         }

@@ -11,7 +11,7 @@ fn header_string(number: u8, string: &str) {
 
 #[track_caller]
 fn refused_bytes(number: u8, place: usize, text: &[u8]) {
-    assert_eq!(answer(text).0, Answer::Refused { number, place });
+    assert_eq!(answer(text).0, refusal(text, number, place));
 }
 
 #[test]

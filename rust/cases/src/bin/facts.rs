@@ -18,8 +18,9 @@ use peer::Answer;
 const MODULE: u64 = 25;
 
 /// Each fact opens these definitions, so that all computes.
-const OPENED: [(&str, &str); 7] = [
+const OPENED: [(&str, &str); 8] = [
     ("Symbols", "symbolOf symbolAt"),
+    ("Lines", "positionOf"),
     (
         "Grammar",
         "propertiesFrom properties reference extends closeFinal enumeration textLength textType unitReference \
@@ -78,7 +79,15 @@ fn check_fact(name: &str, case: &Case) -> String {
             book_len,
             definitions,
         } => (format!("accepting {book_len} {definitions}"), book_len),
-        Answer::Refused { number, place } => (format!("refusing {number} {place}"), 0),
+        Answer::Refused {
+            number,
+            place,
+            line,
+            column,
+        } => {
+            let at = format!("place = {place}; line = {line}; column = {column}");
+            (format!("refusal (record {{ number = {number}; {at} }})"), 0)
+        }
     };
     assert!(buffer[book..].iter().all(|byte| *byte == 0));
     format!(
@@ -141,7 +150,7 @@ fn module(facts: &[String]) -> String {
          use mathlib.Core.Option.{Option, some, none}\nuse Prim.Native.Nat.{ℕ}\n\
          use lib.IntN.{ℤ, pos, negsuc}\nuse Rattle.rules.specs.Bytes.{ascii}\nuse Rattle.rules.specs.Book.{padded}\n\
          use Rattle.rules.specs.Numbers.{reads, notRead}\nuse Rattle.rules.specs.Show.{Part}\n\
-         use Rattle.rules.specs.Check.{lent, check, Checked, accepting, refusing}\n",
+         use Rattle.rules.specs.Check.{lent, check, Checked, accepting, refusal}\n",
     );
     let mut opened = String::from("unfolding");
     for (module, names) in OPENED {

@@ -1,5 +1,5 @@
 //! Prints how often the cases of a range of seeds get each answer, and each
-//! flavour of units of numbers and of classes over structures.
+//! flavour of units of numbers, of classes over structures and of lines.
 //!
 //! `tally [--small] [count] [first seed]`
 

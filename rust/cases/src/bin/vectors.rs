@@ -1,7 +1,7 @@
 //! Prints cases for other tools, one a line:
 //!
 //! `HEX-OF-TEXT BUFFER-LENGTH ok BOOK-LENGTH DEFINITIONS HEX-OF-BOOK` or
-//! `HEX-OF-TEXT BUFFER-LENGTH refused NUMBER PLACE`
+//! `HEX-OF-TEXT BUFFER-LENGTH refused NUMBER PLACE LINE COLUMN`
 //!
 //! with single blanks; an empty text or book is written `-`.
 //!
@@ -55,17 +55,13 @@ fn hexadecimal(bytes: &[u8]) -> String {
 
 fn line(case: &Case) -> String {
     let mut buffer = vec![0; case.buffer_len];
-    let answer = match peer::check(&case.text, &mut buffer) {
-        Answer::Accepted {
-            book_len,
-            definitions,
-        } => {
-            let book = hexadecimal(&buffer[..book_len]);
-            format!("ok {book_len} {definitions} {book}")
-        }
-        Answer::Refused { number, place } => format!("refused {number} {place}"),
+    let answer = peer::check(&case.text, &mut buffer);
+    let book = match answer {
+        Answer::Accepted { book_len, .. } => format!(" {}", hexadecimal(&buffer[..book_len])),
+        Answer::Refused { .. } => String::new(),
     };
-    format!("{} {} {answer}", hexadecimal(&case.text), case.buffer_len)
+    let text = hexadecimal(&case.text);
+    format!("{text} {} {answer}{book}", case.buffer_len)
 }
 
 fn main() -> io::Result<()> {

@@ -1,9 +1,11 @@
 //! The cases that are stored for the proved checker's program `cases`, with what
 //! is known of their answers beforehand: document 01's examples, both sides of
-//! its sizes, units of numbers, classes over structures, faults that stand
-//! together in one unit, the manual's models within the part, and generated ones.
+//! its sizes, units of numbers, classes over structures, lines and columns, faults
+//! that stand together in one unit, the manual's models within the part, and
+//! generated ones.
 
 mod examples;
+mod lines;
 mod manual;
 mod measures;
 mod over_structures;
@@ -21,11 +23,12 @@ const HEAD: &str = "INTERLIS 2.4;MODEL M AT \"u\" VERSION \"1\"=";
 const ROOM: usize = 65_535;
 
 /// A case, a word on it, and the refusal that it must get: its number, or 0 for
-/// acceptance, and its place.
+/// acceptance, and its place; and where they are known its line and its column.
 pub struct Stored {
     pub word: String,
     pub case: Case,
     pub said: Option<(u8, usize)>,
+    pub stands: Option<(usize, usize)>,
 }
 
 impl Stored {
@@ -37,6 +40,7 @@ impl Stored {
                 buffer_len,
             },
             said: None,
+            stands: None,
         }
     }
 
@@ -96,6 +100,7 @@ pub fn stored() -> Vec<Stored> {
     all.extend(sizes::sizes());
     all.extend(measures::measures());
     all.extend(over_structures::over_structures());
+    all.extend(lines::lines());
     all.extend(together::together());
     all.extend(manual::manual());
     all.extend(reserved());
@@ -124,18 +129,12 @@ pub fn output(stored: &[Stored]) -> String {
     for Stored { case, .. } in stored {
         buffer.clear();
         buffer.resize(case.buffer_len, 0xA5);
-        match peer::check(&case.text, &mut buffer) {
-            Answer::Accepted {
-                book_len,
-                definitions,
-            } => {
-                write!(output, "ok {book_len} {definitions} ").expect("a string takes all");
-                for byte in &buffer[..book_len] {
-                    write!(output, "{byte:02x}").expect("a string takes all");
-                }
-            }
-            Answer::Refused { number, place } => {
-                write!(output, "refused {number} {place}").expect("a string takes all");
+        let answer = peer::check(&case.text, &mut buffer);
+        write!(output, "{answer}").expect("a string takes all");
+        if let Answer::Accepted { book_len, .. } = answer {
+            output.push(' ');
+            for byte in &buffer[..book_len] {
+                write!(output, "{byte:02x}").expect("a string takes all");
             }
         }
         output.push('\n');

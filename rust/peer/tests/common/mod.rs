@@ -45,12 +45,27 @@ pub fn passes(body: &str) -> Vec<u8> {
     passes_text(&model(body))
 }
 
+/// A refusal at a place of the text. Its line and column are counted in what stands
+/// before, as an editor does that makes every line end an LF; the place is not
+/// within a line end.
+pub fn refusal(text: &[u8], number: u8, place: usize) -> Answer {
+    let before: String = text[..place].iter().copied().map(char::from).collect();
+    let unified = before.replace("\r\n", "\n").replace('\r', "\n");
+    let last = unified.rsplit('\n').next().unwrap_or("");
+    Answer::Refused {
+        number,
+        place,
+        line: 1 + unified.matches('\n').count(),
+        column: 1 + last.chars().count(),
+    }
+}
+
 /// The text, with `^` before the place, gets this refusal.
 #[track_caller]
 pub fn refused_text(number: u8, marked: &str) {
     let place = marked.find('^').expect("a mark for the place");
     let text = marked.replacen('^', "", 1);
-    let expected = Answer::Refused { number, place };
+    let expected = refusal(text.as_bytes(), number, place);
     let (found, _) = answer(text.as_bytes());
     assert_eq!(found, expected, "for {}", shortened(marked));
 }
@@ -85,7 +100,7 @@ pub fn every_buffer(text: &str, ends: &[(usize, usize)]) {
     for room in 0..most + 15 {
         let (found, book) = answer_in(text.as_bytes(), room);
         match ends.iter().find(|(end, _)| *end > room) {
-            Some(&(_, place)) => assert_eq!(found, Answer::Refused { number: 19, place }),
+            Some(&(_, place)) => assert_eq!(found, refusal(text.as_bytes(), 19, place)),
             None => assert_eq!(book.len(), most),
         }
     }
