@@ -17,7 +17,7 @@ fn show(y: Symbol) {
     let position = symbols::position_of(y);
     io::print_decimal(STDOUT_FILENO, y.code as u64);
     put_behind(y.place);
-    put_behind(y.len);
+    put_behind(symbols::length_of(y));
     put_behind(position.line);
     put_behind(position.column);
     if y.refusal != 5 {
@@ -35,7 +35,7 @@ fn cut(text: &[u8]) {
         turns += 1;
         let y = c.next(text);
         show(y);
-        if y.len == 0 {
+        if symbols::length_of(y) == 0 {
             break;
         }
         c = y.next;

@@ -21,7 +21,7 @@ use Rattle.rules.proofs.ForwardLaws.{Ends, element-forward}
 use Rattle.rules.proofs.FuelLaws.{enumeration-fuel, elements-fuel, element-fuel}
 use Rattle.book.specs.Forms.{nameForm}
 use Rattle.symbols.specs.declared.Symbol.{Symbol}
-use Rattle.symbols.specs.Cut.{faultyAs}
+use Rattle.symbols.specs.Cut.{faultyAs, lengthAt}
 use Rattle.ground.specs.declared.Name as code
 use Rattle.readers.specs.Reads.{faultAt, Stands, Cuts, Held, passed, named, nameCut, On, Gives, Reads}
 use Rattle.readers.proofs.CodeLaws.{Test, is-mark, is-word}
@@ -260,11 +260,11 @@ also {t} {R} {P} {Q} {y} {n} r h = record { reads = λ z c. go (R t z) (r .reads
     go (done a w) g x = record { next = g .next; value = (g .value, x) }
     go (refused f p) g x = record { next = g .next; value = tt }
 
-named-record : (y : Symbol) (a : Name) → named y ≡ nameCut a → nameForm 14 (y .place) (y .len) ≡ nameRecord 14 a
+named-record : (y : Symbol) (a : Name) → named y ≡ nameCut a → nameForm 14 (y .place) (lengthAt y) ≡ nameRecord 14 a
 named-record y a q = ap (λ (n : code.Name). nameForm 14 (n .offset) (n .len)) q
 
 module _ (t : List ℕ) (d : ℕ) {y z : Symbol} (e : z ≡ passed t y 1) (o p : List ℕ) (i j : ℕ)
-    (h : Put o p i (nameForm 14 (y .place) (y .len)) j) where
+    (h : Put o p i (nameForm 14 (y .place) (lengthAt y)) j) where
   pub leaf : (z .code ≡ 40 → ⊥) → Reads t (element (enough t) d) (λ x. Put o p i (elementBytes x) j) y z
   leaf k =
       element-reads t d (bind (a-name e) (λ a q. mapped (λ x. record { name = a; inner = x })

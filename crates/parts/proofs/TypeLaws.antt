@@ -25,9 +25,9 @@ use Rattle.ground.specs.Parts.{part}
 use Rattle.book.specs.Forms.{textKind}
 use Rattle.numbers.specs.declared.Number.{Number}
 use Rattle.symbols.specs.declared.Symbol.{Symbol}
-use Rattle.symbols.specs.Cut.{faultyAs}
+use Rattle.symbols.specs.Cut.{faultyAs, lengthAt, Sound}
 use Rattle.readers.specs.Reads.{Cuts, Held, passed, Reads}
-use Rattle.symbols.specs.Cut.{Sound}
+use Rattle.symbols.proofs.CutLaws.{its-length}
 use Rattle.readers.proofs.CodeLaws.{Test, is-name, is-number, is-dots, is-mark, is-word, is-one-word}
 use Rattle.readers.proofs.StandLaws.{fault-stands}
 use Rattle.readers.proofs.ReadLaws.{onward, bind, stay, mapped, weaker, if-true, if-false, expected, taken, passes-by}
@@ -60,24 +60,27 @@ solid-number : (k : Kind) → eqb (tag k) 2 ≡ true → ¬ (tag k ≡ 5) × ¬ 
 solid-number k e = let q = eqb-true (tag k) 2 e in (omega arith, omega arith)
 
 module _ {t : List ℕ} {y : Symbol} where
-  pub bytes-of : (z : rules.Symbol) → Cuts t z y → part t (y .place) (y .len) ≡ z .bytes
-  bytes-of z c = ap (λ (x : Symbol). part t (x .place) (x .len)) (c .cuts) ∙ sym (c .stands .written)
+  pub bytes-of : (z : rules.Symbol) → Cuts t z y → part t (y .place) (lengthAt y) ≡ z .bytes
+  bytes-of z c =
+      ap (λ (x : Symbol). part t (x .place) (lengthAt x)) (c .cuts)
+      ∙ ap (part t (z .place)) (its-length t z) ∙ sym (c .stands .written)
 
   pub number-stands : Held t y → y .code ≡ 2
-      → (y .place + y .len ≤ length t) × (0 < y .len) × (digitCount (part t (y .place) (y .len)) ≤ mostDigits)
+      → (y .place + lengthAt y ≤ length t) × (0 < lengthAt y)
+      × (digitCount (part t (y .place) (lengthAt y)) ≤ mostDigits)
   number-stands (z, c) k =
       let e = is-yes is-number k z c in
       let p : y .place ≡ z .place = ap (λ (x : Symbol). x .place) (c .cuts) in
-      let l : y .len ≡ length (z .bytes) = ap (λ (x : Symbol). x .len) (c .cuts) in
+      let l : lengthAt y ≡ length (z .bytes) = ap lengthAt (c .cuts) ∙ its-length t z in
       let s = c .stands .ends in
       let q = c .stands .solid (solid-number (z .kind) e) in
       (omega arith, omega arith, rw (bytes-of z c) (few-digits (z .kind) (z .bytes) e (c .stands .coded)))
 
-  pub number-read : {r : Number} → r .value ≡ valueOf (part t (y .place) (y .len))
-      → r .decimals ≡ decimalsOf (part t (y .place) (y .len))
+  pub number-read : {r : Number} → r .value ≡ valueOf (part t (y .place) (lengthAt y))
+      → r .decimals ≡ decimalsOf (part t (y .place) (lengthAt y))
       → (z : rules.Symbol) → Cuts t z y → r ≡ numberOf (z .bytes)
   number-read {r} f g z c =
-      let h : r ≡ numberOf (part t (y .place) (y .len)) = joined r _ _ f g in h ∙ ap numberOf (bytes-of z c)
+      let h : r ≡ numberOf (part t (y .place) (lengthAt y)) = joined r _ _ f g in h ∙ ap numberOf (bytes-of z c)
     where
       joined : (r : Number) (v : _) (d : ℕ) → r .value ≡ v → r .decimals ≡ d → r ≡ record { value = v; decimals = d }
       joined r v d f g = rw (f, g)
@@ -105,11 +108,11 @@ module _ {t : List ℕ} {y : Symbol} where
   pub not-number : (y .code ≡ 2 → ⊥) → (z : rules.Symbol) → Cuts t z y → isLength z ≡ false
   not-number k z c = rw (is-no is-number k z c)
 
-  pub not-whole : y .code ≡ 2 → wholeOf (part t (y .place) (y .len)) ≡ Other → (z : rules.Symbol)
+  pub not-whole : y .code ≡ 2 → wholeOf (part t (y .place) (lengthAt y)) ≡ Other → (z : rules.Symbol)
       → Cuts t z y → isLength z ≡ false
   not-whole k e z c = rw (is-yes is-number k z c) (whole-other (z .bytes) (rw (bytes-of z c) at e))
 
-  counts : {u : ℕ} → y .code ≡ 2 → wholeOf (part t (y .place) (y .len)) ≡ Count u → (z : rules.Symbol) → Cuts t z y
+  counts : {u : ℕ} → y .code ≡ 2 → wholeOf (part t (y .place) (lengthAt y)) ≡ Count u → (z : rules.Symbol) → Cuts t z y
       → (isLength z ≡ true) × (u ≡ digits (z .bytes) 0)
   counts {u} k w z c =
       let q = whole-count (z .bytes) u (rw (bytes-of z c) at w) in
@@ -122,7 +125,7 @@ module _ {t : List ℕ} {y n : Symbol} (m : Bool) where
   unfolding textLength
   no-length h e = refuses _ h e
 
-  module _ {u : ℕ} (k : y .code ≡ 2) (w : wholeOf (part t (y .place) (y .len)) ≡ Count u) where
+  module _ {u : ℕ} (k : y .code ≡ 2) (w : wholeOf (part t (y .place) (lengthAt y)) ≡ Count u) where
     pub long-length : {v : Meant} → 4294967295 < u → n ≡ faultyAs 4 y
         → Reads t textLength (λ s. v ≡ limitOf m (some s)) y n
     unfolding textLength

@@ -92,7 +92,7 @@ fn text_length(text: &[u8], kind: u8, y: Symbol) -> MeantRead
 {
     let place = y.place;
     if y.code == readers::NUMBER {
-        let w = whole_number(text, place, y.len);
+        let w = whole_number(text, place, symbols::length_of(y));
         match w {
             Whole::Count(n) => {
                 if 4294967295 < n {
@@ -142,7 +142,7 @@ fn number(text: &[u8], y: Symbol) -> Number
     ensures { λ r. ⌜ ((z : rules·Symbol) → Cuts (now (text .entry)) z y → y .code ≡ 2 → r ≡ numberOf (z .bytes)) ⌝ }
 {
     if y.code == readers::NUMBER {
-        return numbers::number_at(text, y.place, y.len);
+        return numbers::number_at(text, y.place, symbols::length_of(y));
     }
     Number {
         value: 0,

@@ -12,7 +12,7 @@ use Rattle.rules.specs.Symbols.{Fault, symbolAt, endOf}
 use Rattle.rules.specs.Readers.{Result, done, refused, Reader, andThen, _>>=_, ret, expect, aName, ifNext}
 use Rattle.symbols.specs.declared.Symbol.{Symbol}
 use Rattle.symbols.specs.Cut.{codeOf, faultyAs, cut, nextOf}
-use Rattle.symbols.proofs.CutLaws.{next-cut}
+use Rattle.symbols.proofs.CutLaws.{its-length, next-cut}
 use Rattle.readers.specs.Reads.{faultAt, Stands, Cuts, Held, passed, named, nameCut, Gives, Reads}
 use Rattle.readers.proofs.CodeLaws.{Test, is-name}
 use Rattle.readers.proofs.StandLaws.{at-stands, fault-stands}
@@ -115,8 +115,12 @@ module _ {t : List ℕ} {p : rules.Symbol → Bool} {k : ℕ} (q : Test p k) whe
   pub is-no : {y : Symbol} → (y .code ≡ k → ⊥) → (z : rules.Symbol) → Cuts t z y → p z ≡ false
   is-no h z c = q .test z (c .stands .coded) ∙ ne-eqb _ k (rw (c .cuts) at h)
 
+-- where a symbol of the text stands
+pub named-cut : (t : List ℕ) {y : Symbol} (z : rules.Symbol) → y ≡ cut t z → named y ≡ nameCut (nameOf z)
+named-cut t z h = ap named h ∙ ap (λ n. record { offset = z .place; len = n }) (its-length t z)
+
 pub a-name : {t : List ℕ} {y n : Symbol} → n ≡ passed t y 1 → Reads t aName (λ a. named y ≡ nameCut a) y n
-a-name e = mapped nameOf (expected is-name e) (λ a h. rw h)
+a-name {t} e = mapped nameOf (expected is-name e) (named-cut t)
 
 -- the same, and what is known of the symbol that is passed
 pub passes-by : {t : List ℕ} {p : rules.Symbol → Bool} {k : ℕ} {y n : Symbol} → Test p k → n ≡ passed t y k

@@ -13,7 +13,7 @@ use Rattle.rules.specs.Readers.{Result, done, refused, Reader}
 use Rattle.ground.specs.Parts.{part}
 use Rattle.symbols.specs.declared.Symbol.{Symbol}
 use Rattle.places.specs.Standing.{lineAt}
-use Rattle.symbols.specs.Cut.{faultyAs, cut, nextOf, Sound}
+use Rattle.symbols.specs.Cut.{faultyAs, lengthAt, cut, nextOf, Sound}
 use Rattle.ground.specs.declared.Name.{Name}
 
 -- ---- symbols
@@ -43,7 +43,7 @@ abbrev pub passed : List ℕ → Symbol → ℕ → Symbol
 passed t y k = cond (eqb (y .code) k) (nextOf t (y .next)) (faultyAs (y .refusal) y)
 
 abbrev pub named : Symbol → Name
-named y = record { offset = y .place; len = y .len }
+named y = record { offset = y .place; len = lengthAt y }
 
 abbrev pub nameCut : rules-names.Name → Name
 nameCut n = record { offset = n .offset; len = length (n .bytes) }

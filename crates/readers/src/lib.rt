@@ -78,7 +78,7 @@ pub fn name_of(y: Symbol) -> Name
 {
     Name {
         offset: y.place,
-        len: y.len,
+        len: symbols::length_of(y),
     }
 }
 

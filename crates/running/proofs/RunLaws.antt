@@ -3,7 +3,7 @@ use mathlib.Core.Path.{_≡_, refl, sym, ap, _∙_, subst}
 use mathlib.Core.Bool.{Bool, true, false, cond, not}
 use mathlib.Core.Option.{Option, none, some}
 use mathlib.Core.List.{List}
-use Prim.Native.Nat.{ℕ, zero, suc, _+_, _*_, _≤_, _<_}
+use Prim.Native.Nat.{ℕ, zero, suc, _+_, _*_, _%_, _≤_, _<_}
 use native.Mathlib.Omega.{arith}
 use lib.ListN.{length, replicate}
 use lib.Dec.{ltb}
@@ -18,17 +18,18 @@ use Rattle.rules.specs.Declarations.{State}
 use Rattle.rules.specs.Judge as J
 use Rattle.rules.specs.Judge.{judge}
 use Rattle.rules.specs.Book as B
+use Rattle.rules.specs.Lines.{positionOf}
 use Rattle.rules.specs.Check as C
 use Rattle.rules.specs.Check.{lent, isOver, runFrom, judged, room, unitPlace, afterJudge, afterUnit, finish, nothing}
 use Rattle.rules.specs.Check.{run}
 use Rattle.rules.proofs.SymbolLaws.{Lies, next-lies}
 use Rattle.rules.proofs.ForwardLaws.{Ends, Stepped, unit-steps}
 use Rattle.places.specs.declared.Position.{Position}
-use Rattle.places.specs.Standing.{onLine, positionIn, lineAt}
-use Rattle.places.proofs.StandingLaws.{on-line}
+use Rattle.places.specs.Standing.{positionIn}
 use Rattle.symbols.specs.declared.Symbol.{Symbol}
-use Rattle.symbols.specs.Cut.{cut}
-use Rattle.readers.specs.Reads.{Cuts, Held}
+use Rattle.symbols.specs.Cut.{faultyAs, positionAt, cut}
+use Rattle.symbols.proofs.CutLaws.{its-position}
+use Rattle.readers.specs.Reads.{faultAt, Cuts, Held}
 use Rattle.readers.proofs.StandLaws.{at-stands}
 use Rattle.units.specs.declared.Where.{Where}
 use Rattle.units.specs.declared.Where.the-variants.{Start}
@@ -55,7 +56,7 @@ use Rattle.running.specs.declared.Turn.{Turn}
 use Rattle.running.specs.declared.Turn.the-variants.{On, End}
 use Rattle.answers.specs.declared.Answer.{Answer}
 use Rattle.answers.specs.declared.Answer.the-variants.{Accepted, Refused}
-use Rattle.running.specs.Running.{Suffice, Runs, Ended, Turned, refusedIn, after}
+use Rattle.running.specs.Running.{Suffice, Runs, Ended, Turned, refusedIn, unreadBy, after}
 
 -- ---- at a stage
 module _ {t : List ℕ} {m : ℕ} {g : Stage} {o w hs : List ℕ} (R : Runs t m g o w hs) where
@@ -93,6 +94,24 @@ turn-refused f t m w s n p = go (isOver w)
 refused-ends : (t : List ℕ) (m : ℕ) (o : List ℕ) (s : State) (f : rules.Fault) (p : ℕ) → run t (lent m) ≡ C.unread s f p
     → Ended t m (refusedIn t (numberOf f) p) o
 refused-ends t m o s f p e = ap (C.answerOf t) e
+
+fault-narrow : (f : rules.Fault) → numberOf f % 256 ≡ numberOf f
+fault-narrow rules.too-long = refl
+fault-narrow rules.no-symbol = refl
+fault-narrow rules.unclosed = refl
+fault-narrow rules.too-large = refl
+fault-narrow rules.impossible = refl
+fault-narrow rules.reserved = refl
+
+unread-is : (t : List ℕ) (y : Symbol) (f : rules.Fault) (p : ℕ) → faultyAs (y .refusal) y ≡ cut t (faultAt f p)
+    → p ≤ length t → length t ≤ 65535 → unreadBy y ≡ refusedIn t (numberOf f) p
+unread-is t y f p e h small =
+    let n : y .refusal % 256 ≡ numberOf f = ap (λ (s : Symbol). s .refusal % 256) e ∙ fault-narrow f in
+    let a : y .place ≡ p = ap (λ (s : Symbol). s .place) e in
+    let q : positionAt y ≡ positionIn t p = ap positionAt e ∙ its-position t (faultAt f p) h (omega arith) in
+    let l : positionAt y .line ≡ positionOf t p .line = ap (λ (x : Position). x .line) q in
+    let c : positionAt y .column ≡ positionOf t p .column = ap (λ (x : Position). x .column) q in
+    cc
 
 broken-ends : (t : List ℕ) (m : ℕ) (o : List ℕ) (s : State) (n p : ℕ)
     → run t (lent m) ≡ C.ruledOut s n p → Ended t m (refusedIn t n p) o
@@ -149,27 +168,25 @@ module _ {t : List ℕ} {m : ℕ} {g : Stage} {o w hs : List ℕ} (R : Runs t m 
 
   module _ {rs₀ rs : List ℕ} {r : Step} (S : Steps t rs₀ rs (unitAt here) (g .next) r) where
     -- ---- it cannot be read, at a place of the text
-    pub unread-ends : {n p : ℕ} {q : Position} {x : Answer} (o′ : List ℕ) → length t ≤ 65535 → r ≡ Unread n p q
-        → x ≡ Refused n p (q .line) (q .column) → Ended t m x o′
-    unread-ends {n} {p} {q} {x} o′ small e y =
+    pub unread-ends : {y : Symbol} {x : Answer} (o′ : List ℕ) → length t ≤ 65535 → r ≡ Unread y → x ≡ unreadBy y
+        → Ended t m x o′
+    unread-ends {y} {x} o′ small e b =
         go (R .fuel) refl (unitAt here t (now R)) refl (S .steps (now R) (cuts-now R))
       where
         go : (f : ℕ) → R .fuel ≡ f → (v : Result U.Step) → unitAt here t (now R) ≡ v → StepIs t rs₀ rs v r
             → Ended t m x o′
         go zero h v i s = absurd (omega (arith, R .left, R .within))
         go (suc k) h (done v z′) i (u, j, a) = absurd (let q : _≡_ {A = ℕ} 0 1 = cc in omega arith)
-        go (suc k) h (refused f j) i (s, w) =
-            let a : n ≡ numberOf f = cc in
-            let b : p ≡ j = cc in
-            let d : q ≡ onLine (lineAt t j) j = cc in
-            let z : q ≡ positionIn t j = d ∙ on-line t j w (omega arith) in
+        go (suc k) h (refused f j) i (y′, s, q, w) =
+            let a : y ≡ y′ = cc in
+            let d : x ≡ refusedIn t (numberOf f) j = b ∙ ap unreadBy a ∙ unread-is t y′ f j q w small in
             let c : run t (lent m) ≡ C.unread (R .state) f j =
             run-turn (suc k) h k refl ∙ ap (turn k t m here (R .state)) i ∙ turn-refused k t m here (R .state) f j in
-            rw (y, a, b, z) (refused-ends t m o′ (R .state) f j c)
+            rw d (refused-ends t m o′ (R .state) f j c)
 
     -- ---- behind the model's END the text is at its end
     pub over-ends :
-        {u : Unit} {at : Where} {n : Symbol} {a : Answer} → r ≡ Read u at n → isOver here ≡ true
+        {u : Unit} {at : Where} {n : Symbol} {a : Answer} → r ≡ Read at u n → isOver here ≡ true
         → a ≡ acceptedIn (R .state) → Ended t m a o
     over-ends {u} {at} {n} {a} e v x =
         subst (λ (y : Answer). Ended t m y o) (accepted-is (g .state) (R .state) t o w hs (R .keeps) ∙ sym x)
@@ -186,7 +203,7 @@ module _ {t : List ℕ} {m : ℕ} {g : Stage} {o w hs : List ℕ} (R : Runs t m 
             (R .state, c, R .keeps .used, R .keeps .defined, R .keeps .within, R .keeps .written)
 
     -- ---- a unit has been read
-    pub given : {u : Unit} {w : Where} {n : Symbol} → length t ≤ 65535 → r ≡ Read u w n → isOver here ≡ false
+    pub given : {u : Unit} {w : Where} {n : Symbol} → length t ≤ 65535 → r ≡ Read w u n → isOver here ≡ false
         → Given t m g (R .state) rs u w n
     given {u} {w} {n} small e v = go (R .fuel) refl (unitAt here t (now R)) refl
         (unit-steps here v .reads t (now R .place) (now R) whole) (S .steps (now R) (cuts-now R))

@@ -1,7 +1,7 @@
 -- What holds between two units, and at the end.
 use mathlib.Core.Path.{_≡_}
 use mathlib.Core.List.{List}
-use Prim.Native.Nat.{ℕ, _+_, _*_, _≤_, _<_}
+use Prim.Native.Nat.{ℕ, _+_, _*_, _%_, _≤_, _<_}
 use lib.ListN.{length, take}
 use Rattle.rules.specs.Symbols.{symbolAt}
 use Rattle.rules.specs.Lines.{positionOf}
@@ -9,7 +9,7 @@ use Rattle.rules.specs.Declarations.{State}
 use Rattle.rules.specs.Book as B
 use Rattle.rules.specs.Check as C
 use Rattle.symbols.specs.declared.Symbol.{Symbol}
-use Rattle.symbols.specs.Cut.{cut}
+use Rattle.symbols.specs.Cut.{positionAt, cut}
 use Rattle.units.specs.declared.Where.{Where}
 use Rattle.units.specs.Steps.{placeOf}
 use Rattle.wellformed.specs.Fairness.{Placed}
@@ -62,6 +62,10 @@ Turned t m g (End a) o w hs = Ended t m a o
 -- the refusal with the number n at the place p of the text t
 abbrev pub refusedIn : List ℕ → ℕ → ℕ → Answer
 refusedIn t n p = Refused n p (positionOf t p .line) (positionOf t p .column)
+
+-- that of the symbol y, whose number is cut to a byte
+abbrev pub unreadBy : Symbol → Answer
+unreadBy y = Refused (y .refusal % 256) (y .place) (positionAt y .line) (positionAt y .column)
 
 -- judging's answer, where the next unit stands, and its first symbol
 abbrev pub after : List ℕ → Judged → Where → Symbol → Turn

@@ -18,7 +18,7 @@ ghost use Rattle.units.specs.Steps.{placeOf};
 ghost use Rattle.state.specs.Parts.{chainsIn, Loan};
 ghost use Rattle.answers.specs.declared.Answer.the-variants.{Refused};
 ghost use Rattle.answers.specs.Answers.{answerOf};
-ghost use Rattle.running.specs.Running.{Suffice, Runs, Ended, Turned, after as Running·after};
+ghost use Rattle.running.specs.Running.{Suffice, Runs, Ended, Turned, unreadBy, after as Running·after};
 ghost use Rattle.running.specs.Trying.{Tried};
 
 // Between two units: what is declared, where the next unit stands, and its first symbol.
@@ -54,6 +54,13 @@ fn refused_at(number: u8, place: usize, position: Position) -> Answer
         line: position.line,
         column: position.column,
     }
+}
+
+// The symbol that keeps a unit from being read; a number that refuses is less than 256.
+fn unread(y: Symbol) -> Answer
+    ensures { λ r. ⌜ r ≡ unreadBy y ⌝ }
+{
+    refused_at((y.refusal % 256) as u8, y.place, symbols::position_of(y))
 }
 
 // A unit has been judged; where the next one stands, and its first symbol. Judging has offsets alone.
@@ -94,12 +101,8 @@ fn step(
     let y = g.next;
     let s = units::read_unit(text, scratch, at, y);
     match s {
-        Step::Unread {
-            number,
-            place,
-            position,
-        } => Turn::End(refused_at(number, place, position)),
-        Step::Read { unit, at: w, next } => {
+        Step::Unread(z) => Turn::End(unread(z)),
+        Step::Read { at: w, unit, next } => {
             if is_over(at) {
                 let a = answers::accepted(st.extent);
                 return Turn::End(a);

@@ -24,7 +24,7 @@ use Rattle.places.specs.Standing.{positionIn, firstLine, linesOn, lineTo, lineA
 use Rattle.places.proofs.StandingLaws.{line-to, on-line}
 use Rattle.places.proofs.LevelLaws.{Level, no-end, level-run, level-two, to-level}
 use Rattle.words.specs.Words.{position}
-use Rattle.symbols.specs.Cut.{codeOf, positionAt, cutOn, cut, start, nextOf, NoWord, Sound}
+use Rattle.symbols.specs.Cut.{codeOf, lengthAt, positionAt, cutOn, cut, start, nextOf, NoWord, Sound}
 use Rattle.symbols.proofs.LineLaws.{number-level, QuoteLevel, quote-level}
 use Rattle.ground.proofs.TableLaws.{test}
 
@@ -159,6 +159,10 @@ beyond-cut t (open-at k) = empty-cut t 0 _ k
 pub cut-at : (t : List ℕ) (i : ℕ) → Cut t (symbolAt t i)
 unfolding symbolAt
 cut-at t i = beyond-cut t (gap (drop i t) apart i)
+
+-- ---- its bytes
+pub its-length : (t : List ℕ) (y : Symbol) → lengthAt (cut t y) ≡ length (y .bytes)
+its-length t y = omega arith
 
 -- ---- lines
 -- the place behind a symbol of the text stands on its line

@@ -3,7 +3,7 @@ use mathlib.Core.Path.{_≡_}
 use mathlib.Core.Bool.{true}
 use mathlib.Core.List.{List}
 use mathlib.Core.Logic.{_⊎_}
-use Prim.Native.Nat.{ℕ, _+_, _≤_, _<_}
+use Prim.Native.Nat.{ℕ, _+_, _-_, _≤_, _<_}
 use lib.ListN.{length}
 use Rattle.rules.specs.Bytes.{isOneOf}
 use Rattle.rules.specs.Reserved.{forms}
@@ -32,11 +32,15 @@ codeOf word b = 64 + position b forms
 
 -- the code, the number to refuse with, the place, the length and the line
 abbrev pub made : ℕ → ℕ → ℕ → ℕ → Line → Symbol
-made c n p l x = record { code = c; refusal = n; place = p; len = l; next = record { at = p + l; line = x } }
+made c n p l x = record { code = c; refusal = n; place = p; next = record { at = p + l; line = x } }
 
 -- a faulty symbol with the number n in the place of y
 abbrev pub faultyAs : ℕ → Symbol → Symbol
 faultyAs n y = made 5 n (y .place) 0 (y .next .line)
+
+-- how many bytes y has: those up to the cursor behind it
+abbrev pub lengthAt : Symbol → ℕ
+lengthAt y = y .next .at - y .place
 
 -- the line and the column of y, by the line that it carries
 abbrev pub positionAt : Symbol → Position

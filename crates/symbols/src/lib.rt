@@ -8,7 +8,7 @@ ghost use Prim.Native.Nat.{_+_, _-_, _≤_, _<_};
 ghost use lib.ListN.{length, getD};
 ghost use Rattle.rules.specs.Bytes.{part, isDigit};
 ghost use Rattle.rules.specs.Symbols.{digitCount};
-ghost use Rattle.symbols.specs.Cut.{made, faultyAs, positionAt, start, nextOf};
+ghost use Rattle.symbols.specs.Cut.{made, faultyAs, lengthAt, positionAt, start, nextOf};
 ghost use Rattle.symbols.specs.Begins.{classOf, wordCut, numberCut, unsignedCut, signedCut, stringCut, markCut};
 
 // A place in the text, from which on the next symbol is cut, and the line that it stands on.
@@ -21,12 +21,11 @@ pub struct Cursor {
 // 64 to 82 a word of the forms; 90 is the last code that a word may have.
 // refusal: the number that refuses the symbol where it is not possible: its own fault's, or 5.
 // Both have four bytes, so that none is left empty before the places: empty ones are copied too, and slowly.
-// The line of the cursor behind it is its own: no symbol holds a line end.
+// The cursor behind it says where it ends. Its line is the symbol's own: no symbol holds a line end.
 pub struct Symbol {
     pub code: u32,
     pub refusal: u32,
     pub place: usize,
-    pub len: usize,
     pub next: Cursor,
 }
 
@@ -51,7 +50,6 @@ fn make(code: u32, refusal: u32, place: usize, len: usize, line: Line) -> Symbol
         code: code,
         refusal: refusal,
         place: place,
-        len: len,
         next: Cursor {
             at: place + len,
             line: line,
@@ -78,6 +76,16 @@ pub fn faulty(number: u32, y: Symbol) -> Symbol
     ensures { λ r. ⌜ r ≡ faultyAs number y ⌝ }
 {
     fault(number, y.place, y.next.line)
+}
+
+// How many bytes a symbol has.
+pub fn length_of(y: Symbol) -> usize
+    ensures { λ r. ⌜ r ≡ lengthAt y ⌝ }
+{
+    if y.place < y.next.at {
+        return y.next.at - y.place;
+    }
+    0
 }
 
 // The line and the column of a symbol.

@@ -4,14 +4,14 @@ use mathlib.Core.Logic.{⊎-elim}
 use mathlib.Core.Bool.{Bool, true, false, cond, not, _&&_, _||_}
 use mathlib.Core.Option.{Option, none, some}
 use mathlib.Core.List.{List, [], _∷_}
-use Prim.Native.Nat.{ℕ, _%_}
+use Prim.Native.Nat.{ℕ}
 use Prim.Native.Char.{code}
 use native.Mathlib.Omega.{arith}
 use lib.Dec.{eqb}
 use borrow.Author.Tests.{eqb-true, ne-eqb}
 use Rattle.rules.specs.Bytes.{ascii, same, isOneOf}
 use Rattle.rules.specs.Symbols as rules
-use Rattle.rules.specs.Symbols.{Fault, numberOf, word, name, symbolAt, endOf, isKind, isMark, isWord, isOneWord}
+use Rattle.rules.specs.Symbols.{Fault, word, name, symbolAt, endOf, isKind, isMark, isWord, isOneWord}
 use Rattle.rules.specs.Readers.{Result, done, refused, Reader, andThen, _>>=_, faultOf, expect, ifNext}
 use Rattle.rules.specs.Grammar as G
 use Rattle.rules.specs.Grammar.{properties, extends, written, typeOf, typeOrReference}
@@ -21,14 +21,13 @@ use Rattle.rules.specs.Units.{step, headerUnit, modelUnit, topicUnit, classUnit
 use Rattle.rules.specs.Units.{attributeUnit, endUnit, wordStep, bodyEnd, bodyUnit, memberUnit, lastStep, unitAt}
 use Rattle.rules.proofs.Tests.{split, or-split}
 use Rattle.symbols.specs.declared.Symbol.{Symbol}
-use Rattle.places.specs.Standing.{onLine, lineAt}
 use Rattle.symbols.specs.Cut.{cut, nextOf}
 use Rattle.symbols.proofs.CutLaws.{next-cut}
 use Rattle.ground.specs.declared.Name.{Name}
 use Rattle.readers.specs.Reads.{faultAt, Stands, Cuts, passed, named, Gives, Reads}
 use Rattle.readers.proofs.CodeLaws.{Test, is-name, is-number, is-quoted, is-stop, is-mark, is-word, is-one-word}
 use Rattle.readers.proofs.ReadLaws.{Passes, onward, bind, stay, mapped, if-true, if-false, expected, taken, is-yes}
-use Rattle.readers.proofs.ReadLaws.{is-no, a-name}
+use Rattle.readers.proofs.ReadLaws.{is-no, named-cut, a-name}
 use Rattle.parts.specs.declared.Properties.{Properties}
 use Rattle.parts.specs.declared.Optional.{Optional}
 use Rattle.parts.specs.declared.Owner.the-variants as Owner
@@ -76,21 +75,13 @@ module _ {t o p : List ℕ} {r : Step} where
   unless q a b h g = record { steps = λ z c. rw (h z c) (g .steps z c); faults = g .faults }
 
 -- ---- the last symbol
-fault-narrow : (f : Fault) → numberOf f % 256 ≡ numberOf f
-fault-narrow rules.too-long = refl
-fault-narrow rules.no-symbol = refl
-fault-narrow rules.unclosed = refl
-fault-narrow rules.too-large = refl
-fault-narrow rules.impossible = refl
-fault-narrow rules.reserved = refl
-
 fault-ended : {t : List ℕ} {y : Symbol} {r : Step} (k : ℕ) (u : C.Unit) (w : Where) → (k ≡ 5 → ⊥)
     → r ≡ endedOf t y k u w → Faults t y r
 fault-ended {t} k u w s e f i c =
     let l = c .stands .ends in (
-      e
-          ∙ ap (λ (x : Symbol). endedOf t x k u w) (c .cuts)
-          ∙ rw (ne-eqb 5 k (λ h. s (sym h))) (ap (λ n. Unread n i (onLine (lineAt t i) i)) (fault-narrow f)),
+      cut t (faultAt f i),
+      e ∙ ap (λ (x : Symbol). endedOf t x k u w) (c .cuts) ∙ rw (ne-eqb 5 k (λ h. s (sym h))),
+      refl,
       omega arith,
     )
 
@@ -115,15 +106,9 @@ module _ {t o p : List ℕ} {r : Step} where
         where
           go : (b : Bool) → StepIs t o p (andThen t
               (cond b (done z (symbolAt t (endOf z))) (refused (faultOf (z .kind)) (z .place))) (λ e. step x w e))
-              (cond b (Read u (whereOf w) (nextOf t (cut t z .next)))
-              (Unread (cut t z .refusal % 256) (z .place) (onLine (lineAt t (z .place)) (z .place))))
-          go true = (u, ap (Read u (whereOf w)) (next-cut t z (s .level) (s .ends)), i)
-          go false =
-              let l = s .ends in (
-                ap (λ n. Unread n (z .place) (onLine (lineAt t (z .place)) (z .place)))
-                    (fault-narrow (faultOf (z .kind))),
-                omega arith,
-              )
+              (cond b (Read (whereOf w) u (nextOf t (cut t z .next))) (Unread (cut t z)))
+          go true = (u, ap (Read (whereOf w) u) (next-cut t z (s .level) (s .ends)), i)
+          go false = let l = s .ends in (cut t z, refl, refl, omega arith)
 
 where-around : (t : Bool) → not (U.isModel (aroundOf t)) ≡ t
 where-around true = refl
@@ -198,7 +183,7 @@ module _ {t : List ℕ} (o : List ℕ) {y : Symbol} {r : Step} where
       let second = expected is-number e₂ in
       let last = fault-ended 59 (Header i) AfterHeader (omega arith) g in
       on (expected (is-word (ascii "INTERLIS") 64 refl) e₁) (λ _ _. on second
-      (λ a q. ends (Header i) (some (U.header a)) U.afterHeader refl semi g (ap Header (f ∙ ap named q))) last)
+      (λ a q. ends (Header i) (some (U.header a)) U.afterHeader refl semi g (ap Header (f ∙ named-cut t a q))) last)
       (through (second .passes) last)
 
   pub topic-steps : {n e : Symbol} {i : Name} → n ≡ passed t y 68 → e ≡ passed t n 1 → i ≡ named n
@@ -243,7 +228,8 @@ module _ {t : List ℕ} (o : List ℕ) {y : Symbol} {r : Step} where
       (λ _ _. on r₂ (λ i q. on m (λ _ _. on r₃ (λ _ _. on r₄ (λ b j. on r₅ (λ _ _. on r₆
       (λ d k. ends (Model head) (some (U.model i (record { address = b; version = d })))
       (U.body U.in-model U.no-run) refl equals g
-      (head, refl, f ∙ q, x ∙ ap named j, z ∙ ap named k)) f₆) f₅) f₄) f₃) f₂) f₁) (through (r₂ .passes) f₁)
+      (head, refl, f ∙ q, x ∙ named-cut t b j, z ∙ named-cut t d k)) f₆) f₅) f₄) f₃) f₂) f₁)
+      (through (r₂ .passes) f₁)
 
   pub mark-steps : (w : List ℕ) (k : ℕ) (at : U.Where) {v : Where} → whereOf at ≡ v → Test (isWord w) k
       → r ≡ endedOf t y k Mark v → Steps t o o (wordStep w at) y r

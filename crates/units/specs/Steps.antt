@@ -3,20 +3,19 @@ use mathlib.Core.Path.{_≡_}
 use mathlib.Core.Bool.{Bool, true, false, not, cond, _&&_}
 use mathlib.Core.Option.{Option, none, some}
 use mathlib.Core.List.{List}
-use Prim.Native.Nat.{ℕ, _%_, _≤_}
+use Prim.Native.Nat.{ℕ, _≤_}
 use Prim.Native.Char.{Char}
 use lib.ListN.{length}
 use lib.Dec.{eqb}
 use Rattle.rules.specs.Names as Names
 use Rattle.rules.specs.Names.{Sort, unit, sortNumber}
 use Rattle.rules.specs.Symbols as rules
-use Rattle.rules.specs.Symbols.{Fault, numberOf, symbolAt, name, isKind, isMark}
+use Rattle.rules.specs.Symbols.{Fault, symbolAt, name, isKind, isMark}
 use Rattle.rules.specs.Readers.{Result, done, refused, Reader, _>>_, aName, theMark, ifNext, optional}
 use Rattle.rules.specs.Grammar.{Reference}
 use Rattle.rules.specs.Units as U
-use Rattle.places.specs.Standing.{onLine, lineAt}
 use Rattle.symbols.specs.declared.Symbol.{Symbol}
-use Rattle.symbols.specs.Cut.{positionAt, cut, nextOf}
+use Rattle.symbols.specs.Cut.{faultyAs, cut, nextOf}
 use Rattle.ground.specs.declared.Name.{Name}
 use Rattle.readers.specs.Reads.{nameCut, faultAt, Cuts}
 use Rattle.parts.specs.Forms.{flagsOf, optionalOf, writtenOf, Scratches}
@@ -113,14 +112,14 @@ abbrev pub IsAny : List ℕ → List ℕ → Option U.Unit → code.Unit → Typ
 IsAny o p none u = u ≡ Mark
 IsAny o p (some x) u = Is o p x u
 
--- the number, the place and the position of the fault f at the place k of the text
+-- a symbol that, taken as a faulty one, is the fault f at the place k of the text
 abbrev pub UnreadAt : List ℕ → Fault → ℕ → Step → Type 0
-UnreadAt t f k r = (r ≡ Unread (numberOf f) k (onLine (lineAt t k) k)) × (k ≤ length t)
+UnreadAt t f k r = (y : Symbol) × (r ≡ Unread y) × (faultyAs (y .refusal) y ≡ cut t (faultAt f k)) × (k ≤ length t)
 
 -- a unit, where the next one stands, and the first symbol behind it; or the refusal
 abbrev pub StepIs : List ℕ → List ℕ → List ℕ → Result U.Step → Step → Type 0
 StepIs t o p (done q z) r =
-    (u : code.Unit) × (r ≡ Read u (whereOf (q .next)) (cut t (symbolAt t (q .behind)))) × IsAny o p (q .unit) u
+    (u : code.Unit) × (r ≡ Read (whereOf (q .next)) u (cut t (symbolAt t (q .behind)))) × IsAny o p (q .unit) u
 StepIs t o p (refused f k) r = UnreadAt t f k r
 
 -- from the symbol y on, the code steps as R does; a faulty y is the refusal
@@ -128,7 +127,6 @@ pub record Steps (t o p : List ℕ) (R : Reader U.Step) (y : Symbol) (r : Step) 
   pub steps : (z : rules.Symbol) → Cuts t z y → StepIs t o p (R t z) r
   pub faults : (f : Fault) (k : ℕ) → Cuts t (faultAt f k) y → UnreadAt t f k r
 
--- what the last symbol of a unit, y, makes of it; a number that refuses is less than 256
+-- what the last symbol of a unit, y, makes of it
 abbrev pub endedOf : List ℕ → Symbol → ℕ → code.Unit → Where → Step
-endedOf t y k u w =
-    cond (eqb (y .code) k) (Read u w (nextOf t (y .next))) (Unread (y .refusal % 256) (y .place) (positionAt y))
+endedOf t y k u w = cond (eqb (y .code) k) (Read w u (nextOf t (y .next))) (Unread y)

@@ -6,7 +6,6 @@ use parts::Optional;
 use parts::Owner;
 use parts::Properties;
 use parts::types::Written;
-use places::Position;
 use readers::expect;
 use readers::name_of;
 use symbols::Symbol;
@@ -82,19 +81,11 @@ pub enum Unit {
     Mark,
 }
 
-// A unit, where the next one stands and its first symbol; or the number, the place and the position of the fault that
-// keeps it from being read.
+// A unit, where the next one stands and its first symbol; or the symbol that keeps it from being read. Where the next
+// one stands comes first, beside the variant's own byte: behind the unit it would leave bytes empty before the symbol.
 pub enum Step {
-    Read {
-        unit: Unit,
-        at: Where,
-        next: Symbol,
-    },
-    Unread {
-        number: u8,
-        place: usize,
-        position: Position,
-    },
+    Read { at: Where, unit: Unit, next: Symbol },
+    Unread(Symbol),
 }
 
 // The unit's last symbol, which is to have the code.
@@ -105,16 +96,12 @@ fn ended(text: &[u8], y: Symbol, code: u32, unit: Unit, at: Where) -> Step
         let c = y.next;
         let next = c.next(text);
         return Step::Read {
-            unit: unit,
             at: at,
+            unit: unit,
             next: next,
         };
     }
-    Step::Unread {
-        number: (y.refusal % 256) as u8,
-        place: y.place,
-        position: symbols::position_of(y),
-    }
+    Step::Unread(y)
 }
 
 fn header(text: &[u8], y: Symbol) -> Step

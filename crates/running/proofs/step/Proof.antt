@@ -44,7 +44,7 @@ returns-2 c =
     let s = back .before .before .before .before .before .before in
     let read-unit = c .before .before .before .before .before .before .read-unit in
     unread-ends (s .pre .1 .1) (read-unit .ensures) _ (s .pre .0 .text-short) (c .before .before .s .given .1)
-    (c .refused-at .ensures)
+    (c .unread .ensures)
 
 after-requires : tie.Need-after-requires
 after-requires c κs =

@@ -7,7 +7,7 @@ returns : tie.Need-returns
 returns c = rw (eq-eqb _ _ (c .before .before .if1 .taken), c .next .ensures)
 
 returns-2 : tie.Need-returns-2
-returns-2 c = rw (ne-eqb _ _ (c .before .before .if1 .left), c .position-of .ensures)
+returns-2 c = rw (ne-eqb _ _ (c .if1 .left))
 
 pub ended-spec : {M : Type 1} → statement M
 ended-spec =
@@ -15,6 +15,4 @@ ended-spec =
     (tie.spec
     (λ c κs. search needs)
     returns
-    (λ c. search needs)
-    (λ c κs. search needs)
     returns-2)
