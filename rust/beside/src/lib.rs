@@ -1,8 +1,8 @@
 //! The proved checker's archive and the independent checker, side by side.
 #![forbid(unsafe_code)]
 
-use auzuplens::Answer;
 use cases::{ordinary, stretched};
+use peer::Answer;
 
 /// The longest text, and a buffer that takes any book.
 pub const LONGEST: usize = 65_535;
@@ -31,22 +31,23 @@ pub enum Checker {
 impl Checker {
     pub fn check(self, text: &[u8], book: &mut [u8]) -> Answer {
         match self {
-            Checker::Archive => auzuplens::check(text, book),
-            Checker::Peer => same(peer::check(text, book)),
+            Checker::Archive => same(auzuplens::check(text, book)),
+            Checker::Peer => peer::check(text, book),
         }
     }
 }
 
-fn same(answer: peer::Answer) -> Answer {
+/// The archive's answer as the independent checker would give it.
+fn same(answer: auzuplens::Answer) -> Answer {
     match answer {
-        peer::Answer::Accepted {
+        auzuplens::Answer::Accepted {
             book_len,
             definitions,
         } => Answer::Accepted {
             book_len,
             definitions,
         },
-        peer::Answer::Refused {
+        auzuplens::Answer::Refused {
             number,
             place,
             line,
@@ -57,21 +58,5 @@ fn same(answer: peer::Answer) -> Answer {
             line,
             column,
         },
-    }
-}
-
-/// The answer as the program `check` prints it.
-pub fn printed(answer: Answer) -> String {
-    match answer {
-        Answer::Accepted {
-            book_len,
-            definitions,
-        } => format!("ok {book_len} {definitions}"),
-        Answer::Refused {
-            number,
-            place,
-            line,
-            column,
-        } => format!("refused {number} {place} {line} {column}"),
     }
 }

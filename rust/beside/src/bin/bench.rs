@@ -8,7 +8,7 @@ use std::hint::black_box;
 use std::time::{Duration, Instant};
 
 use auzuplens::{find_record, records, show_name};
-use beside::{printed, texts, Checker, LONGEST};
+use beside::{texts, Checker, LONGEST};
 
 /// The least time of one run, in microseconds: runs for a tenth of a second, and
 /// five times at least.
@@ -39,9 +39,8 @@ fn line(word: &str, text: &[u8], half: &[u8], book: &mut [u8]) {
     let peers = check_time(Checker::Peer, text, book);
     let before = check_time(Checker::Archive, half, book);
     println!(
-        "| {word} | {} | {} | {ours:.0} | {peers:.0} | {:.2} | {:.1} | {:.1} |",
+        "| {word} | {} | {answer} | {ours:.0} | {peers:.0} | {:.2} | {:.1} | {:.1} |",
         text.len(),
-        printed(answer),
         ours / peers,
         ours * 1e3 / text.len() as f64,
         ours / before

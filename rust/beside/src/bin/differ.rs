@@ -9,9 +9,9 @@
 
 use std::process::ExitCode;
 
-use auzuplens::Answer;
-use beside::{printed, Checker};
+use beside::Checker;
 use cases::{any_beginning, any_book, any_record, gen, gen_small, Case, Random};
+use peer::Answer;
 
 /// What was compared, and how often it differed.
 #[derive(Default)]
@@ -37,9 +37,9 @@ impl Tally {
         let found = Checker::Archive.check(&case.text, &mut book);
         let wanted = Checker::Peer.check(&case.text, &mut expected);
         if found != wanted {
-            self.differs(word, &printed(found), &printed(wanted));
+            self.differs(word, &found.to_string(), &wanted.to_string());
         } else if book != expected {
-            self.differs(word, "another buffer", &printed(wanted));
+            self.differs(word, "another buffer", &wanted.to_string());
         }
         match wanted {
             Answer::Accepted { book_len, .. } => {
