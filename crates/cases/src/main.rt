@@ -3,24 +3,11 @@
 // answer and, if the text is accepted, the book in hexadecimal; then `dirty` if what stands behind the book is not
 // zero.
 use answers::Answer;
+use console::least;
+use console::within;
 use libc::STDIN_FILENO;
 use libc::STDOUT_FILENO;
 ghost use Prim.Native.Nat.{_+_, _*_, _^_, _≤_, _<_};
-ghost use Rattle.io.specs.Counts.{Counts};
-
-fn least(a: usize, b: usize) -> usize
-    ensures { λ r. ⌜ r ≤ a ⌝ }
-    ensures { λ r. ⌜ r ≤ b ⌝ }
-{
-    if a < b { a } else { b }
-}
-
-// A count of bytes that a slice has.
-fn within(n: usize, s: &[u8]) -> usize
-    ensures { λ r. ⌜ Counts r (now (s .entry)) ⌝ }
-{
-    least(n, s.len())
-}
 
 // What the digit counts; any other byte counts nothing.
 fn digit(b: u8) -> usize

@@ -1,11 +1,11 @@
-// What the programs share: the text on standard input, an answer on standard output.
+// What the programs share: a text read from a descriptor, output by way of a page, an answer in the documents' form.
 use answers::Answer;
-use libc::STDERR_FILENO;
-use libc::STDIN_FILENO;
 use libc::STDOUT_FILENO;
 ghost use Prim.Native.Nat.{_+_, _≤_};
 ghost use lib.ListN.{length};
+ghost use Rattle.io.specs.Counts.{Counts};
 ghost use Rattle.console.specs.Input.{Within};
+ghost use Rattle.console.specs.Out.{RoomIn};
 
 // One byte more than the longest text has.
 pub const ROOM: usize = 65536;
@@ -16,25 +16,47 @@ pub enum Input {
     Failed,
 }
 
+// How much of the page is filled; or that a write failed, which stays so.
+pub enum Out {
+    Filled(usize),
+    Failed,
+}
+
+pub fn least(a: usize, b: usize) -> usize
+    ensures { λ r. ⌜ r ≤ a ⌝ }
+    ensures { λ r. ⌜ r ≤ b ⌝ }
+{
+    if a < b { a } else { b }
+}
+
+// A count of bytes that a slice has.
+pub fn within(n: usize, s: &[u8]) -> usize
+    ensures { λ r. ⌜ Counts r (now (s .entry)) ⌝ }
+{
+    least(n, s.len())
+}
+
+// ---- input
+
 // One read, behind the first `done` bytes.
-fn read_more(text: &mut [u8], done: usize) -> Input
+fn read_more(fd: i32, text: &mut [u8], done: usize) -> Input
     requires { ⌜ done ≤ length (now text) ⌝ }
     ensures { λ r. ⌜ Within done (length (now (text .entry))) r ⌝ }
 {
-    let got = libc::read(STDIN_FILENO, &mut text[done..]);
+    let got = libc::read(fd, &mut text[done..]);
     if got < 0 {
         return Input::Failed;
     }
     Input::Read(io::count(got, &text[done..]))
 }
 
-// Until the text is full or the input ends.
-fn read_all(text: &mut [u8]) -> Input
+// The text behind a descriptor: until there is no room or nothing more comes.
+pub fn read_text(fd: i32, text: &mut [u8]) -> Input
     ensures { λ r. ⌜ Within 0 (length (now (text .entry))) r ⌝ }
 {
     let mut done = 0;
     while done < text.len() {
-        let i = read_more(text, done);
+        let i = read_more(fd, text, done);
         match i {
             Input::Failed => {
                 return i;
@@ -50,56 +72,109 @@ fn read_all(text: &mut [u8]) -> Input
     Input::Read(done)
 }
 
-// The rest of the input, up to 64 GiB.
-fn drain(space: &mut [u8]) {
-    let mut left: usize = 1048576;
-    while 0 < left {
-        left -= 1;
-        if libc::read(STDIN_FILENO, space) <= 0 {
-            return;
-        }
-    }
-}
+// ---- output
 
-// What a text that is too long has more, so that whoever writes it is not cut off.
-fn pass_over(n: usize) {
-    if n < ROOM {
-        return;
-    }
-    let mut space = [0u8; ROOM];
-    drain(&mut space);
-}
-
-// The text on standard input, as far as there is room for it. A failure is said on standard error.
-pub fn read_text(text: &mut [u8]) -> Input
-    ensures { λ r. ⌜ Within 0 (length (now (text .entry))) r ⌝ }
+// Where the next byte goes; a full page is written, and filled anew.
+fn room(page: &[u8], filled: usize) -> Out
+    ensures { λ r. ⌜ RoomIn (length (now (page .entry))) r ⌝ }
 {
-    let i = read_all(text);
-    match i {
-        Input::Failed => {
-            io::write_all(STDERR_FILENO, b"check: standard input cannot be read\n");
-        }
-        Input::Read(n) => pass_over(n),
+    if filled < page.len() {
+        return Out::Filled(filled);
     }
-    i
+    if page.len() == 0 {
+        return Out::Failed;
+    }
+    if io::write_all(STDOUT_FILENO, page) {
+        return Out::Filled(0);
+    }
+    Out::Failed
 }
+
+fn fill(page: &mut [u8], filled: usize, bytes: &[u8]) -> Out {
+    let mut at = filled;
+    let mut i = 0;
+    while i < bytes.len() {
+        let b = bytes[i];
+        let o = room(page, at);
+        match o {
+            Out::Failed => {
+                return o;
+            }
+            Out::Filled(n) => {
+                page[n] = b;
+                at = n + 1;
+                i += 1;
+            }
+        }
+    }
+    Out::Filled(at)
+}
+
+// The bytes behind what is filled.
+pub fn put(page: &mut [u8], out: Out, bytes: &[u8]) -> Out {
+    match out {
+        Out::Failed => out,
+        Out::Filled(n) => fill(page, n, bytes),
+    }
+}
+
+pub fn put_if(page: &mut [u8], out: Out, wanted: bool, bytes: &[u8]) -> Out {
+    if wanted {
+        return put(page, out, bytes);
+    }
+    out
+}
+
+pub fn put_number(page: &mut [u8], out: Out, n: u64) -> Out {
+    let mut digits = [0u8; 20];
+    let k = io::decimal(n, &mut digits);
+    put(page, out, &digits[..k])
+}
+
+// How much of the page is filled.
+pub fn filled(page: &[u8], out: Out) -> usize
+    ensures { λ r. ⌜ Counts r (now (page .entry)) ⌝ }
+{
+    match out {
+        Out::Failed => 0,
+        Out::Filled(n) => within(n, page),
+    }
+}
+
+fn write_filled(page: &[u8], n: usize) -> Out {
+    let m = within(n, page);
+    if io::write_all(STDOUT_FILENO, &page[..m]) {
+        return Out::Filled(0);
+    }
+    Out::Failed
+}
+
+// What is filled is written, and the page is empty again.
+pub fn flush(page: &[u8], out: Out) -> Out {
+    match out {
+        Out::Failed => out,
+        Out::Filled(n) => write_filled(page, n),
+    }
+}
+
+// ---- an answer
 
 // A number behind a blank.
-fn say_next(n: usize) {
-    io::write_all(STDOUT_FILENO, b" ");
-    io::print_decimal(STDOUT_FILENO, n as u64);
+fn put_next(page: &mut [u8], out: Out, n: usize) -> Out {
+    let out = put(page, out, b" ");
+    put_number(page, out, n as u64)
 }
 
-// The answer in one line, whose end is left to the caller.
-pub fn say_answer(a: Answer) {
+// In one line, whose end is left to the caller.
+pub fn put_answer(page: &mut [u8], out: Out, a: Answer) -> Out {
     match a {
         Answer::Accepted {
             length,
             definitions,
         } => {
-            io::write_all(STDOUT_FILENO, b"ok");
-            say_next(length);
-            say_next(definitions);
+            let out = put(page, out, b"ok");
+            let out = put_next(page, out, length);
+            put_next(page, out, definitions)
         }
         Answer::Refused {
             number,
@@ -107,17 +182,18 @@ pub fn say_answer(a: Answer) {
             line,
             column,
         } => {
-            io::write_all(STDOUT_FILENO, b"refused");
-            say_next(number as usize);
-            say_next(place);
-            say_next(line);
-            say_next(column);
+            let out = put(page, out, b"refused");
+            let out = put_next(page, out, number as usize);
+            let out = put_next(page, out, place);
+            let out = put_next(page, out, line);
+            put_next(page, out, column)
         }
     }
 }
 
-// The line that `check` prints.
-pub fn say_verdict(a: Answer) {
-    say_answer(a);
-    io::write_all(STDOUT_FILENO, b"\n");
+// An answer by itself, at once.
+pub fn say_answer(a: Answer) {
+    let mut page = [0u8; 128];
+    let out = put_answer(&mut page, Out::Filled(0), a);
+    flush(&page, out);
 }

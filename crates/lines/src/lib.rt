@@ -2,8 +2,11 @@
 use book::Found;
 use book::flags;
 use book::kinds;
+use console::Out;
+use console::put;
+use console::put_if;
+use console::put_number;
 use fitting::Typing;
-use libc::STDOUT_FILENO;
 ghost use mathlib.Core.Path.{_≡_};
 ghost use mathlib.Core.Option.{some};
 ghost use Prim.Native.Nat.{_≤_};
@@ -11,190 +14,204 @@ ghost use Rattle.rules.specs.Numbers.{mostDecimals};
 ghost use Rattle.rules.specs.Show.{findRecord};
 ghost use Rattle.records.specs.Finding.{recordEnd};
 
-fn put(bytes: &[u8]) {
-    io::write_all(STDOUT_FILENO, bytes);
-}
-
-fn put_number(n: u64) {
-    io::print_decimal(STDOUT_FILENO, n);
-}
-
 // Between blanks.
-fn put_kind(kind: u8) {
+fn put_kind(page: &mut [u8], out: Out, kind: u8) -> Out {
     match kind {
-        kinds::MODEL => put(b" model "),
-        kinds::TOPIC => put(b" topic "),
-        kinds::TOPIC_END => put(b" end-of-topic "),
-        kinds::CLASS => put(b" class "),
-        kinds::STRUCTURE => put(b" structure "),
-        kinds::ATTRIBUTE => put(b" attribute "),
-        kinds::DOMAIN => put(b" domain "),
-        kinds::TEXT => put(b" TEXT "),
-        kinds::MTEXT => put(b" MTEXT "),
-        kinds::RANGE => put(b" range "),
-        kinds::NUMERIC => put(b" NUMERIC "),
-        kinds::NAMED_STRUCTURE => put(b" of-structure "),
-        kinds::LIST => put(b" enumeration "),
-        kinds::ELEMENT => put(b" element "),
-        kinds::LIST_END => put(b" end-of-enumeration "),
-        kinds::CLASS_END => put(b" end-of-class "),
-        kinds::NAMED_DOMAIN => put(b" of-domain "),
-        kinds::UNIT => put(b" unit "),
-        kinds::UNIT_OF_NUMBER => put(b" of-unit "),
-        _ => put(b" - "),
+        kinds::MODEL => put(page, out, b" model "),
+        kinds::TOPIC => put(page, out, b" topic "),
+        kinds::TOPIC_END => put(page, out, b" end-of-topic "),
+        kinds::CLASS => put(page, out, b" class "),
+        kinds::STRUCTURE => put(page, out, b" structure "),
+        kinds::ATTRIBUTE => put(page, out, b" attribute "),
+        kinds::DOMAIN => put(page, out, b" domain "),
+        kinds::TEXT => put(page, out, b" TEXT "),
+        kinds::MTEXT => put(page, out, b" MTEXT "),
+        kinds::RANGE => put(page, out, b" range "),
+        kinds::NUMERIC => put(page, out, b" NUMERIC "),
+        kinds::NAMED_STRUCTURE => put(page, out, b" of-structure "),
+        kinds::LIST => put(page, out, b" enumeration "),
+        kinds::ELEMENT => put(page, out, b" element "),
+        kinds::LIST_END => put(page, out, b" end-of-enumeration "),
+        kinds::CLASS_END => put(page, out, b" end-of-class "),
+        kinds::NAMED_DOMAIN => put(page, out, b" of-domain "),
+        kinds::UNIT => put(page, out, b" unit "),
+        kinds::UNIT_OF_NUMBER => put(page, out, b" of-unit "),
+        _ => put(page, out, b" - "),
     }
 }
 
-fn put_name(name: &[u8]) {
+fn put_name(page: &mut [u8], out: Out, name: &[u8]) -> Out {
     if name.len() == 0 {
-        put(b"-");
-    } else {
-        put(name);
+        return put(page, out, b"-");
+    }
+    put(page, out, name)
+}
+
+// What is put of a record's flags: whether any is.
+struct Flags {
+    out: Out,
+    any: bool,
+}
+
+// The word if its bit is set, behind a comma if another was put.
+fn put_flag(page: &mut [u8], f: Flags, set: u8, bit: u8, word: &[u8]) -> Flags {
+    if set & bit == 0 {
+        return f;
+    }
+    let out = f.out;
+    let out = put_if(page, out, f.any, b",");
+    Flags {
+        out: put(page, out, word),
+        any: true,
     }
 }
 
-// The word if its bit is set, behind a comma if another was put; whether one is put now.
-fn put_flag(flags: u8, bit: u8, word: &[u8], before: bool) -> bool {
-    if flags & bit == 0 {
-        return before;
+fn put_flags(page: &mut [u8], out: Out, set: u8) -> Out {
+    let f = Flags {
+        out: out,
+        any: false,
+    };
+    let f = put_flag(page, f, set, flags::ABSTRACT, b"ABSTRACT");
+    let f = put_flag(page, f, set, flags::FINAL, b"FINAL");
+    let f = put_flag(page, f, set, flags::EXTENDED, b"EXTENDED");
+    let f = put_flag(page, f, set, flags::MANDATORY, b"MANDATORY");
+    if f.any {
+        return f.out;
     }
-    if before {
-        put(b",");
-    }
-    put(word);
-    true
+    put(page, out, b"-")
 }
 
-fn put_flags(set: u8) {
-    let a = put_flag(set, flags::ABSTRACT, b"ABSTRACT", false);
-    let b = put_flag(set, flags::FINAL, b"FINAL", a);
-    let c = put_flag(set, flags::EXTENDED, b"EXTENDED", b);
-    if put_flag(set, flags::MANDATORY, b"MANDATORY", c) {
-        return;
+fn put_base(page: &mut [u8], out: Out, base: usize) -> Out {
+    if base == state::NO_BASE {
+        return put(page, out, b"-");
     }
-    put(b"-");
+    put_number(page, out, base as u64)
 }
 
 // Flags and base, between blanks; no record without them has this size.
-fn put_head(record: &[u8]) {
+fn put_head(page: &mut [u8], out: Out, record: &[u8]) -> Out {
     if record.len() != book::HEAD_SIZE {
-        put(b" - - ");
-        return;
+        return put(page, out, b" - - ");
     }
-    put(b" ");
-    put_flags(record[book::FLAGS]);
-    put(b" ");
-    let base = ground::wide4(ground::get4(record, book::BASE));
-    if base == state::NO_BASE {
-        put(b"-");
-    } else {
-        put_number(base as u64);
-    }
-    put(b" ");
+    let out = put(page, out, b" ");
+    let out = put_flags(page, out, record[book::FLAGS]);
+    let out = put(page, out, b" ");
+    let out = put_base(page, out, ground::wide4(ground::get4(record, book::BASE)));
+    put(page, out, b" ")
 }
 
 // The whole part, the dot, the decimals with their zeros: a power of ten is added to these, and its 1 is not put.
-fn put_dotted(n: u64, decimals: u64)
+fn put_dotted(page: &mut [u8], out: Out, n: u64, decimals: u64) -> Out
     requires { ⌜ decimals ≤ mostDecimals ⌝ }
 {
     let power = numbers::ten_to(decimals);
-    put_number(n / power);
-    put(b".");
+    let out = put_number(page, out, n / power);
+    let out = put(page, out, b".");
     let mut digits = [0u8; 20];
     let k = io::decimal(n % power + power, &mut digits);
-    put(&digits[1..k]);
+    put(page, out, &digits[1..k])
 }
 
 // A bound as a model writes it; the book has it without its dot.
-fn put_bound(value: i64, decimals: u64) {
-    if value < 0 {
-        put(b"-");
-    }
+fn put_bound(page: &mut [u8], out: Out, value: i64, decimals: u64) -> Out {
+    let out = put_if(page, out, value < 0, b"-");
     let n = numbers::size(value);
     if 0 < decimals {
         if decimals <= numbers::MOST_DECIMALS {
-            put_dotted(n, decimals);
-            return;
+            return put_dotted(page, out, n, decimals);
         }
     }
-    put_number(n);
+    put_number(page, out, n)
+}
+
+fn put_range(page: &mut [u8], out: Out, low: i64, high: i64, decimals: u64) -> Out {
+    let out = put_bound(page, out, low, decimals);
+    let out = put(page, out, b"..");
+    put_bound(page, out, high, decimals)
 }
 
 // 0 is no limit.
-fn put_length(n: u64) {
+fn put_length(page: &mut [u8], out: Out, n: u64) -> Out {
     if n == 0 {
-        put(b"-");
-    } else {
-        put_number(n);
+        return put(page, out, b"-");
     }
+    put_number(page, out, n)
 }
 
-fn put_final(record: &[u8]) {
+fn put_final(page: &mut [u8], out: Out, record: &[u8]) -> Out {
     if record.len() == book::LIST_SIZE {
         if record[book::LIST_FINAL] == 1 {
-            put(b"FINAL");
-            return;
+            return put(page, out, b"FINAL");
         }
     }
-    put(b"-");
+    put(page, out, b"-")
 }
 
 // The record number that a record names.
-fn put_named(record: &[u8]) {
+fn put_named(page: &mut [u8], out: Out, record: &[u8]) -> Out {
     if record.len() == book::LENGTH_SIZE {
-        put_number(ground::wide4(ground::get4(record, 1)) as u64);
-    } else {
-        put(b"-");
+        return put_number(page, out, ground::wide4(ground::get4(record, 1)) as u64);
     }
+    put(page, out, b"-")
 }
 
-fn put_type(record: &[u8]) {
+fn put_type(page: &mut [u8], out: Out, record: &[u8]) -> Out {
     let t = fitting::reading::typing_at(record, 0);
     match t {
-        Typing::Text { length, .. } => put_length(length),
+        Typing::Text { length, .. } => put_length(page, out, length),
         Typing::Range {
             decimals,
             low,
             high,
             ..
-        } => {
-            put_bound(low, decimals);
-            put(b"..");
-            put_bound(high, decimals);
-        }
-        Typing::Numeric { .. } => put(b"-"),
-        Typing::Enumeration { .. } => put_final(record),
+        } => put_range(page, out, low, high, decimals),
+        Typing::Numeric { .. } => put(page, out, b"-"),
+        Typing::Enumeration { .. } => put_final(page, out, record),
         // what names a structure, a domain or a unit, and what is no type
-        Typing::Structure => put_named(record),
+        Typing::Structure => put_named(page, out, record),
     }
 }
 
+// What stands in the line of a record behind its number.
+fn put_fields(page: &mut [u8], out: Out, kind: u8, name: &[u8], record: &[u8]) -> Out {
+    let out = put_kind(page, out, kind);
+    let out = put_name(page, out, name);
+    let out = put_head(page, out, record);
+    let out = put_type(page, out, record);
+    put(page, out, b"\n")
+}
+
 // The line of the record with this number, which stands from its beginning to its end.
-fn put_record(number: usize, text: &[u8], book: &[u8], beginning: usize, end: usize)
+fn put_record(
+    page: &mut [u8],
+    out: Out,
+    number: usize,
+    text: &[u8],
+    book: &[u8],
+    beginning: usize,
+    end: usize,
+) -> Out
     requires { ⌜ findRecord (now book) number ≡ some beginning ⌝ }
     requires { ⌜ recordEnd (now book) beginning ≡ some end ⌝ }
 {
-    let record = &book[beginning..end];
-    put_number(number as u64);
-    put_kind(book[beginning]);
-    put_name(records::show_name(text, book, beginning));
-    put_head(record);
-    put_type(record);
-    put(b"\n");
+    let out = put_number(page, out, number as u64);
+    let name = records::show_name(text, book, beginning);
+    put_fields(page, out, book[beginning], name, &book[beginning..end])
 }
 
 // A line for each record, with one walk through the book.
-pub fn list(text: &[u8], book: &[u8]) {
+pub fn list(page: &mut [u8], out: Out, text: &[u8], book: &[u8]) -> Out {
+    let mut out = out;
     let mut beginning = 0;
     let mut number = 0;
     loop {
         let f = records::end_from(book, beginning);
         match f {
             Found::Nothing => {
-                return;
+                return out;
             }
             Found::At(end) => {
-                put_record(number, text, book, beginning, end);
+                out = put_record(page, out, number, text, book, beginning, end);
                 beginning = end;
                 number += 1;
             }

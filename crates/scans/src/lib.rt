@@ -58,7 +58,7 @@ pub fn blanks_end(text: &[u8], at: usize) -> usize
     i
 }
 
-fn line_end(text: &[u8], at: usize) -> usize
+pub fn line_end(text: &[u8], at: usize) -> usize
     ensures { λ r. ⌜ r ≡ runEnd notLineEnd (now (text .entry)) at ⌝ }
 {
     let mut i = at;

@@ -1,4 +1,4 @@
-use mathlib.Core.Path.{_≡_, sym, ap, _∙_}
+use mathlib.Core.Path.{_≡_, refl, sym, ap, _∙_}
 use mathlib.Core.Option.{some}
 use mathlib.Core.List.{List}
 use Prim.Native.Nat.{ℕ, _-_, _≤_}
@@ -13,13 +13,14 @@ use Rattle.lines.proofs.list.Statement.{statement}
 use Rattle.lines.proofs.list.Tie as tie
 
 abbrev Inv-loop : tie.InvT-loop
-Inv-loop text book at₀ number₀ at number = (at ≤ length book) × (number ≤ at) × Listed book number at
+Inv-loop page₀ text book out₀ at₀ number₀ page out at number =
+    (length page ≡ length page₀) × (at ≤ length book) × (number ≤ at) × Listed book number at
 
 abbrev μ-loop : tie.MeasureT-loop
-μ-loop text book at₀ number₀ at number = length book - at
+μ-loop page₀ text book out₀ at₀ number₀ page out at number = length book - at
 
 loop-holds : tie.Need-loop-holds Inv-loop μ-loop
-loop-holds c = (omega arith, omega arith, listed-first _)
+loop-holds c = (refl, omega arith, omega arith, listed-first _)
 
 -- the place that was found
 ends : (b : List ℕ) (i e : ℕ) (f : Found) → f ≡ At e → foundAt f ≡ recordEnd b i → recordEnd b i ≡ some e
@@ -27,27 +28,34 @@ ends b i e f p q = sym q ∙ ap foundAt p
 
 put-record-requires : tie.Need-put-record-requires Inv-loop μ-loop
 put-record-requires c κs =
-    let r = c .before .before .before in
-    let e = ends _ _ _ _ (c .before .f .given .1) (r .end-from .ensures) in
-    (listed-here _ _ _ e _ (r .before .loop .inv .2), e)
+    let loop = c .before .before .before .before .before .loop in
+    let end-from = c .before .before .before .before .end-from in
+    let f = c .before .before .f in
+    let e = ends _ _ _ _ (f .given .1) (end-from .ensures) in
+    (listed-here _ _ _ e _ (loop .inv .3), e)
 
 add-number : tie.Need-add-number Inv-loop μ-loop
 add-number c =
-    let f = c .before .before in
-    omega (arith, end-inside _ _ _ (ends _ _ _ _ (f .f .given .1) (f .before .before .end-from .ensures)))
+    let end-from = c .before .before .before .before .before .before .before .end-from in
+    let f = c .before .before .before .before .before .f in
+    omega (arith, end-inside _ _ _ (ends _ _ _ _ (f .given .1) (end-from .ensures)))
 
 loop-less : tie.Need-loop-less Inv-loop μ-loop
 loop-less c =
-    let f = c .before .before in
-    omega (arith, end-inside _ _ _ (ends _ _ _ _ (f .f .given .1) (f .before .before .end-from .ensures)))
+    let end-from = c .before .before .before .before .before .before .before .end-from in
+    let f = c .before .before .before .before .before .f in
+    omega (arith, end-inside _ _ _ (ends _ _ _ _ (f .given .1) (end-from .ensures)))
 
 loop-again : tie.Need-loop-again Inv-loop μ-loop
 loop-again c =
-    let f = c .before .before in
-    let r = f .before .before in
-    let e = ends _ _ _ _ (f .f .given .1) (r .end-from .ensures) in
+    let loop = c .before .before .before .before .before .before .before .before .loop in
+    let end-from = c .before .before .before .before .before .before .before .end-from in
+    let f = c .before .before .before .before .before .f in
+    let put-record = c .before .before .put-record in
+    let e = ends _ _ _ _ (f .given .1) (end-from .ensures) in
     let w = end-inside _ _ _ e in
-    (w .1, omega (arith, w), listed-next _ _ _ e _ (r .before .loop .inv .2))
+    let k = put-record .kept .0 in
+    (k ∙ loop .inv .0, w .1, omega (arith, w), listed-next _ _ _ e _ (loop .inv .3))
 
 pub list-spec : {M : Type 1} → statement M
 list-spec =
@@ -57,6 +65,7 @@ list-spec =
     μ-loop
     loop-holds
     (λ c κs. search needs)
+    (λ c. search needs)
     (λ c. search needs)
     (λ c. search needs)
     (λ c. search needs)

@@ -1,8 +1,8 @@
 use mathlib.Core.Path.{sym}
 use lib.Seq.{length-take-le}
 use borrow.Author.Needs.{needs}
-use Rattle.cases.proofs.within.Statement.{statement}
-use Rattle.cases.proofs.within.Tie as tie
+use Rattle.console.proofs.within.Statement.{statement}
+use Rattle.console.proofs.within.Tie as tie
 
 returns : tie.Need-returns
 returns c =

@@ -1,0 +1,127 @@
+// What a person reads of an answer: a line that editors and build servers understand and, of a refusal, the line of the
+// text with a caret under the column.
+mod sentences;
+mod shown;
+
+use answers::Answer;
+use console::Out;
+use console::least;
+use console::put;
+use console::put_if;
+use console::put_number;
+use shown::put_shown;
+ghost use Prim.Native.Nat.{_≤_};
+
+// How many bytes of a line are shown, and how many of them stand before the caret where its beginning is cut off.
+const WIDTH: usize = 72;
+
+const BEFORE: usize = 36;
+
+// Where the line of a place begins.
+fn line_begin(place: usize, column: usize) -> usize
+    ensures { λ r. ⌜ r ≤ place ⌝ }
+{
+    if column == 0 {
+        return place;
+    }
+    place - least(place, column - 1)
+}
+
+// Where what is shown of a line begins.
+fn shown_from(begin: usize, place: usize, end: usize) -> usize
+    requires { ⌜ begin ≤ place ⌝ }
+    requires { ⌜ place ≤ end ⌝ }
+    ensures { λ r. ⌜ r ≤ place ⌝ }
+{
+    if end - begin <= WIDTH {
+        return begin;
+    }
+    if place - begin <= BEFORE {
+        return begin;
+    }
+    least(place - BEFORE, end - WIDTH)
+}
+
+// Where it ends.
+fn shown_to(from: usize, end: usize) -> usize
+    requires { ⌜ from ≤ end ⌝ }
+    ensures { λ r. ⌜ from ≤ r ⌝ }
+    ensures { λ r. ⌜ r ≤ end ⌝ }
+{
+    if end - from <= WIDTH {
+        return end;
+    }
+    from + WIDTH
+}
+
+fn put_line(page: &mut [u8], out: Out, line: &[u8], begun: bool, goes_on: bool) -> Out {
+    let out = put_if(page, out, begun, b"...");
+    let out = put_shown(page, out, line, false);
+    let out = put_if(page, out, goes_on, b"...");
+    put(page, out, b"\n")
+}
+
+// Behind what stands before the caret's column.
+fn put_caret(page: &mut [u8], out: Out, before: &[u8], begun: bool) -> Out {
+    let out = put_if(page, out, begun, b"   ");
+    let out = put_shown(page, out, before, true);
+    put(page, out, b"^\n")
+}
+
+// The line of a place, cut around it where it is long, and a caret under it.
+fn put_excerpt(page: &mut [u8], out: Out, text: &[u8], place: usize, column: usize) -> Out {
+    let at = least(place, text.len());
+    let begin = line_begin(at, column);
+    let end = scans::line_end(text, at);
+    let from = shown_from(begin, at, end);
+    let to = shown_to(from, end);
+    let out = put_line(page, out, &text[from..to], begin < from, to < end);
+    put_caret(page, out, &text[from..at], begin < from)
+}
+
+// Behind the name, as editors look for it.
+fn put_position(page: &mut [u8], out: Out, line: usize, column: usize) -> Out {
+    let out = put(page, out, b":");
+    let out = put_number(page, out, line as u64);
+    let out = put(page, out, b":");
+    put_number(page, out, column as u64)
+}
+
+// What is refused, and why.
+fn put_refusal(page: &mut [u8], out: Out, number: u8) -> Out {
+    let out = put(page, out, b": refused ");
+    let out = put_number(page, out, number as u64);
+    let out = put(page, out, b": ");
+    let out = sentences::put_sentence(page, out, number);
+    put(page, out, b"\n")
+}
+
+// The name of a file, of which an empty one is to be seen too.
+pub fn put_name(page: &mut [u8], out: Out, name: &[u8]) -> Out {
+    if name.len() == 0 {
+        return put(page, out, b"''");
+    }
+    put_shown(page, out, name, false)
+}
+
+// The name of what was checked, and its answer.
+pub fn put_report(page: &mut [u8], out: Out, name: &[u8], text: &[u8], a: Answer) -> Out {
+    let out = put_name(page, out, name);
+    match a {
+        Answer::Accepted { definitions, .. } => {
+            let out = put(page, out, b": ok, ");
+            let out = put_number(page, out, definitions as u64);
+            put(page, out, b" definitions\n")
+        }
+        Answer::Refused {
+            number,
+            place,
+            line,
+            column,
+        } => {
+            let out = put_position(page, out, line, column);
+            let out = put_refusal(page, out, number);
+            put_excerpt(page, out, text, place, column)
+        }
+    }
+}
