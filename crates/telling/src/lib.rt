@@ -26,7 +26,7 @@ pub fn tell_unknown(option: &[u8]) {
     let out = console::put(
         &mut page,
         out,
-        b" (check --help; names of files that begin with - go behind --)\n",
+        b": see check --help (a file of this name goes behind --)\n",
     );
     let n = console::filled(&page, out);
     io::write_all(STDERR_FILENO, &page[..n]);

@@ -1,0 +1,92 @@
+# How ./check has its program proved and built, over a stand-in for rt and three crates.
+house=$work/a\ house tool=$work/tool
+kit=$(dirname "$(dirname "$(readlink -f "$(command -v rt)")")")
+mkdir -p "$house/tools" "$house/crates/report/src" "$tool"
+cp "$root/check" "$house/" && cp "$root/tools/build" "$house/tools/"
+cp "$root/crates/report/src/sentences.rt" "$house/crates/report/src/"
+printf 'rules:\nground: rules\nbeside: rules\ncommand: ground rules io\n' >"$house/crates.txt"
+# It proves what has no stamp; $work/slow and $work/wrong name a crate that takes long, and one that is not proved.
+cat >"$tool/rt" <<END
+#!/bin/sh
+mkdir -p target/stamp target/bin
+for crate in rules ground command; do
+    if [ -f target/stamp/\$crate ]; then
+        echo "rt: \$crate proved (unchanged since it was last proved)"
+        continue
+    fi
+    if grep -q \$crate '$work/wrong' 2>/dev/null; then
+        echo "rt: \$crate NOT PROVED (exit 1, 0 s)"
+        exit 1
+    fi
+    if grep -q \$crate '$work/slow' 2>/dev/null; then
+        (sleep 300) &
+        echo \$! >'$work/sleeper'
+        wait
+    fi
+    cp '$root/target/bin/command' target/bin/
+    touch target/stamp/\$crate
+    echo "rt: \$crate proved (0 s)"
+done
+END
+chmod +x "$tool/rt"
+in_house() { # WORD..
+    PATH=$tool:$PATH RATTLE_HOME=$kit "$@"
+}
+begins='check: proving and building it first: 3 crates, minutes in all, the longest crate about 40 seconds'
+all="$begins
+check: 1 of 3 crates: rules
+check: 2 of 3 crates: ground
+check: 3 of 3 crates: command"
+
+in_house "$house/check" --help >out 2>said
+expect 'help before anything is built' "$? $(cmp out help && cat said)" '0 '
+in_house "$house/check" base >out 2>said
+expect 'first use' "$? $(cat out said)" "0 base: ok, 10 definitions$nl$all"
+in_house "$house/check" base >out 2>said
+expect 'second use' "$? $(cat out said)" '0 base: ok, 10 definitions'
+sleep 0.1 && touch "$house/crates/report/src/sentences.rt"
+in_house "$house/check" base >out 2>said
+expect 'after an edit' "$? $(cat out said)" "0 base: ok, 10 definitions$nl$all"
+in_house "$house/check" base >out 2>said
+expect 'and then' "$? $(cat out said)" '0 base: ok, 10 definitions'
+
+rm -r "$house/target" && echo ground >"$work/wrong"
+in_house "$house/check" base >out 2>said
+expect 'what is not proved' "$? $(cat out said)" "2 $begins
+check: 1 of 3 crates: rules
+check: the program could not be proved or built: see $house/target/check.log"
+expect 'its log' "$(tail -n 1 "$house/target/check.log")" 'rt: ground NOT PROVED (exit 1, 0 s)'
+rm "$work/wrong"
+
+rm -r "$house/target"
+expect 'first use at a terminal' "$(in_house "$root/tests/check/terminal.py" "$house/check" base)" "$begins
+<>check: 1 of 3 crates: rules<>check: 2 of 3 crates: ground<>check: 3 of 3 crates: command<>base: ok, 10 definitions
+status 0"
+
+rm -r "$house/target" && echo ground >"$work/slow"
+STOP_AT=$work/sleeper in_house "$root/tests/check/terminal.py" "$house/check" base >out
+expect 'stopped' "$(sed 's/\^C//' out)" "$begins
+<>check: 1 of 3 crates: rules<>check: stopped; what is proved stays so, and the next check goes on from there
+status -2"
+# all that was begun holds the lock
+expect 'nothing runs on' "$(flock -w 20 "$house/target/check.lock" echo free)" free
+expect 'nothing is half made' "$(ls "$house/target/stamp")" rules
+rm "$work/slow" "$work/sleeper"
+in_house "$house/check" base >out 2>said
+expect 'it goes on' "$? $(cat out said)" "0 base: ok, 10 definitions$nl$all"
+
+rm -r "$house/target" && echo ground >"$work/slow"
+in_house "$house/tools/build" 2>first &
+first=$!
+while ! [ -s "$work/sleeper" ]; do sleep 0.1; done
+rm said
+in_house "$house/check" base >out 2>said &
+second=$!
+while ! [ -s said ]; do sleep 0.1; done
+kill "$(cat "$work/sleeper")"
+wait "$first"
+expect 'the first of two' "$? $(cat first)" "0 $all"
+wait "$second"
+expect 'the second waits' "$? $(cat out said)" "0 base: ok, 10 definitions
+check: another check is proving and building; this one waits for it
+$all"
