@@ -4,14 +4,14 @@ use mathlib.Core.Path.{_≡_, refl, sym, ap, _∙_, subst}
 use mathlib.Core.Logic.{_⊎_, inl, inr, ⊎-elim}
 use mathlib.Core.Bool.{Bool, true, false}
 use mathlib.Core.List.{List}
-use Prim.Native.Nat.{ℕ, zero, suc, _≤_, _<_}
+use Prim.Native.Nat.{ℕ, zero, suc, _-_, _≤_, _<_}
 use native.Mathlib.Omega.{arith}
 use lib.ListN.{length, drop, getD}
 use lib.Dec.{ltb}
 use lib.Seq.{getD-drop}
 use borrow.Author.Tests.{eqb-true, eqb-false, eq-eqb, ne-eqb, ltb-true, ltb-false, lt-ltb}
 use Rattle.rules.specs.Bytes.{is}
-use Rattle.rules.specs.Lines.{Position, endsAt, positionOf}
+use Rattle.rules.specs.Lines.{Position, position, endsAt, positionOf}
 use Rattle.rules.specs.Check.{Given, Outcome, kept, unread, ruledOut, run, Refusal, refusal, refusalOf, refusing}
 use Rattle.rules.specs.Check.{answerOf, check}
 use Rattle.rules.proofs.Tests.{never, not-both, both, split, or-l, or-r, or-split, not-false, not-is, is-false}
@@ -91,6 +91,34 @@ only f c t (suc p) h = go (endsAt t p) refl (only f c t p (omega arith))
     go false e q =
         c .beside t p h (λ z. not-both (to-test t p z) e) ∙ (ap (behind false) q ∙ sym (step t p false h e))
 
+-- ---- where a line begins
+column-of : {a b : Position} → a ≡ b → a .column ≡ b .column
+column-of e = ap (λ (q : Position). q .column) e
+
+line-of : {a b : Position} → a ≡ b → a .line ≡ b .line
+line-of e = ap (λ (q : Position). q .line) e
+
+begins : (t : List ℕ) (p c : ℕ) → p ≤ length t → positionOf t p .column ≡ suc c
+    → positionOf t (p - c) ≡ position (positionOf t p .line) 1
+begins t zero c h e =
+    let f = position-first t in
+    let z : 0 - c ≡ 0 = omega arith in
+    rw z (f ∙ ap (λ (l : ℕ). position l 1) (sym (line-of f)))
+begins t (suc p) c h e = go (endsAt t p) refl c e (λ k x. begins t p k (omega arith) x)
+  where
+    go : (b : Bool) → endsAt t p ≡ b → (c : ℕ) → positionOf t (suc p) .column ≡ suc c
+        → ((k : ℕ) → positionOf t p .column ≡ suc k → positionOf t (p - k) ≡ position (positionOf t p .line) 1)
+        → positionOf t (suc p - c) ≡ position (positionOf t (suc p) .line) 1
+    go true x c e i =
+        let s = step t p true h x in
+        let z : suc p - c ≡ suc p = omega (arith, column-of s) in
+        rw z (s ∙ ap (λ (l : ℕ). position l 1) (sym (line-of s)))
+    go false x zero e i = let s = step t p false h x in absurd (omega (arith, column-of s, column-bound t p))
+    go false x (suc c) e i =
+        let s = step t p false h x in
+        let z : suc p - suc c ≡ p - c = omega arith in
+        rw z (i c (omega (arith, column-of s)) ∙ ap (λ (l : ℕ). position l 1) (sym (line-of s)))
+
 -- ---- order
 later : (b : Bool) (q : Position) → Before q (behind b q)
 later true q = inl (omega arith)
@@ -103,8 +131,8 @@ before-trans (inr h) (inl k) = inl (omega arith)
 before-trans (inr h) (inr k) = inr (h .0 ∙ k .0, omega arith)
 
 before-apart : {a b : Position} → Before a b → a ≡ b → ⊥
-before-apart (inl h) e = let z = ap (λ (q : Position). q .line) e in omega arith
-before-apart (inr h) e = let z = ap (λ (q : Position). q .column) e in omega arith
+before-apart (inl h) e = let z = line-of e in omega arith
+before-apart (inr h) e = let z = column-of e in omega arith
 
 module _ (t : List ℕ) where
   next-before : (p : ℕ) → p < length t → Before (positionOf t p) (positionOf t (suc p))
@@ -137,6 +165,7 @@ located = record {
   only = only;
   line-within = line-bound;
   column-within = column-bound;
+  begins = begins;
   ordered = ordered;
   determined = determined;
 }

@@ -1,9 +1,9 @@
 -- Document 02, No. 6: what a refusal has for its line and column; how lines and columns are counted, which allows one
--- definition; that they determine a place; and that they keep the order of places.
+-- definition; where a line begins; that they determine a place; and that they keep the order of places.
 use mathlib.Core.Path.{_≡_}
 use mathlib.Core.Logic.{_⊎_}
 use mathlib.Core.List.{List}
-use Prim.Native.Nat.{ℕ, suc, _≤_, _<_}
+use Prim.Native.Nat.{ℕ, suc, _-_, _≤_, _<_}
 use lib.ListN.{length, getD}
 use Rattle.rules.specs.Lines.{Position, position, positionOf}
 use Rattle.rules.specs.Check.{Given, Refusal, refusal, refusalOf, check}
@@ -47,6 +47,9 @@ pub record Located : Type 0 where
   pub only : (f : List ℕ → ℕ → Position) → Counts f → (t : List ℕ) (p : ℕ) → p ≤ length t → f t p ≡ positionOf t p
   pub line-within : (t : List ℕ) (p : ℕ) → Within p (positionOf t p .line)
   pub column-within : (t : List ℕ) (p : ℕ) → Within p (positionOf t p .column)
+  -- the line of a place begins as many places before it as it has columns before it
+  pub begins : (t : List ℕ) (p c : ℕ) → p ≤ length t → positionOf t p .column ≡ suc c
+      → positionOf t (p - c) ≡ position (positionOf t p .line) 1
   -- later places stand later, so that no two have the same line and column
   pub ordered : (t : List ℕ) (p q : ℕ) → p < q → q ≤ length t → Before (positionOf t p) (positionOf t q)
   pub determined : (t : List ℕ) (p q : ℕ) → p ≤ length t → q ≤ length t → positionOf t p ≡ positionOf t q → p ≡ q

@@ -10,48 +10,62 @@ use console::put;
 use console::put_if;
 use console::put_number;
 use shown::put_shown;
-ghost use Prim.Native.Nat.{_≤_};
+ghost use mathlib.Core.Path.{_≡_};
+ghost use Prim.Native.Nat.{_-_, _≤_};
+ghost use Rattle.report.specs.Around.{Around};
 
-// How many bytes of a line are shown, and how many of them stand before the caret where its beginning is cut off.
+// How many bytes of a line are shown, and how many of them stand before the caret where both ends are cut off.
 const WIDTH: usize = 72;
 
 const BEFORE: usize = 36;
 
+// What is shown of a line.
+struct Excerpt {
+    from: usize,
+    to: usize,
+}
+
 // Where the line of a place begins.
 fn line_begin(place: usize, column: usize) -> usize
-    ensures { λ r. ⌜ r ≤ place ⌝ }
+    ensures { λ r. ⌜ r ≡ place - (column - 1) ⌝ }
 {
-    if column == 0 {
+    if column <= 1 {
         return place;
     }
-    place - least(place, column - 1)
+    if place < column {
+        return 0;
+    }
+    place - (column - 1)
 }
 
-// Where what is shown of a line begins.
-fn shown_from(begin: usize, place: usize, end: usize) -> usize
+// A line, or of a longer one the part around a place.
+fn around(begin: usize, place: usize, end: usize) -> Excerpt
     requires { ⌜ begin ≤ place ⌝ }
     requires { ⌜ place ≤ end ⌝ }
-    ensures { λ r. ⌜ r ≤ place ⌝ }
+    ensures { λ r. ⌜ Around begin place end r ⌝ }
 {
     if end - begin <= WIDTH {
-        return begin;
+        return Excerpt {
+            from: begin,
+            to: end,
+        };
     }
     if place - begin <= BEFORE {
-        return begin;
+        return Excerpt {
+            from: begin,
+            to: begin + WIDTH,
+        };
     }
-    least(place - BEFORE, end - WIDTH)
-}
-
-// Where it ends.
-fn shown_to(from: usize, end: usize) -> usize
-    requires { ⌜ from ≤ end ⌝ }
-    ensures { λ r. ⌜ from ≤ r ⌝ }
-    ensures { λ r. ⌜ r ≤ end ⌝ }
-{
-    if end - from <= WIDTH {
-        return end;
+    if end - place <= WIDTH - BEFORE {
+        return Excerpt {
+            from: end - WIDTH,
+            to: end,
+        };
     }
-    from + WIDTH
+    Excerpt {
+        from: place - BEFORE,
+        to: place - BEFORE + WIDTH,
+    }
 }
 
 fn put_line(page: &mut [u8], out: Out, line: &[u8], begun: bool, goes_on: bool) -> Out {
@@ -73,8 +87,9 @@ fn put_excerpt(page: &mut [u8], out: Out, text: &[u8], place: usize, column: usi
     let at = least(place, text.len());
     let begin = line_begin(at, column);
     let end = scans::line_end(text, at);
-    let from = shown_from(begin, at, end);
-    let to = shown_to(from, end);
+    let s = around(begin, at, end);
+    let from = s.from;
+    let to = s.to;
     let out = put_line(page, out, &text[from..to], begin < from, to < end);
     put_caret(page, out, &text[from..at], begin < from)
 }

@@ -16,15 +16,14 @@ line-in t i e p h = rw p (run-le notLineEnd t i h)
 
 part-put-line-end : tie.Need-part-put-line-end
 part-put-line-end c =
-    let least = c .before .before .before .before .before .least in
-    let line-end = c .before .before .before .line-end in
+    let least = c .before .before .before .before .least in
+    let line-end = c .before .before .line-end in
     omega (arith, line-in _ _ _ (line-end .ensures) (least .ensures .1))
 
 pub put-excerpt-spec : {M : Type 1} → statement M
 put-excerpt-spec =
     tie.close
     (tie.spec
-    (λ c κs. search needs)
     (λ c κs. search needs)
     (λ c κs. search needs)
     (λ c κs. search needs)
