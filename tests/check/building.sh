@@ -32,7 +32,7 @@ chmod +x "$tool/rt"
 in_house() { # WORD..
     PATH=$tool:$PATH RATTLE_HOME=$kit "$@"
 }
-begins='check: proving and building it first: 3 crates, minutes in all, the longest crate about 40 seconds'
+begins='check: proving and building it first, which takes up to minutes: 3 crates, the longest about 40 seconds'
 all="$begins
 check: 1 of 3 crates: rules
 check: 2 of 3 crates: ground
@@ -79,7 +79,7 @@ check: 2 of 3 crates: ground
 check: 3 of 3 crates: command"
 
 rm -r "$house/target" && echo ground >"$work/slow"
-in_house "$house/tools/build" 2>first &
+in_house "$house/tools/build" --quiet base 2>first &
 first=$!
 while ! [ -s "$work/sleeper" ]; do sleep 0.1; done
 rm said
@@ -93,3 +93,41 @@ wait "$second"
 expect 'the second waits' "$? $(cat out said)" "0 base: ok, 10 definitions
 check: another check is proving and building; this one waits for it
 $begins"
+
+# ended by a signal that reaches this command alone
+for number in 15 1; do
+    rm -rf "$house/target" "$work/sleeper"
+    (export PATH="$tool:$PATH" RATTLE_HOME="$kit" && exec "$house/check" base) >out 2>said &
+    alone=$!
+    while ! [ -s "$work/sleeper" ]; do sleep 0.1; done
+    kill -$number "$alone"
+    wait "$alone" 2>/dev/null
+    expect "signal $number: status" "$?" "$((128 + number))"
+    expect "signal $number: said" "$(tail -n 1 said)" \
+        'check: stopped; what is proved stays so, and the next check goes on from there'
+    expect "signal $number: nothing runs on" "$(flock -w 20 "$house/target/check.lock" echo free)" free
+done
+rm "$work/slow"
+
+# where nothing may be written
+rm -r "$house/target"
+for state in none closed; do
+    [ $state = none ] || mkdir "$house/target"
+    chmod a-w "$house" "$house/target" 2>/dev/null
+    # shellcheck disable=SC2086
+    in_house $as_reader "$house/check" base >out 2>said
+    expect "a house that is closed, target: $state" "$? $(cat out said)" "2 check: cannot write to $house/target"
+    chmod u+w "$house" "$house/target" 2>/dev/null
+done
+rmdir "$house/target"
+
+# in a folder whose name ends in a line end, on a terminal that stops what writes from behind
+odd="$work/odd
+"
+mv "$house" "$odd"
+in_house "$root/tests/check/terminal.py" sh -c 'stty tostop && "$0/check" base' "$odd" >out
+expect 'a terminal that stops' "$(cat out)" "$begins
+<>check: 1 of 3 crates: rules<>check: 2 of 3 crates: ground<>check: 3 of 3 crates: command<>base: ok, 10 definitions
+status 0"
+in_house "$odd/check" --help >out 2>said
+expect 'the help there' "$? $(cmp out help && cat said)" '0 '

@@ -14,7 +14,10 @@ ghost use mathlib.Core.Path.{_≡_};
 ghost use Prim.Native.Nat.{_-_, _≤_};
 ghost use Rattle.report.specs.Around.{Around};
 
-// How many bytes of a line are shown, and how many of them stand before the caret where both ends are cut off.
+// How long a line may be to be shown whole; how many bytes of a longer one are shown, and how many of them stand before
+// the caret where both ends are cut off.
+const WHOLE: usize = 78;
+
 const WIDTH: usize = 72;
 
 const BEFORE: usize = 36;
@@ -44,7 +47,7 @@ fn around(begin: usize, place: usize, end: usize) -> Excerpt
     requires { ⌜ place ≤ end ⌝ }
     ensures { λ r. ⌜ Around begin place end r ⌝ }
 {
-    if end - begin <= WIDTH {
+    if end - begin <= WHOLE {
         return Excerpt {
             from: begin,
             to: end,

@@ -9,23 +9,23 @@ fn put_of_text(page: &mut [u8], out: Out, number: u8) -> Out {
         2 => put(
             page,
             out,
-            b"this byte begins no symbol, or may not stand in a string",
+            b"this character begins nothing here, or may not stand so in a string",
         ),
         3 => put(page, out, b"this string or comment is never closed"),
         4 => put(
             page,
             out,
-            b"a word, number, length, depth of lists or count of attributes is too large",
+            b"over 255 bytes, 18 digits, TEXT*4294967295, 8 lists deep or 256 attributes",
         ),
         5 => put(
             page,
             out,
-            b"this cannot stand here, or the text ends too early",
+            b"this, or the end of the text, cannot stand here: something may be missing",
         ),
         6 => put(
             page,
             out,
-            b"this word is reserved for a part of INTERLIS that is not checked here",
+            b"a reserved word: it is no name, and what it begins is not checked here",
         ),
         _ => out,
     }
@@ -33,7 +33,7 @@ fn put_of_text(page: &mut [u8], out: Out, number: u8) -> Out {
 
 fn put_of_names(page: &mut [u8], out: Out, number: u8) -> Out {
     match number {
-        7 => put(page, out, b"the version is not written 2.4"),
+        7 => put(page, out, b"the version of INTERLIS must be written 2.4"),
         8 => put(page, out, b"this is not the name of what ends here"),
         9 => put(
             page,
@@ -43,18 +43,18 @@ fn put_of_names(page: &mut [u8], out: Out, number: u8) -> Out {
         10 => put(
             page,
             out,
-            b"no such name is known here, or EXTENDED where nothing is inherited",
+            b"nothing of this name is known so far, or no attribute of it is inherited",
         ),
         11 => put(
             page,
             out,
-            b"this names something of a sort that cannot stand here",
+            b"this names something of the wrong sort, as a class where a domain belongs",
         ),
         12 => put(page, out, b"the base is FINAL and cannot be extended"),
         13 => put(
             page,
             out,
-            b"a property twice, ABSTRACT with FINAL, or values of an abstract type",
+            b"property twice, ABSTRACT with FINAL, or NUMERIC or an ABSTRACT domain used",
         ),
         _ => out,
     }
@@ -65,7 +65,7 @@ fn put_of_types(page: &mut [u8], out: Out, number: u8) -> Out {
         14 => put(
             page,
             out,
-            b"bounds of unlike decimals or in the wrong order, or a length of 0",
+            b"the bounds differ in count of decimals or are reversed, or the length is 0",
         ),
         15 => put(
             page,
@@ -81,12 +81,12 @@ fn put_of_types(page: &mut [u8], out: Out, number: u8) -> Out {
         18 => put(
             page,
             out,
-            b"this domain or structure is neither the base's nor a descendant of it",
+            b"the base names neither this domain or structure nor one it descends from",
         ),
         19 => put(
             page,
             out,
-            b"with this the book of records is longer than 65,535 bytes",
+            b"the model is too large: its records up to here pass 65,535 bytes",
         ),
         22 => put(
             page,

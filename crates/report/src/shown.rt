@@ -1,4 +1,5 @@
-// Bytes as a terminal may get them: visible characters of ASCII and UTF-8 and tabs as they are, any other byte as `?`.
+// Bytes as a terminal may get them: tabs, and visible characters that take one cell each, as they are, any other byte
+// as `?`. Of UTF-8 these are letters and signs of Europe, dashes, quotes and signs of currency.
 use console::Out;
 use console::put;
 ghost use Prim.Native.Nat.{_+_, _≤_, _<_};
@@ -9,32 +10,39 @@ fn is_tail(b: u8) -> bool {
     ground::between(128, 191, b)
 }
 
-// Two bytes that are a character from U+00A0 on.
+// Two bytes that are a character from U+00A0 on, Latin, Greek or Cyrillic; without U+00AD, which may be invisible, and
+// the marks from U+0300 to U+037F, which stand above others.
 fn is_pair(a: u8, b: u8) -> bool {
-    if a == 194 {
-        return ground::between(160, 191, b);
-    }
-    if ground::between(195, 223, a) {
-        return is_tail(b);
-    }
-    false
-}
-
-// Three bytes that are a character below U+E000. Among U+2000 to U+207F are marks that turn the writing round, so there
-// it is the dashes, quotes and dots alone, U+2010 to U+2027.
-fn is_triple(a: u8, b: u8, c: u8) -> bool {
     match a {
-        224 => ground::between(160, 191, b),
-        226 => {
-            if b == 128 {
-                return ground::between(144, 167, c);
+        194 => {
+            if b == 173 {
+                return false;
             }
-            ground::between(130, 191, b)
+            ground::between(160, 191, b)
         }
-        225 | 227..=236 => is_tail(b),
-        237 => ground::between(128, 159, b),
+        195..=203 | 206..=209 => is_tail(b),
         _ => false,
     }
+}
+
+// Three bytes that are a Latin letter from U+1E00 on, a dash, quote or dot from U+2010 on, or a sign of currency. Other
+// characters of this size turn the writing round, take two cells or none.
+fn is_triple(a: u8, b: u8, c: u8) -> bool {
+    if a == 225 {
+        return ground::between(184, 187, b);
+    }
+    if a == 226 {
+        match b {
+            128 => {
+                return ground::between(144, 167, c);
+            }
+            130 => {
+                return ground::between(160, 191, c);
+            }
+            _ => {}
+        }
+    }
+    false
 }
 
 // How many bytes the tab or visible character at a place has; 0 if none stands there.
