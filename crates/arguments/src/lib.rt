@@ -1,5 +1,4 @@
 // The words behind `check`: options, and names of files.
-ghost use Rattle.io.specs.Counts.{Counts};
 
 // What an argument is where options may stand. `-` is a name, that of standard input.
 pub enum Word {

@@ -1,5 +1,4 @@
 use Prim.Native.Nat.{_-_}
-use native.Mathlib.Omega.{arith}
 use borrow.Author.Needs.{needs}
 use Rattle.command.proofs.check_files.Statement.{statement}
 use Rattle.command.proofs.check_files.Tie as tie
