@@ -130,12 +130,15 @@ fn run(asked: Asked) -> u8 {
     check_input(STDIN_FILENO, b"standard input", asked)
 }
 
-fn main() {
-    let s = run(arguments::all());
-    match s {
+// The status that `check` is to have, one digit.
+fn hand_on(status: u8) -> bool {
+    match status {
         ACCEPTED => io::write_all(STATUS_FILENO, b"0"),
         REFUSED => io::write_all(STATUS_FILENO, b"1"),
         _ => io::write_all(STATUS_FILENO, b"2"),
     }
-    ;
+}
+
+fn main() {
+    hand_on(run(arguments::all()));
 }
