@@ -112,6 +112,7 @@ rm "$work/slow"
 # where nothing may be written
 rm -r "$house/target"
 for state in none closed; do
+    [ $reader = yes ] || break
     [ $state = none ] || mkdir "$house/target"
     chmod a-w "$house" "$house/target" 2>/dev/null
     # shellcheck disable=SC2086
@@ -119,7 +120,7 @@ for state in none closed; do
     expect "a house that is closed, target: $state" "$? $(cat out said)" "2 check: cannot write to $house/target"
     chmod u+w "$house" "$house/target" 2>/dev/null
 done
-rmdir "$house/target"
+rm -rf "$house/target"
 
 # in a folder whose name ends in a line end, on a terminal that stops what writes from behind
 odd="$work/odd

@@ -3,11 +3,12 @@
     tests/check/terminal.py COMMAND [WORD..]
     STOP_AT=FILE tests/check/terminal.py ..      presses Ctrl-C once there is this file, with something in it
 A carriage return is printed as <, the sequence that clears a line as >."""
-import os, pty, select, sys
+import os, pty, select, signal, sys
 
 stop_at = os.environ.pop('STOP_AT', '')
 pid, terminal = pty.fork()
 if pid == 0:
+    signal.signal(signal.SIGPIPE, signal.SIG_DFL)
     os.execvp(sys.argv[1], sys.argv[1:])
 written = b''
 while True:
