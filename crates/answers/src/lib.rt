@@ -1,4 +1,6 @@
 // The answer of a check, what it leaves in the buffer, and the numbers in which it is handed to C and Rust.
+#![tactic(auto)]
+
 ghost use Rattle.std.specs.Prelude.{◌≡◌, List, ℕ, ◌≤◌, length, take};
 ghost use Rattle.rules.specs.Book.{padded};
 ghost use Rattle.rules.specs.Declarations as D;

@@ -1,4 +1,5 @@
 // The words behind `check`: options, and names of files.
+#![tactic(auto)]
 
 // What an argument is where options may stand. `-` is a name, that of standard input.
 #[derive(Drop)]

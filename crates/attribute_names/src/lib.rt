@@ -1,4 +1,6 @@
 // The name of an attribute and what it refers to: 4 by count, 9, 10 and 11.
+#![tactic(auto)]
+
 ghost use Rattle.std.specs.Prelude.{◌≡◌, false, ◌&&◌, List, ℕ, ◌+◌, ◌≤◌, ◌<◌, length, eqb};
 ghost use Rattle.std.proofs.Math.Option.{Option, none, some};
 ghost use Rattle.rules.specs.Names as R;

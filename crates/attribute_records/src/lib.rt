@@ -1,4 +1,6 @@
 // 14 to 18 and 22 of what types an attribute, and its records behind room for the head.
+#![tactic(auto)]
+
 ghost use Rattle.std.specs.Prelude.{◌≡◌, true, cond, List, ℕ, ◌+◌, ◌≤◌, ◌<◌, length, take, ltb};
 ghost use Rattle.std.proofs.Math.Option.{Option, some};
 ghost use Rattle.rules.specs.Grammar.{WrittenType};

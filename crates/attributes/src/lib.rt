@@ -1,4 +1,6 @@
 // Judging an attribute: what its name and its type break; 19; its head, its row and its place in the open class.
+#![tactic(auto)]
+
 ghost use Rattle.std.specs.Prelude.{◌≡◌, ◌||◌, List, ℕ, ◌+◌, ◌≤◌, ◌<◌, length};
 ghost use Rattle.rules.specs.Names as R;
 ghost use Rattle.rules.specs.Grammar as G;

@@ -1,4 +1,6 @@
 // The four public operations, and their exports to C and Rust.
+#![tactic(auto)]
+
 ghost use Rattle.std.specs.Prelude.{◌≡◌, false, ◌+◌, ◌*◌, ◌≤◌, ◌<◌, length};
 ghost use Rattle.rules.specs.Numbers.{read_number, read_refusal, read_value};
 ghost use Rattle.rules.specs.Show.{find_record, show_name};

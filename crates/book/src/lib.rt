@@ -1,4 +1,6 @@
 // The book: kinds and sizes of records, the name that is written in one, the bytes of new records.
+#![tactic(auto)]
+
 pub mod flags;
 pub mod kinds;
 

@@ -2,6 +2,8 @@
 // six digits each, with a blank between and an LF behind, then the text and an LF. For each it writes a line: the
 // answer and, if the text is accepted, the book in hexadecimal; then `dirty` if what stands behind the book is not
 // zero.
+#![tactic(auto)]
+
 ghost use Rattle.std.specs.Prelude.{◌+◌, ◌*◌, ◌^◌, ◌≤◌, ◌<◌};
 
 use answers::Answer;

@@ -1,4 +1,6 @@
 // Judging the heads of classes and structures, and units.
+#![tactic(auto)]
+
 ghost use Rattle.std.specs.Prelude.{◌≡◌, Bool, false, List, [], ℕ, ◌+◌, ◌*◌, ◌≤◌, ◌<◌, length};
 ghost use Rattle.std.proofs.Math.Option.{Option, none};
 ghost use Rattle.rules.specs.Names as R;

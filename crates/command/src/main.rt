@@ -1,5 +1,7 @@
 // The program behind `check`: it checks the files that are named, or the text on standard input, and writes what it
 // finds to standard output. A program has no exit status: it writes the one that `check` is to have to a descriptor.
+#![tactic(auto)]
+
 use answers::Answer;
 use arguments::{Asked, Word};
 use console::Input;

@@ -1,4 +1,6 @@
 // What the programs share: a text read from a descriptor, output by way of a page, an answer in the documents' form.
+#![tactic(auto)]
+
 ghost use Rattle.std.specs.Prelude.{◌+◌, ◌≤◌, length};
 ghost use Rattle.io.specs.Counts.{IsPrefixLen};
 ghost use Rattle.console.specs.Input.{Within};

@@ -1,5 +1,7 @@
 // Texts cut into symbols: for each symbol its code, place, length, line and column, and its own fault's number, if it
 // has one.
+#![tactic(auto)]
+
 use libc::STDOUT_FILENO;
 use symbols::{Cursor, Symbol};
 

@@ -1,4 +1,6 @@
 // The promise of checking a text, in the words of the demands.
+#![tactic(auto)]
+
 ghost use Rattle.std.specs.Prelude.{length};
 ghost use Rattle.demands.specs.Demands.{Gives};
 

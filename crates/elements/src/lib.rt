@@ -1,5 +1,7 @@
 // Enumerations and elements: their readers call each other, and write the records of what they read into a lent
 // scratch.
+#![tactic(auto)]
+
 ghost use Rattle.std.specs.Prelude.{◌≡◌, ◌∷◌, [], ◌+◌, ◌*◌, ◌≤◌, length, leb};
 ghost use Rattle.rules.specs.Enumerations.{end};
 ghost use Rattle.rules.specs.Grammar.{enough, close_final, deepest};

@@ -1,5 +1,7 @@
 // Enumerations as records in bytes: a list of elements stands behind the record that opens it, up to the record that
 // closes it.
+#![tactic(auto)]
+
 ghost use Rattle.std.specs.Prelude.{◌≡◌, List, ℕ, ◌+◌, ◌-◌, ◌≤◌, ◌<◌, length, leb};
 ghost use Rattle.rules.specs.Enumerations.{Enum};
 ghost use Rattle.ground.specs.Parts.{part, splice};

@@ -1,4 +1,6 @@
 // The fields of a record's line that are words, names or numbers: its kind, its name, its flags and its base.
+#![tactic(auto)]
+
 use book::{flags, kinds};
 use console::{Out, put, put_if, put_number};
 

@@ -1,4 +1,6 @@
 // Types by value, a number with its unit: read from the book, and held against each other.
+#![tactic(auto)]
+
 pub mod reading;
 
 ghost use Rattle.std.specs.Prelude.{◌≡◌, not, List, ◌∷◌, ℕ, ◌≤◌, ◌<◌, length, nat_abs, eqb};

@@ -1,4 +1,6 @@
 // What every floor uses: rulings, parts of a text, lent buffers, numbers as bytes.
+#![tactic(auto)]
+
 pub mod sorts;
 
 ghost use Rattle.std.specs.Prelude.{◌≡◌, ◌&&◌, ◌||◌, [], ◌+◌, ◌≤◌, ◌<◌, length, get_or, leb};

@@ -1,4 +1,6 @@
 // One enumeration held against another: whether every legal value of the first has a legal reading in the second.
+#![tactic(auto)]
+
 ghost use Rattle.std.specs.Prelude.{◌≡◌, ◌||◌, not, ◌+◌, ◌*◌, ◌≤◌, ◌<◌, length};
 ghost use Rattle.rules.specs.Enumerations.{Enum, fits_in, enum_fits};
 ghost use Rattle.enumerations.specs.Lists.{is_element};

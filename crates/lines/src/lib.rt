@@ -1,4 +1,6 @@
 // A line for each record of a book: number, kind, name, flags, base and type, with `-` for what a record does not have.
+#![tactic(auto)]
+
 ghost use Rattle.std.specs.Prelude.{◌≡◌, ◌≤◌};
 ghost use Rattle.std.proofs.Math.Option.{some};
 ghost use Rattle.rules.specs.Numbers.{most_decimals};

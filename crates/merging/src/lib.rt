@@ -1,5 +1,7 @@
 // The walk through a merged enumeration: the base's records stand in the book, the extension's among those of the
 // written one. One walk judges what is added, counts, and writes what fits.
+#![tactic(auto)]
+
 ghost use Rattle.std.specs.Prelude.{◌≡◌, ◌||◌, not, ◌+◌, ◌*◌, ◌≤◌, ◌<◌, length, take};
 ghost use Rattle.rules.specs.Enumerations.{Enum};
 ghost use Rattle.rules.specs.Book.{bytes};

@@ -1,5 +1,7 @@
 // Records that are found in books, and names that they show: of each, a line with where the record begins, the length
 // of its name and the name; a line with a dash where it is not there.
+#![tactic(auto)]
+
 use book::Found;
 use libc::STDOUT_FILENO;
 

@@ -1,5 +1,7 @@
 // Numbers: what a number symbol writes, powers of ten, a number's reading at a base, and whether a bound fits the
 // base's.
+#![tactic(auto)]
+
 ghost use Rattle.std.specs.Prelude.{◌≡◌, cond, ◌&&◌, ◌+◌, ◌-◌, ◌*◌, ◌≤◌, ◌<◌, ◌^◌, length, take, drop, get_or, pos, nat_abs, ◌*ℤ◌, eqb};
 ghost use Rattle.std.specs.Int.Signed.{lt_z, shr_z};
 ghost use Rattle.rules.specs.Bytes.{is, is_digit};

@@ -1,5 +1,7 @@
 // The parts of units: properties, references, types. Each reader takes the next symbol, already cut, and hands on the
 // one after what it read.
+#![tactic(auto)]
+
 pub mod types;
 
 ghost use Rattle.std.specs.Prelude.{◌≡◌, []};

@@ -1,4 +1,6 @@
 // The line and the column of a place in a text: document 02, No. 6.
+#![tactic(auto)]
+
 ghost use Rattle.std.specs.Prelude.{◌≡◌, ◌<◌, ◌≤◌, length};
 ghost use Rattle.rules.specs.Lines.{ends_at};
 ghost use Rattle.places.specs.Standing.{first_line, behind_byte, on_line, position_in};

@@ -1,4 +1,6 @@
 // What the readers of units are made of: the symbol to come. A fault goes on as a faulty symbol, which no reader takes.
+#![tactic(auto)]
+
 ghost use Rattle.std.specs.Prelude.{◌≡◌};
 ghost use Rattle.readers.specs.Reads.{passed, named};
 

@@ -1,4 +1,6 @@
 // Reads numbers at a base and prints, a line each, the number of the refusal and the value.
+#![tactic(auto)]
+
 ghost use Rattle.std.specs.Prelude.{◌≤◌};
 ghost use Rattle.rules.specs.Numbers.{magnitude_limit};
 

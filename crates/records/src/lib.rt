@@ -1,4 +1,6 @@
 // Any bytes read as a book: where a record begins and where it ends, and the name that it shows.
+#![tactic(auto)]
+
 ghost use Rattle.std.specs.Prelude.{◌≡◌};
 ghost use Rattle.rules.specs.Show.{size_of, is_named, find_record, show_name};
 ghost use Rattle.records.specs.Finding.{found_at, size_at, record_end};

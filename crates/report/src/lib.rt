@@ -1,5 +1,7 @@
 // What a person reads of an answer: a line that editors and build servers understand and, of a refusal, the line of the
 // text with a caret under the column.
+#![tactic(auto)]
+
 mod sentences;
 mod shown;
 

@@ -81,6 +81,7 @@ module _ (P : Def → Type 0) (s : State) (h : All P (known s.decls)) where
 
 -- ---- members
 pub in-append : {A : Type 0} {a : A} (l m : List A) → In a l → In a (l ++ m)
+in-append {A = A} {a = a} [] m h = elim h [ ]
 in-append (b ∷ l) m first = first
 in-append (b ∷ l) m (later h) = later (in-append l m h)
 

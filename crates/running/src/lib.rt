@@ -1,5 +1,7 @@
 // The loop over the units: each is read and judged, until one is refused or the text ends; and a text checked with what
 // is lent.
+#![tactic(auto)]
+
 ghost use Rattle.std.specs.Prelude.{◌≡◌, ℕ, ◌≤◌, min, length, replicate};
 ghost use Rattle.rules.specs.Check.{is_over};
 ghost use Rattle.members.specs.Members.{Hand};

@@ -1,4 +1,6 @@
 // Where blanks, comments and digits end in a text, and the steps through a string: document 01, "Symbols".
+#![tactic(auto)]
+
 ghost use Rattle.std.specs.Prelude.{◌≡◌, ◌&&◌, ◌+◌, ◌<◌, length, drop, get_or};
 ghost use Rattle.rules.specs.Bytes.{is_digit, is_hexadecimal};
 ghost use Rattle.rules.specs.Symbols.{escape};

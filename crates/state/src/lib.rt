@@ -1,4 +1,6 @@
 // What a text has declared so far, beside the book and the index; and what the rules of several units share.
+#![tactic(auto)]
+
 pub mod work;
 
 ghost use Rattle.std.specs.Prelude.{◌≡◌, false, ◌&&◌, ◌||◌, List, ℕ, ◌+◌, ◌*◌, ◌≤◌, ◌<◌, length, replicate};

@@ -1,4 +1,6 @@
 // Cuts a text into symbols: document 01, "Symbols".
+#![tactic(auto)]
+
 ghost use Rattle.std.specs.Prelude.{◌≡◌, false, ◌+◌, ◌-◌, ◌≤◌, ◌<◌, length, get_or};
 ghost use Rattle.rules.specs.Bytes.{part, is_digit};
 ghost use Rattle.rules.specs.Symbols.{digit_count};

@@ -2,6 +2,8 @@
 // heads of the chains, by key; then for each element the next of its chain, and then the start of its list. Each is
 // one more than the place, and 0 is none. To look up or to enter takes a step for each byte of the name and each
 // element before it in its chain: few, unless a text is made so that keys meet.
+#![tactic(auto)]
+
 pub mod twice;
 
 ghost use Rattle.std.specs.Prelude.{◌≡◌, List, ◌∷◌, ℕ, ◌+◌, ◌%◌, ◌≤◌, ◌<◌, length, get_or, eqb};

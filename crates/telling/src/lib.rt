@@ -1,4 +1,6 @@
 // What `check` tells: of a text, on standard output; of trouble, on standard error, in one line each.
+#![tactic(auto)]
+
 use answers::Answer;
 use arguments::Asked;
 use console::Out;

@@ -1,4 +1,6 @@
 // Types over a base, by value: what is meant, 9 of elements, 14 to 17 and 22, and the records of a type.
+#![tactic(auto)]
+
 pub mod laying;
 
 ghost use Rattle.std.specs.Prelude.{◌≡◌, true, false, not, ◌&&◌, ◌||◌, List, [], ◌∷◌, ℕ, ◌+◌, ◌≤◌, ◌<◌, length, take, eqb};

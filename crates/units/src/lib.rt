@@ -1,5 +1,7 @@
 // The readers of units: a unit is read from its first symbol on, and the symbol behind it is handed on. A fault goes on
 // as a faulty symbol, which no reader takes; the unit's end finds it.
+#![tactic(auto)]
+
 ghost use Rattle.std.specs.Prelude.{◌≡◌, true, cond, not, ◌&&◌, ◌||◌, List, ℕ, ◌*◌, ◌≤◌, length, eqb};
 ghost use Rattle.rules.specs.Names.{sort_number};
 ghost use Rattle.rules.specs.Units.{header_unit, model_unit, topic_unit, class_sort, class_unit, domain_unit, unit_unit};

@@ -1,4 +1,6 @@
 // Words: where one ends, and its code, by the reserved words: document 01, "Symbols".
+#![tactic(auto)]
+
 ghost use Rattle.std.specs.Prelude.{◌≡◌, true, List, ℕ, ◌+◌, ◌≤◌, ◌<◌, length};
 ghost use Rattle.rules.specs.Bytes.{part, is_letter, is_word_byte};
 ghost use Rattle.ground.specs.Parts.{run_end};

@@ -1,5 +1,7 @@
 // A type that is written over a base's, of a domain or in place at an attribute: 14 to 17 and 22, its records, and room
 // for them.
+#![tactic(auto)]
+
 ghost use Rattle.std.specs.Prelude.{◌≡◌, false, List, ℕ, ◌+◌, ◌≤◌, length, take, leb, ltb};
 ghost use Rattle.std.proofs.Math.Option.{Option};
 ghost use Rattle.rules.specs.Grammar.{WrittenType};
