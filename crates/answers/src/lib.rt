@@ -13,7 +13,7 @@ use state::Extent;
 
 // The book's length and the count of its definitions; or the number of a refusal, its place, and that place's line and
 // column.
-#[derive(Drop)]
+#[derive(Clone, Copy)]
 pub enum Answer {
     Accepted {
         length: usize,

@@ -2,7 +2,7 @@
 #![tactic(auto)]
 
 // What an argument is where options may stand. `-` is a name, that of standard input.
-#[derive(Drop)]
+#[derive(Clone, Copy)]
 pub enum Word {
     Name,
     List,
@@ -13,7 +13,7 @@ pub enum Word {
 
 // What the arguments ask for: the records, nothing but a status, files by name; how many arguments there are, which is
 // `--`, the end of the options, and which no option that is known, 0 if none.
-#[derive(Drop)]
+#[derive(Clone, Copy)]
 pub struct Asked {
     pub list: bool,
     pub quiet: bool,

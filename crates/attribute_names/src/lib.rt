@@ -30,7 +30,7 @@ use state::State;
 use units::AttributeUnit;
 
 // The rule of 4 and 9 that a name breaks, and its slot in the hand, 0 for none.
-#[derive(Drop)]
+#[derive(Clone, Copy)]
 struct Slotted {
     pub ruling: Ruling,
     pub slot: usize,
@@ -38,7 +38,7 @@ struct Slotted {
 
 // The rule of 4 to 11 that is broken; or the slot of the name in the hand, the position of the nearest inherited
 // attribute and that of what the type's reference leads to, each 0 for none.
-#[derive(Drop)]
+#[derive(Clone, Copy)]
 pub struct Bonds {
     pub ruling: Ruling,
     pub slot: usize,

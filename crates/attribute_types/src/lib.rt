@@ -29,7 +29,7 @@ use units::AttributeUnit;
 
 // The positions of an attribute's base, of the definition that it names and of the one that its base names, each 0 for
 // none; its type over its base's, a structure's where there is no base.
-#[derive(Drop)]
+#[derive(Clone, Copy)]
 pub struct Uses {
     pub base: usize,
     pub named: usize,
@@ -38,7 +38,7 @@ pub struct Uses {
 }
 
 // The rule of 12 and 13 that is broken, and what types the attribute.
-#[derive(Drop)]
+#[derive(Clone, Copy)]
 pub struct Typings {
     pub ruling: Ruling,
     pub uses: Uses,

@@ -54,7 +54,7 @@ pub const CLASS_END_SIZE: usize = 1;
 
 // ---- what is sought
 // A place, or that there is none.
-#[derive(Drop)]
+#[derive(Clone, Copy)]
 pub enum Found {
     At(usize),
     Nothing,
@@ -62,7 +62,7 @@ pub enum Found {
 
 // ---- the name that a record has
 // A part of a text.
-#[derive(Drop)]
+#[derive(Clone, Copy)]
 pub struct Part {
     pub start: usize,
     pub len: usize,

@@ -13,14 +13,14 @@ use libc::STDOUT_FILENO;
 pub const ROOM: usize = 65536;
 
 // How many bytes were read, or that reading failed.
-#[derive(Drop)]
+#[derive(Clone, Copy)]
 pub enum Input {
     Read(usize),
     Failed,
 }
 
 // How much of the page is filled; or that a write failed, which stays so.
-#[derive(Drop)]
+#[derive(Clone, Copy)]
 pub enum Out {
     Filled(usize),
     Failed,

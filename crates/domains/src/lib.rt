@@ -45,7 +45,7 @@ use written::Laying;
 
 // The rule of 10 to 12 that is broken; the positions of what EXTENDS and the type's reference lead to, each 0 for
 // nothing.
-#[derive(Drop)]
+#[derive(Clone, Copy)]
 struct Reached {
     pub ruling: Ruling,
     pub base: usize,

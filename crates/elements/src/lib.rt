@@ -17,7 +17,7 @@ use readers::{expect, name_of};
 use symbols::{Symbol, faulty};
 
 // How far the records in the scratch reach, and the symbol that is left.
-#[derive(Drop)]
+#[derive(Clone, Copy)]
 pub struct Noted {
     pub bytes: usize,
     pub next: Symbol,

@@ -16,14 +16,14 @@ use book::{ELEMENT_SIZE, LIST_END_SIZE, LIST_FINAL, LIST_SIZE, Part, kinds, writ
 pub const NOWHERE: usize = 4294967295;
 
 // Past the record that closes a list, and how many records that passes.
-#[derive(Drop)]
+#[derive(Clone, Copy)]
 pub struct End {
     pub at: usize,
     pub records: usize,
 }
 
 // How much records take.
-#[derive(Drop)]
+#[derive(Clone, Copy)]
 pub struct Size {
     pub bytes: usize,
     pub records: usize,
@@ -31,7 +31,7 @@ pub struct Size {
 
 // The inner enumeration behind an element's name: where its list stands, whether it has records at all, whether it is
 // FINAL.
-#[derive(Drop)]
+#[derive(Clone, Copy)]
 pub struct Inner {
     pub list: usize,
     pub there: bool,

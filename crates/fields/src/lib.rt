@@ -38,7 +38,7 @@ pub fn put_name(page: &mut [u8], out: Out, name: &[u8]) -> Out {
 }
 
 // What is put of a record's flags: whether any is.
-#[derive(Drop)]
+#[derive(Clone, Copy)]
 struct Flags {
     out: Out,
     any: bool,

@@ -20,7 +20,7 @@ use crate::reading::typing_at;
 
 // A text type by the kind of its record, 0 for no length; an enumeration by the place of its records in the book; a
 // number's unit is 0 for none, else one more than its record number.
-#[derive(Drop)]
+#[derive(Clone, Copy)]
 pub enum Typing {
     Text {
         kind: u8,

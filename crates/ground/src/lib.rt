@@ -10,14 +10,14 @@ ghost use Rattle.rules.specs.Show.{read4};
 ghost use Rattle.ground.specs.Parts.{part, splice, put_at};
 
 // A name, or another part of the text: its place and its length.
-#[derive(Drop)]
+#[derive(Clone, Copy)]
 pub struct Name {
     pub offset: usize,
     pub len: usize,
 }
 
 // A name alone, one in the model, one in a topic of the model.
-#[derive(Drop)]
+#[derive(Clone, Copy)]
 pub enum Reference {
     Bare(Name),
     InModel(Name, Name),
@@ -25,7 +25,7 @@ pub enum Reference {
 }
 
 // A rule that is broken, and its place; 0 for none.
-#[derive(Drop)]
+#[derive(Clone, Copy)]
 pub struct Ruling {
     pub number: u8,
     pub place: usize,

@@ -15,14 +15,14 @@ use tables::twice::gather;
 use tables::{Grid, find_in};
 
 // It fits, or not, or as the two lists say.
-#[derive(Drop)]
+#[derive(Clone, Copy)]
 pub enum Held {
     Fits,
     Misfit,
     Deeper,
 }
 
-#[derive(Drop)]
+#[derive(Clone, Copy)]
 pub struct Pair {
     pub held: Held,
     pub own: Inner,

@@ -225,7 +225,7 @@ pub fn fill(
 }
 
 // Whose attributes are in hand, a definition's by its position, and how many they are.
-#[derive(Drop)]
+#[derive(Clone, Copy)]
 pub struct Held {
     pub class: usize,
     pub count: usize,
@@ -260,7 +260,7 @@ pub fn inherit(
 // ---- entering
 // What the index has of an attribute. use_of: the position of the domain or structure that it names, 0 for a type in
 // place.
-#[derive(Drop)]
+#[derive(Clone, Copy)]
 pub struct NewAttribute {
     pub name: Name,
     pub number: usize,

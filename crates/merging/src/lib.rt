@@ -21,7 +21,7 @@ use tables::{Grid, find_in};
 
 // What one step writes: nothing; the end of a list; an element; an element and the opening of its list; or nothing may
 // be written.
-#[derive(Drop)]
+#[derive(Clone, Copy)]
 pub enum Emit {
     Quiet,
     Close,
@@ -33,7 +33,7 @@ pub enum Emit {
 // An open list. While the base's elements are written, `at` stands in the base's list and `own` is the start of the
 // extension's; then `adding` holds, and `at` stands in the extension's. `base` is the start of the base's list, and
 // `is_final` its FINAL.
-#[derive(Drop)]
+#[derive(Clone, Copy)]
 pub struct Position {
     pub base: usize,
     pub at: usize,
@@ -43,14 +43,14 @@ pub struct Position {
 }
 
 // The open lists, the innermost at `depth - 1`.
-#[derive(Drop)]
+#[derive(Clone, Copy)]
 pub struct Walk {
     pub places: [Position; 8],
     pub depth: usize,
 }
 
 // A step goes on at `next` in the innermost list, opens `child` besides, or leaves the list.
-#[derive(Drop)]
+#[derive(Clone, Copy)]
 pub enum Turn {
     Go,
     Enter,
@@ -58,14 +58,14 @@ pub enum Turn {
 }
 
 // Of the table of the extension's elements, the first `part` of the lent numbers, and of that of the base's, the rest.
-#[derive(Drop)]
+#[derive(Clone, Copy)]
 pub struct Grids {
     pub part: usize,
     pub own: Grid,
     pub base: Grid,
 }
 
-#[derive(Drop)]
+#[derive(Clone, Copy)]
 pub struct Move {
     pub emit: Emit,
     pub turn: Turn,
@@ -259,7 +259,7 @@ impl Walk {
 
 // ---- writing
 // What a step writes: the first `len` of these bytes.
-#[derive(Drop)]
+#[derive(Clone, Copy)]
 pub struct Piece {
     pub bytes: [u8; 8],
     pub len: usize,
@@ -339,14 +339,14 @@ fn is_barred(e: Emit) -> bool
 
 // ---- the whole walk
 // How much is written, or would be; or something is added where nothing may be.
-#[derive(Drop)]
+#[derive(Clone, Copy)]
 pub enum Laid {
     Whole(Size),
     Misfit,
 }
 
 // A walk that starts with `first` and writes from `start` on, where `begun` stands already, in at most `fuel` steps.
-#[derive(Drop)]
+#[derive(Clone, Copy)]
 pub struct Course {
     pub start: usize,
     pub begun: Size,

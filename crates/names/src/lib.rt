@@ -330,7 +330,7 @@ pub fn descends(index: &[u16], count: usize, p: usize, number: usize) -> bool
 // ---- entering
 // What the index has of a definition. home: 0 at the model's level, else one more than the topic's record number; base:
 // its position, 0 for none; first: how many attributes stand before its own.
-#[derive(Drop)]
+#[derive(Clone, Copy)]
 pub struct NewDefinition {
     pub name: Name,
     pub home: usize,

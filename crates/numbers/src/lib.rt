@@ -15,21 +15,21 @@ ghost use Rattle.numbers.specs.Bounds.{low_fits, high_fits};
 pub const MOST_DECIMALS: u64 = 17;
 
 // The number that a symbol writes, without its dot, and its count of decimals.
-#[derive(Drop)]
+#[derive(Clone, Copy)]
 pub struct Number {
     pub value: i64,
     pub decimals: u64,
 }
 
 // The same before its sign is looked at.
-#[derive(Drop)]
+#[derive(Clone, Copy)]
 struct Figures {
     value: u64,
     decimals: u64,
 }
 
 // A number read at a base, or refused: out of scope (20), or too great when read (21).
-#[derive(Drop)]
+#[derive(Clone, Copy)]
 pub enum Reading {
     Value(i64),
     OutOfScope,

@@ -16,14 +16,14 @@ use symbols::{Symbol, faulty};
 
 // ---- properties
 // What properties are written at: an attribute; a class, structure or domain; a unit of numbers.
-#[derive(Drop)]
+#[derive(Clone, Copy)]
 pub enum Owner {
     Attribute,
     Definition,
     Measure,
 }
 
-#[derive(Drop)]
+#[derive(Clone, Copy)]
 pub struct Properties {
     pub is_abstract: bool,
     pub is_final: bool,
@@ -31,7 +31,7 @@ pub struct Properties {
     pub twice: bool,
 }
 
-#[derive(Drop)]
+#[derive(Clone, Copy)]
 pub struct PropertiesRead {
     pub properties: Properties,
     pub next: Symbol,
@@ -128,7 +128,7 @@ pub fn read_properties(text: &[u8], y: Symbol, owner: Owner) -> PropertiesRead
 }
 
 // ---- references
-#[derive(Drop)]
+#[derive(Clone, Copy)]
 pub struct ReferenceRead {
     pub reference: Reference,
     pub next: Symbol,
@@ -160,13 +160,13 @@ pub fn read_reference(text: &[u8], y: Symbol) -> ReferenceRead
 }
 
 // What EXTENDS or a type names, if anything.
-#[derive(Drop)]
+#[derive(Clone, Copy)]
 pub enum Optional {
     Nothing,
     Given(Reference),
 }
 
-#[derive(Drop)]
+#[derive(Clone, Copy)]
 pub struct OptionalRead {
     pub reference: Optional,
     pub next: Symbol,

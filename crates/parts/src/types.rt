@@ -21,7 +21,7 @@ use symbols::{Symbol, faulty};
 
 // What is written: MANDATORY alone; TEXT or MTEXT, by the kind of its record, and with a length that stands at a place;
 // a range; NUMERIC; an enumeration, whose records stand in the scratch up to a place; a reference in place of a type.
-#[derive(Drop)]
+#[derive(Clone, Copy)]
 pub enum Meant {
     Alone,
     Text { kind: u8 },
@@ -32,7 +32,7 @@ pub enum Meant {
     Named,
 }
 
-#[derive(Drop)]
+#[derive(Clone, Copy)]
 pub struct MeantRead {
     pub meant: Meant,
     pub reference: Optional,
@@ -40,7 +40,7 @@ pub struct MeantRead {
 }
 
 // MANDATORY, the place of the type's first symbol, the type, and the reference to its unit or in place of a type.
-#[derive(Drop)]
+#[derive(Clone, Copy)]
 pub struct Written {
     pub mandatory: bool,
     pub place: usize,
@@ -48,14 +48,14 @@ pub struct Written {
     pub reference: Optional,
 }
 
-#[derive(Drop)]
+#[derive(Clone, Copy)]
 pub struct WrittenRead {
     pub written: Written,
     pub next: Symbol,
 }
 
 // An unsigned whole number, or another.
-#[derive(Drop)]
+#[derive(Clone, Copy)]
 pub enum Whole {
     Count(u64),
     Other,

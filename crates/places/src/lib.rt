@@ -7,13 +7,13 @@ ghost use Rattle.places.specs.Standing.{first_line, behind_byte, on_line, positi
 
 // The line that a place stands on: its number, and where it begins. Both are cut to four bytes; a text that is checked
 // has at most 65,536 lines.
-#[derive(Drop)]
+#[derive(Clone, Copy)]
 pub struct Line {
     pub number: u32,
     pub begin: u32,
 }
 
-#[derive(Drop)]
+#[derive(Clone, Copy)]
 pub struct Position {
     pub line: usize,
     pub column: usize,

@@ -97,7 +97,7 @@ fn record_end(book: &[u8], at: usize) -> Found
 }
 
 // A record reader: the book, and the position at which it reads.
-#[derive(Drop)]
+#[derive(Clone, Copy)]
 pub struct RecordReader<'a> {
     pub book: &'a [u8],
     pub position: usize,

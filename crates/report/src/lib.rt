@@ -21,7 +21,7 @@ const WIDTH: usize = 72;
 const BEFORE: usize = 36;
 
 // What is shown of a line.
-#[derive(Drop)]
+#[derive(Clone, Copy)]
 struct Excerpt {
     from: usize,
     to: usize,

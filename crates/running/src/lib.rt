@@ -19,14 +19,14 @@ use symbols::{Cursor, Symbol};
 use units::{Step, Where};
 
 // Between two units: what is declared, where the next unit stands, and its first symbol.
-#[derive(Drop)]
+#[derive(Clone, Copy)]
 pub struct Stage {
     pub state: State,
     pub at: Where,
     pub next: Symbol,
 }
 
-#[derive(Drop)]
+#[derive(Clone, Copy)]
 pub enum Turn {
     On(Stage),
     End(Answer),

@@ -10,7 +10,7 @@ ghost use Rattle.scans.specs.Scans.{is_blank, not_line_end, two_at, close_of, co
 use places::Line;
 
 // A comment runs to a place, which stands on a line; it is never closed, or is not there.
-#[derive(Drop)]
+#[derive(Clone, Copy)]
 pub enum Pass {
     To { end: usize, line: Line },
     Open,

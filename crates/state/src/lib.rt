@@ -33,7 +33,7 @@ use parts::types::Meant;
 use parts::{Optional, Properties};
 
 // How many bytes of the book are written, of how many records and definitions.
-#[derive(Drop)]
+#[derive(Clone, Copy)]
 pub struct Extent {
     pub used: usize,
     pub records: usize,
@@ -42,7 +42,7 @@ pub struct Extent {
 
 // Where the parts of `work` begin, and where the last ends: the index of definitions, the rows of attributes, the
 // chains.
-#[derive(Drop)]
+#[derive(Clone, Copy)]
 pub struct Layout {
     pub index: usize,
     pub rows: usize,
@@ -51,7 +51,7 @@ pub struct Layout {
 }
 
 // How many definitions the index has, and attributes; where they stand.
-#[derive(Drop)]
+#[derive(Clone, Copy)]
 pub struct Listing {
     pub count: usize,
     pub total: usize,
@@ -60,7 +60,7 @@ pub struct Listing {
 
 // The model's name; the open topic's name, and 0 or one more than its record number; how many classes are open, 0 or 1;
 // how many attributes are in hand, and whose they are while no class is open, 0 for none's.
-#[derive(Drop)]
+#[derive(Clone, Copy)]
 pub struct Context {
     pub model: Name,
     pub topic: Name,
@@ -70,7 +70,7 @@ pub struct Context {
     pub held: usize,
 }
 
-#[derive(Drop)]
+#[derive(Clone, Copy)]
 pub struct State {
     pub extent: Extent,
     pub listing: Listing,
@@ -78,7 +78,7 @@ pub struct State {
 }
 
 // The state after a unit, or the number and the place of the rule that it breaks.
-#[derive(Drop)]
+#[derive(Clone, Copy)]
 pub enum Judged {
     Fine(State),
     Refused { number: u8, place: usize },
@@ -376,7 +376,7 @@ pub fn first_place(r: Reference) -> usize
 }
 
 // The rule of 10 to 12 that EXTENDS breaks, and the position of what it names, 0 for nothing.
-#[derive(Drop)]
+#[derive(Clone, Copy)]
 pub struct Extension {
     pub ruling: Ruling,
     pub base: usize,

@@ -11,7 +11,7 @@ use places::{Line, Position};
 use scans::Pass;
 
 // A place in the text, from which on the next symbol is cut, and the line that it stands on.
-#[derive(Drop)]
+#[derive(Clone, Copy)]
 pub struct Cursor {
     at: usize,
     line: Line,
@@ -22,7 +22,7 @@ pub struct Cursor {
 // refusal: the number that refuses the symbol where it is not possible: its own fault's, or 5.
 // Both have four bytes, so that none is left empty before the places: empty ones are copied too, and slowly.
 // The cursor behind it says where it ends. Its line is the symbol's own: no symbol holds a line end.
-#[derive(Drop)]
+#[derive(Clone, Copy)]
 pub struct Symbol {
     pub code: u32,
     pub refusal: u32,
@@ -31,7 +31,7 @@ pub struct Symbol {
 }
 
 // What begins with a byte.
-#[derive(Drop)]
+#[derive(Clone, Copy)]
 enum Class {
     Letter,
     Digit,

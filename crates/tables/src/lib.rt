@@ -19,7 +19,7 @@ use enumerations::{NOWHERE, find, is_element, is_opening, is_within, list_end, s
 // An enumeration's elements stand from `from` on. One is six bytes long, so that its place by six is a number of its
 // own, below `keys`: there are as many keys as elements have room, and an enumeration takes as much of the table as it
 // is long.
-#[derive(Drop)]
+#[derive(Clone, Copy)]
 pub struct Grid {
     pub from: usize,
     pub keys: usize,

@@ -13,7 +13,7 @@ use book::{ELEMENT_SIZE, Found, LIST_SIZE, written_name};
 use enumerations::{is_element, is_opening};
 
 // The place of the name of a doubled element; or past the list, if it has none.
-#[derive(Drop)]
+#[derive(Clone, Copy)]
 pub enum Checked {
     Twice(usize),
     Past(usize),

@@ -34,7 +34,7 @@ use parts::types::Meant;
 
 // A type over its base's, if it has a base; else the base's is a structure. keeps: its unit is the base's or descends
 // from it.
-#[derive(Drop)]
+#[derive(Clone, Copy)]
 pub struct Over {
     pub based: bool,
     pub own: Typing,

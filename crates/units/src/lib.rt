@@ -17,7 +17,7 @@ use readers::{expect, name_of};
 use symbols::Symbol;
 
 // The run that is open: none, of domains, of units of numbers.
-#[derive(Drop)]
+#[derive(Clone, Copy)]
 pub enum Run {
     Nothing,
     Domains,
@@ -26,7 +26,7 @@ pub enum Run {
 
 // Where the next unit stands: before the header; behind it; in the model or a topic, perhaps in a run; in a class,
 // perhaps right after its head; behind the model's END.
-#[derive(Drop)]
+#[derive(Clone, Copy)]
 pub enum Where {
     Start,
     AfterHeader,
@@ -36,7 +36,7 @@ pub enum Where {
 }
 
 // The model's name, and where the strings behind AT and VERSION stand.
-#[derive(Drop)]
+#[derive(Clone, Copy)]
 pub struct ModelHead {
     pub name: Name,
     pub address: Name,
@@ -44,7 +44,7 @@ pub struct ModelHead {
 }
 
 // Of a class, a structure or a unit of numbers, by the number of its sort.
-#[derive(Drop)]
+#[derive(Clone, Copy)]
 pub struct Head {
     pub sort: usize,
     pub name: Name,
@@ -52,7 +52,7 @@ pub struct Head {
     pub base: Optional,
 }
 
-#[derive(Drop)]
+#[derive(Clone, Copy)]
 pub struct DomainUnit {
     pub name: Name,
     pub properties: Properties,
@@ -60,7 +60,7 @@ pub struct DomainUnit {
     pub written: Written,
 }
 
-#[derive(Drop)]
+#[derive(Clone, Copy)]
 pub struct AttributeUnit {
     pub name: Name,
     pub properties: Properties,
@@ -69,7 +69,7 @@ pub struct AttributeUnit {
 
 // The header's number; names of a topic and after END; a unit of numbers is a measure; DOMAIN, UNIT, ATTRIBUTE and the
 // end of the text are marks.
-#[derive(Drop)]
+#[derive(Clone, Copy)]
 pub enum Unit {
     Header(Name),
     Model(ModelHead),
@@ -84,7 +84,7 @@ pub enum Unit {
 
 // A unit, where the next one stands and its first symbol; or the symbol that keeps it from being read. Where the next
 // one stands comes first, beside the variant's own byte: behind the unit it would leave bytes empty before the symbol.
-#[derive(Drop)]
+#[derive(Clone, Copy)]
 pub enum Step {
     Read { at: Where, unit: Unit, next: Symbol },
     Unread(Symbol),

@@ -26,7 +26,7 @@ use parts::types::Written;
 use types::Over;
 
 // The size of a type's records, or the rule that it breaks.
-#[derive(Drop)]
+#[derive(Clone, Copy)]
 pub enum Laying {
     Whole(Size),
     Broken(Ruling),
