@@ -1,0 +1,18 @@
+use Rattle.names.specs.Index.{entry}
+use Rattle.attribute_records.proofs.LayLaws.{alone-is, alone-use, written-use}
+use borrow.Author.Rules.{rules}
+use Rattle.attribute_records.proofs.use_at.Goals as goal
+
+pub returns-in-Alone : goal.returns-in-Alone
+returns-in-Alone c = (
+  λ ks w v p e q r h. alone-use ks c.args.kept (entry ks p) w v
+      (alone-is c.args.a.written.meant c.in-Alone.is w e) h,
+  λ n a b. b,
+)
+
+pub returns : goal.returns
+returns c = (
+  λ ks w v p e q r h.
+      written-use ks p c.args.named c.args.a.written.meant c.in_default.keys2 w e q r v,
+  λ n a b. a,
+)

@@ -1,0 +1,6 @@
+use Rattle.auzuplens.proofs.PackLaws.{packed-part}
+use borrow.Author.Rules.{rules}
+use Rattle.auzuplens.proofs.auzuplens_show.Goals as goal
+
+pub returns : goal.returns
+returns c = packed-part _ _ c.name_part-p.ensures

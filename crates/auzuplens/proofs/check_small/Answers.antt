@@ -1,0 +1,21 @@
+use mathlib.Core.Path.{refl}
+use native.Mathlib.Omega.{arith}
+use borrow.Author.Rules.{rules}
+use Rattle.state.proofs.RoomLaws.{laid_out}
+use Rattle.auzuplens.proofs.PackLaws.{all-zero}
+use Rattle.auzuplens.proofs.check_small.Goals as goal
+
+pub check_with-requires : goal.check_with-requires
+check_with-requires c = (
+  record {
+    text_short = omega arith;
+    book_short = omega arith;
+    scratch_wide = omega arith;
+    scratch_short = omega arith;
+    tables_wide = omega arith;
+  },
+  ((λ st e q. laid_out st _ _ e (omega arith) (omega arith) (omega arith) (omega arith), refl), all-zero _ _ refl),
+)
+
+pub returns : goal.returns
+returns c = c.check_with.ensures.unless_full

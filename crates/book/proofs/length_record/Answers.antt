@@ -1,0 +1,5 @@
+use borrow.Author.Rules.{rules}
+use Rattle.book.proofs.length_record.Goals as goal
+
+pub returns : goal.returns
+returns c = rw c.low4-b.ensures

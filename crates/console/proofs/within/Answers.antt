@@ -1,0 +1,9 @@
+use mathlib.Core.Path.{sym}
+use lib.Seq.{length-take-le}
+use borrow.Author.Rules.{rules}
+use Rattle.console.proofs.within.Goals as goal
+
+pub returns : goal.returns
+returns c =
+    let h = c.least.ensures.1 in
+    (h, sym (length-take-le _ _ h))

@@ -1,0 +1,15 @@
+use mathlib.Core.Path.{refl}
+use Rattle.domains.proofs.StageLaws.{name-taken, name_free}
+use borrow.Author.Rules.{rules}
+use Rattle.domains.proofs.name_ruling.Goals as goal
+
+pub returns-then-is_taken : goal.returns-then-is_taken
+returns-then-is_taken c =
+    λ s n w o hs k e h m r. name-taken c.args.text.now s n w c.args.name e h
+    c.is_taken.result (c.is_taken.ensures c.args.st s o hs refl refl k) c.if-is_taken.true
+
+pub returns : goal.returns
+returns c =
+    λ s n w o hs k e h m r. name_free c.args.text.now s n w c.args.name e h c.is_taken.result
+    (c.is_taken.ensures c.args.st s o hs refl refl k) c.if-is_taken.false c.element_ruling.result
+    (c.element_ruling.ensures w m r)

@@ -1,0 +1,7 @@
+use Rattle.elements.proofs.SizeLaws.{fits_whole}
+use borrow.Author.Rules.{rules}
+use Rattle.elements.proofs.outermost.Goals as goal
+
+pub returns : goal.returns
+returns c =
+    fits_whole c.args.text.now c.args.scratch.now _ _ c.requires.0 c.requires.1.1 c.enumeration.ensures

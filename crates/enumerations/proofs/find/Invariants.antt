@@ -1,0 +1,16 @@
+use borrow.Author.Rules.{rules}
+use native.Mathlib.Omega.{arith}
+use mathlib.Core.Path.{◌≡◌, refl, sym, ◌∙◌}
+use Prim.Native.Nat.{ℕ, ◌+◌, ◌-◌, ◌<◌}
+use lib.ListN.{length}
+use Rattle.enumerations.specs.Lists.{nowhere, find_from}
+use Rattle.enumerations.proofs.ListLaws.{as_written, element-in, more, find-here, find-next, find_none}
+use Rattle.book.specs.Sizes.{element_size}
+use Rattle.enumerations.proofs.find.Given as goal
+
+abbrev pub invariant-loop-name : goal.invariant-loop-name
+invariant-loop-name l = (r : ℕ) → ((g : ℕ) → length l.s - l.at < g → r ≡ find_from g l.text l.s l.at l.name)
+    → (f : ℕ) → length l.s - l.list < f → r ≡ find_from f l.text l.s l.list l.name
+
+abbrev pub decreases-loop-name : goal.decreases-loop-name
+decreases-loop-name l = length l.s - l.at

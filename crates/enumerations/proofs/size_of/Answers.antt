@@ -1,0 +1,23 @@
+use native.Mathlib.Omega.{arith}
+use mathlib.Core.Path.{sym, ◌∙◌}
+use Prim.Native.Nat.{◌+◌}
+use lib.ListN.{length}
+use Rattle.enumerations.proofs.ListLaws.{opening-in}
+use Rattle.enumerations.proofs.WrittenLaws.{size-stands, not-stands}
+use borrow.Author.Rules.{rules}
+use Rattle.enumerations.proofs.size_of.Goals as goal
+
+pub overflow_add-at : goal.overflow_add-at
+overflow_add-at c = omega (arith, opening-in _ _ (sym c.is_opening.ensures ∙ c.if-is_opening.true))
+
+pub list_end-e-requires : goal.list_end-e-requires
+list_end-e-requires c = omega (arith, opening-in _ _ (sym c.is_opening.ensures ∙ c.if-is_opening.true))
+
+pub returns-then-is_opening : goal.returns-then-is_opening
+returns-then-is_opening c =
+    λ t e h. size-stands t c.args.s.now e c.args.at h c.list_end-e.result
+    (c.list_end-e.ensures.0 (length c.args.s.now + 1) (omega arith))
+
+pub returns : goal.returns
+returns c =
+    λ t e h. not-stands t c.args.s.now e c.args.at h (sym c.is_opening.ensures ∙ c.if-is_opening.false)

@@ -1,0 +1,8 @@
+use mathlib.Core.Path.{◌∙◌}
+use Rattle.numbers.proofs.SignedLaws.{kept}
+use borrow.Author.Rules.{rules}
+use Rattle.fitting.proofs.reading.signed_at.Goals as goal
+
+pub returns : goal.returns
+returns c =
+    kept c.signed.result c.signed.type-inv ∙ c.signed.ensures ∙ rw (c.get4.ensures, c.get4-2.ensures)

@@ -1,0 +1,41 @@
+use mathlib.Core.Path.{◌≡◌, sym, ◌∙◌}
+use mathlib.Core.List.{List, ◌++◌}
+use Prim.Native.Nat.{◌+◌, ◌-◌, ◌≤◌}
+use lib.ListN.{length, take, drop}
+use Rattle.rules.specs.Declarations.{Attribute}
+use Rattle.members.specs.Members.{Members, Unlike, Filled, nearest_to, most, Hand}
+use Rattle.members.proofs.FillLaws.{own-next, own-done, own-none}
+use native.Mathlib.Omega.{arith}
+use borrow.Author.Rules.{rules}
+use Rattle.members.proofs.add_own.Goals as goal
+
+pub loop-q-init : goal.loop-q-init
+loop-q-init c = (
+  omega arith,
+  omega arith,
+  omega arith,
+  c.requires.4,
+  λ ms g own more k f e l u w. own-none ms g own c.args.first c.args.count _ f,
+)
+
+pub loop-q-preserved : goal.loop-q-preserved
+loop-q-preserved c = (
+  omega arith,
+  c.add-n.ensures.1,
+  omega (arith, c.add-n.ensures.0),
+  c.add-n.auto.1.1.1.1.0 ∙ c.loop-q.invariant.3,
+  λ ms g own more k f e l u w. own-next ms g own more c.args.first c.args.last c.loop-q.q e l u w
+      c.loop-q.invariant.0 c.loop-q-test.true _ c.loop-q.n c.args.count f.all
+      (c.loop-q.invariant.4 ms g own more k f e l u w) _ _ (λ h a. c.add-n.ensures.2 ms g h a k),
+)
+
+pub shape_of-hand : goal.shape_of-hand
+shape_of-hand c =
+    c.loop-q.invariant.3 ∙ sym c.requires.4
+
+pub returns : goal.returns
+returns c = (
+  c.loop-q.invariant.1,
+  λ ms g own more k f e l u w. own-done ms g own c.args.first c.args.last c.loop-q.q _ _ l
+      (omega arith) (c.loop-q.invariant.4 ms g own more k f e l u w),
+)

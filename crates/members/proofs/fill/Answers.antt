@@ -1,0 +1,67 @@
+use mathlib.Core.Path.{◌≡◌, sym, ◌∙◌}
+use mathlib.Core.List.{List}
+use Prim.Native.Nat.{◌≤◌}
+use Rattle.rules.specs.Declarations.{Attribute, Def, attributes_of, name_count}
+use Rattle.rules.specs.Judge.{or_no_def}
+use Rattle.names.specs.Index.{entry}
+use Rattle.members.specs.Members.{Indexed, most, Hand}
+use Rattle.members.proofs.FillLaws.{base-few, Chain, chain-start, chain_next, chain-end, last_within, base-less}
+use native.Mathlib.Omega.{arith}
+use borrow.Author.Rules.{rules}
+use Rattle.members.proofs.fill.Goals as goal
+
+pub loop-c-init : goal.loop-c-init
+loop-c-init c =
+    (omega arith, omega arith, c.requires.4, λ ks ms k w. chain-start ks ms c.args.base _)
+
+pub returns-then-total-last : goal.returns-then-total-last
+returns-then-total-last c = (
+  c.loop-c.invariant.1,
+  λ ks ms k.
+      let v = last_within c.args.text.now ks ms c.args.index.now c.args.count c.args.rows.now
+      c.args.total k c.loop-c.c c.loop-c-test.true (omega arith) in
+      absurd (omega (arith, c.if-total-last.true, c.field-last.ensures.0)),
+)
+
+pub add_own-n-requires : goal.add_own-n-requires
+add_own-n-requires c =
+    (omega arith, omega (arith, c.if-total-last.false), omega arith, c.loop-c.invariant.1, c.loop-c.invariant.2)
+
+pub shape_of-hand-then-c-b : goal.shape_of-hand-then-c-b
+shape_of-hand-then-c-b c =
+    c.add_own-n.auto.1.1.1.1.1.0 ∙ c.loop-c.invariant.2 ∙ sym c.requires.4
+
+pub returns-then-c-b : goal.returns-then-c-b
+returns-then-c-b c = (
+  c.add_own-n.ensures.0,
+  λ ks ms k.
+      let v = base-less c.args.text.now ks ms c.args.index.now c.args.count c.args.rows.now
+      c.args.total k c.loop-c.c c.loop-c-test.true (omega arith) _ c.field-b.ensures.0 in
+      absurd (omega (arith, c.if-c-b.true)),
+)
+
+pub loop-c-preserved : goal.loop-c-preserved
+loop-c-preserved c = (
+  omega arith,
+  c.add_own-n.ensures.0,
+  c.add_own-n.auto.1.1.1.1.1.0 ∙ c.loop-c.invariant.2,
+  λ ks ms k w. chain_next c.args.text.now ks ms c.args.index.now c.args.count c.args.rows.now
+      c.args.total k c.args.base c.loop-c.c c.loop-c-test.true (omega arith) w _ _
+      (c.loop-c.invariant.3 ks ms k w) _ _ _ c.field-first.ensures.0 c.field-last.ensures.0 c.field-b.ensures.0 _ _
+      (λ g own more. c.add_own-n.ensures.1 ms g own more k.members),
+)
+
+pub returns : goal.returns
+returns c = (
+  c.loop-c.invariant.1,
+  λ ks ms k. chain-end ks ms c.args.base _ _ c.loop-c.c (omega arith)
+      (c.loop-c.invariant.3 ks ms k (base-few _ ks ms _ _ _ _ k c.args.base (omega (arith, c.requires.0)))),
+)
+
+pub shape_of-hand-then-total-last : goal.shape_of-hand-then-total-last
+shape_of-hand-then-total-last c =
+    c.loop-c.invariant.2 ∙ sym c.requires.4
+
+pub shape_of-hand : goal.shape_of-hand
+shape_of-hand c =
+    c.loop-c.invariant.2 ∙ sym c.requires.4

@@ -1,0 +1,6 @@
+use mathlib.Core.Path.{◌∙◌}
+use borrow.Author.Rules.{rules}
+use Rattle.merging.proofs.shared.Goals as goal
+
+pub returns : goal.returns
+returns c = c.element_move.ensures ∙ rw (c.either.ensures, c.either-2.ensures)

@@ -1,0 +1,16 @@
+use mathlib.Core.Path.{◌≡◌, sym, ap, ◌∙◌}
+use Prim.Native.Nat.{ℕ, ◌+◌, ◌-◌, ◌*◌, ◌%◌, ◌<◌, ◌≤◌}
+use native.Mathlib.Nat.{add-zero, sub-zero}
+use Rattle.ground.specs.Parts.{part}
+use Rattle.names.specs.Chains.{key_from, key_of, keys}
+use Rattle.names.proofs.ChainLaws.{key-next, key-end}
+use native.Mathlib.Omega.{arith}
+use borrow.Author.Rules.{rules}
+use Rattle.names.proofs.key_of.Given as goal
+
+abbrev pub invariant-loop-i : goal.invariant-loop-i
+invariant-loop-i l =
+    (l.i ≤ l.len) × (l.k < keys) × (key_of (part l.text l.offset l.len) ≡ key_from l.k (part l.text (l.offset + l.i) (l.len - l.i)))
+
+abbrev pub decreases-loop-i : goal.decreases-loop-i
+decreases-loop-i l = l.len - l.i

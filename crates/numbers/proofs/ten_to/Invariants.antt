@@ -1,0 +1,12 @@
+use Prim.Native.Nat.{◌-◌, ◌≤◌, ◌^◌}
+use native.Mathlib.Omega.{arith}
+use borrow.Author.Rules.{rules}
+use Rattle.rules.specs.Numbers.{most_decimals}
+use Rattle.numbers.proofs.PowerLaws.{ten-most, ten-more}
+use Rattle.numbers.proofs.ten_to.Given as goal
+
+abbrev pub invariant-loop : goal.invariant-loop
+invariant-loop l = (l.power ≡ 10 ^ l.counter) × (l.counter ≤ l.n)
+
+abbrev pub decreases-loop : goal.decreases-loop
+decreases-loop l = l.n - l.counter

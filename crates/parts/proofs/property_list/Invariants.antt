@@ -1,0 +1,12 @@
+use Prim.Native.Nat.{◌-◌}
+use Rattle.parts.proofs.PropertyLaws.{Loop, loop-first, loop-on, loop-falls, list-end, list-fault}
+use lib.ListN.{length}
+use mathlib.Core.Path.{sym, ◌∙◌}
+use borrow.Author.Rules.{rules}
+use Rattle.parts.proofs.property_list.Given as goal
+
+abbrev pub invariant-loop-owner : goal.invariant-loop-owner
+invariant-loop-owner l = Loop l.text l.owner l.initial.have l.initial.z l.have l.z
+
+abbrev pub decreases-loop-owner : goal.decreases-loop-owner
+decreases-loop-owner l = length l.text - l.z.place

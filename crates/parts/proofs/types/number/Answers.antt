@@ -1,0 +1,16 @@
+use Rattle.parts.proofs.TypeLaws.{number-stands, number_read}
+use borrow.Author.Rules.{rules}
+use Rattle.parts.proofs.types.number.Goals as goal
+
+pub number_at-requires : goal.number_at-requires
+number_at-requires c =
+    let h = number-stands c.requires c.if-y-eq-NUMBER.true in rw c.length_of.ensures (h.0, h.2)
+
+pub returns-then-y-eq-NUMBER : goal.returns-then-y-eq-NUMBER
+returns-then-y-eq-NUMBER c =
+    let l = c.length_of.ensures in
+    let e = rw l at c.number_at.ensures in
+    λ z k h. number_read e.0 e.1 z k
+
+pub returns : goal.returns
+returns c = λ z k h. absurd (c.if-y-eq-NUMBER.false h)

@@ -1,0 +1,6 @@
+use Rattle.parts.proofs.TypeLaws.{numeric-reads}
+use borrow.Author.Rules.{rules}
+use Rattle.parts.proofs.types.numeric_type.Goals as goal
+
+pub returns : goal.returns
+returns c = numeric-reads c.expect-behind.ensures c.read_unit_reference-u.ensures

@@ -1,0 +1,21 @@
+use Rattle.parts.proofs.TypeLaws.{with-mandatory, not-mandatory}
+use Rattle.readers.proofs.ReadLaws.{held, expected}
+use Rattle.readers.proofs.CodeLaws.{is_word_lem}
+use Rattle.rules.specs.Bytes.{ascii}
+use mathlib.Core.Path.{refl}
+use borrow.Author.Rules.{rules}
+use Rattle.parts.proofs.types.read_written.Goals as goal
+
+pub after_mandatory-m-requires : goal.after_mandatory-m-requires
+after_mandatory-m-requires c =
+    (held (expected (is_word_lem (ascii "MANDATORY") 78 refl) c.expect-z.ensures) c.requires.0, c.requires.1)
+
+pub returns-then-y-eq-MANDATORY : goal.returns-then-y-eq-MANDATORY
+returns-then-y-eq-MANDATORY c =
+    rw c.with_place.ensures
+    (with-mandatory c.args.based c.args.or-reference c.if-y-eq-MANDATORY.true c.expect-z.ensures c.after_mandatory-m.ensures)
+
+pub returns : goal.returns
+returns c =
+    rw c.with_place-2.ensures
+    (not-mandatory c.args.based c.args.or-reference c.if-y-eq-MANDATORY.false c.type_by-m.ensures)

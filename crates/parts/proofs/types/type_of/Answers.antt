@@ -1,0 +1,10 @@
+use Rattle.parts.proofs.TypeLaws.{type-enum, type-plain}
+use borrow.Author.Rules.{rules}
+use Rattle.parts.proofs.types.type_of.Goals as goal
+
+pub returns-then-y-eq-ROUND : goal.returns-then-y-eq-ROUND
+returns-then-y-eq-ROUND c =
+    type-enum c.if-y-eq-ROUND.true c.outermost-e.ensures
+
+pub returns : goal.returns
+returns c = type-plain (c.plain_type.ensures c.if-y-eq-ROUND.false)

@@ -1,0 +1,6 @@
+use mathlib.Core.Path.{◌∙◌}
+use borrow.Author.Rules.{rules}
+use Rattle.running.proofs.unread.Goals as goal
+
+pub returns : goal.returns
+returns c = c.refused_at.ensures ∙ rw c.position_of.ensures

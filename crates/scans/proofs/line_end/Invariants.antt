@@ -1,0 +1,16 @@
+use Prim.Native.Nat.{◌-◌}
+use mathlib.Core.Path.{◌≡◌, sym, ◌∙◌}
+use lib.ListN.{length}
+use borrow.Author.Tests.{ne_eqb}
+use Rattle.ground.specs.Parts.{run_end}
+use Rattle.scans.specs.Scans.{not_line_end}
+use Rattle.ground.proofs.ScanLaws.{run-go, run-stop, run-done}
+use native.Mathlib.Omega.{arith}
+use borrow.Author.Rules.{rules}
+use Rattle.scans.proofs.line_end.Given as goal
+
+abbrev pub invariant-loop-i : goal.invariant-loop-i
+invariant-loop-i l = run_end not_line_end l.text l.at ≡ run_end not_line_end l.text l.i
+
+abbrev pub decreases-loop-i : goal.decreases-loop-i
+decreases-loop-i l = length l.text - l.i

@@ -1,0 +1,23 @@
+use Prim.Native.Nat.{◌-◌}
+use mathlib.Core.Path.{◌∙◌}
+use native.Mathlib.Omega.{arith}
+use Rattle.state.specs.Parts.{index_in, rows_in, chains_in}
+use Rattle.ground.proofs.LentLaws.{part-back, after-back}
+use borrow.Author.Rules.{rules}
+use Rattle.state.proofs.work.enter.Goals as goal
+
+pub returns : goal.returns
+unfolding index_in rows_in chains_in
+returns c =
+    let w = c.args.work.now in
+    let a = c.requires.0 in
+    let l = c.args.st.listing.layout in (
+      part-back l.index (l.rows - l.index) w c.enter.new.0
+          (omega (arith, a.definitions, a.attributes, a.links, a.within)) c.enter.auto.0 ∙ c.enter.ensures,
+      after-back l.index (l.rows - l.index) w c.enter.new.0
+          (omega (arith, a.definitions, a.attributes, a.links, a.within)) c.enter.auto.0 l.rows
+          (l.chains - l.rows) (omega (arith, a.definitions)),
+      after-back l.index (l.rows - l.index) w c.enter.new.0
+          (omega (arith, a.definitions, a.attributes, a.links, a.within)) c.enter.auto.0 l.chains
+          (l.end - l.chains) (omega (arith, a.definitions, a.attributes)),
+    )

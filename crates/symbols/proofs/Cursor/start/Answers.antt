@@ -1,0 +1,5 @@
+use borrow.Author.Rules.{rules}
+use Rattle.symbols.proofs.Cursor.start.Goals as goal
+
+pub returns : goal.returns
+returns c = rw c.first.ensures

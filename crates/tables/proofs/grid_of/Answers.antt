@@ -1,0 +1,45 @@
+use mathlib.Core.Path.{sym, ◌∙◌}
+use Rattle.enumerations.proofs.ListLaws.{opening-in}
+use Rattle.enumerations.proofs.WrittenLaws.{not-stands}
+use Rattle.tables.proofs.GatherLaws.{list-past, end-within}
+use native.Mathlib.Omega.{arith}
+use borrow.Author.Rules.{rules}
+use Rattle.tables.proofs.grid_of.Goals as goal
+
+pub overflow_add-at : goal.overflow_add-at
+overflow_add-at c = omega (arith, opening-in _ _ (sym c.is_opening.ensures ∙ c.if-is_opening.true))
+
+pub list_end-e-requires : goal.list_end-e-requires
+list_end-e-requires c = omega (arith, opening-in _ _ (sym c.is_opening.ensures ∙ c.if-is_opening.true))
+
+pub returns-then-end-s : goal.returns-then-end-s
+returns-then-end-s c =
+    record {
+      some = omega arith;
+      small = omega arith;
+      room = λ t e u.
+          let q = list-past t c.args.s.now e c.args.at c.list_end-e.result
+          c.list_end-e.ensures.0 u in
+          (omega arith, omega arith);
+    }
+
+pub returns-else-end-s : goal.returns-else-end-s
+returns-else-end-s c =
+    let a = c.args in
+    record {
+      some = omega arith;
+      small = omega arith;
+      room = λ t e u.
+          let q = list-past t a.s.now e a.at c.list_end-e.result c.list_end-e.ensures.0 u in
+          let w = end-within t a.s.now e a.at u in
+          absurd (omega (arith, c.if-end-s.false));
+    }
+
+pub returns-else-is_opening : goal.returns-else-is_opening
+returns-else-is_opening c =
+    record {
+      some = omega arith;
+      small = omega arith;
+      room = λ t e u. not-stands t c.args.s.now e c.args.at u
+          (sym c.is_opening.ensures ∙ c.if-is_opening.false);
+    }

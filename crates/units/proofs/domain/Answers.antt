@@ -1,0 +1,22 @@
+use Rattle.units.proofs.StepLaws.{domain-steps}
+use Rattle.readers.proofs.ReadLaws.{held, expected}
+use Rattle.readers.proofs.CodeLaws.{is_name, is-mark}
+use native.Mathlib.Omega.{arith}
+use borrow.Author.Rules.{rules}
+use Rattle.units.proofs.domain.Goals as goal
+
+pub read_properties-p-requires : goal.read_properties-p-requires
+read_properties-p-requires c = held (expected is_name c.expect-behind.ensures) c.requires.0
+
+pub read_written-w-requires : goal.read_written-w-requires
+read_written-w-requires c = (
+  held (expected (is-mark "=" (omega arith) (omega arith)) c.expect-first.ensures)
+      (held c.read_extends-b.ensures
+      (held c.read_properties-p.ensures (held (expected is_name c.expect-behind.ensures) c.requires.0))),
+  c.requires.1,
+)
+
+pub returns : goal.returns
+returns c =
+    domain-steps c.args.in_topic c.expect-behind.ensures c.name_of.ensures c.read_properties-p.ensures
+    c.read_extends-b.ensures c.expect-first.ensures c.is_given.ensures c.read_written-w.ensures c.ended.ensures

@@ -1,0 +1,13 @@
+use Rattle.units.proofs.StepLaws.{measure-steps}
+use Rattle.readers.proofs.ReadLaws.{held, expected}
+use Rattle.readers.proofs.CodeLaws.{is_name}
+use borrow.Author.Rules.{rules}
+use Rattle.units.proofs.measure.Goals as goal
+
+pub read_properties-p-requires : goal.read_properties-p-requires
+read_properties-p-requires c = held (expected is_name c.expect-behind.ensures) c.requires
+
+pub returns : goal.returns
+returns c =
+    λ o. measure-steps o c.args.in_topic c.expect-behind.ensures c.name_of.ensures c.read_properties-p.ensures
+    c.read_extends-b.ensures c.ended.ensures
