@@ -1,4 +1,4 @@
-use Rattle.std.proofs.Common.{◌≡◌, refl, sym, ◌∙◌, arith}
+use Rattle.std.proofs.Common.{refl, sym, ◌∙◌, arith}
 use Rattle.enumerations.proofs.ListLaws.{element-in, opening-in, as_written}
 use Rattle.tables.proofs.TwiceLaws.{past-in}
 use Rattle.tables.proofs.CheckedLaws.{going_start, going_end, clash-twice, has_room, going-plain}
@@ -34,9 +34,9 @@ returns-then-clashes-clause-first t c =
     let a = c.args in
     let v = c.loop-g in
     λ e es l d i F. clash-twice a.text.now a.s.now a.g c.requires.2 a.left e es a.list l i
-        v.table v.at (v.invariant.3 e es l d i F) v.invariant.0 (sym c.is_element.ensures ∙ c.loop-g-test.true)
-        c.clashes.new.table c.clashes.result c.clashes.ensures c.if-clashes.true c.written_name-name.result
-        (as_written c.written_name-name.ensures)
+    v.table v.at (v.invariant.3 e es l d i F) v.invariant.0 (sym c.is_element.ensures ∙ c.loop-g-test.true)
+    c.clashes.new.table c.clashes.result c.clashes.ensures c.if-clashes.true c.written_name-name.result
+    (as_written c.written_name-name.ensures)
 
 pub returns-then-left-eq0-clause-within : goal.returns-then-left-eq0-clause-within
 returns-then-left-eq0-clause-within t c = (
@@ -49,14 +49,14 @@ returns-then-left-eq0-clause-first t c =
     let a = c.args in
     let v = c.loop-g in
     λ e es l d i F. absurd
-        (omega (
-          arith,
-          has_room a.text.now a.s.now a.g c.requires.2 a.left e es a.list l i
-              v.table v.at (v.invariant.3 e es l d i F) v.invariant.0 (sym c.is_element.ensures ∙ c.loop-g-test.true)
-              c.clashes.new.table c.clashes.result c.clashes.ensures c.if-clashes.false
-              (sym c.is_opening.ensures ∙ c.if-is_opening.true),
-          c.if-left-eq0.true,
-        ))
+    (omega (
+      arith,
+      has_room a.text.now a.s.now a.g c.requires.2 a.left e es a.list l i
+          v.table v.at (v.invariant.3 e es l d i F) v.invariant.0 (sym c.is_element.ensures ∙ c.loop-g-test.true)
+          c.clashes.new.table c.clashes.result c.clashes.ensures c.if-clashes.false
+          (sym c.is_opening.ensures ∙ c.if-is_opening.true),
+      c.if-left-eq0.true,
+    ))
 
 pub overflow_add-next-then-is_opening : goal.overflow_add-next-then-is_opening
 overflow_add-next-then-is_opening t c =
@@ -80,10 +80,10 @@ returns-in-Twice-clause-first t c =
     let a = c.args in
     let v = c.loop-g in
     λ e es l d i F. inner-twice a.text.now a.s.now a.g c.requires.2 a.left e es a.list l i
-        v.table v.at (v.invariant.3 e es l d i F) v.invariant.0 (sym c.is_element.ensures ∙ c.loop-g-test.true)
-        c.clashes.new.table c.clashes.result c.clashes.ensures c.if-clashes.false
-        (sym c.is_opening.ensures ∙ c.if-is_opening.true) c.in_list-c.new.table c.in_list-c.result
-        c.in_list-c.ensures.first _ c.in-Twice.is
+    v.table v.at (v.invariant.3 e es l d i F) v.invariant.0 (sym c.is_element.ensures ∙ c.loop-g-test.true)
+    c.clashes.new.table c.clashes.result c.clashes.ensures c.if-clashes.false
+    (sym c.is_opening.ensures ∙ c.if-is_opening.true) c.in_list-c.new.table c.in_list-c.result
+    c.in_list-c.ensures.first _ c.in-Twice.is
 
 pub loop-g-smaller-in-Past : goal.loop-g-smaller-in-Past
 loop-g-smaller-in-Past t c =
@@ -132,7 +132,7 @@ returns-then-at-s-clause-first t c =
     let a = c.args in
     let v = c.loop-g in
     λ e es l d i F. (going_end a.text.now a.s.now a.g c.requires.2 a.left e es a.list l i
-        v.table v.at (v.invariant.3 e es l d i F) (sym c.is_element.ensures ∙ c.loop-g-test.false)).1
+    v.table v.at (v.invariant.3 e es l d i F) (sym c.is_element.ensures ∙ c.loop-g-test.false)).1
 
 pub returns-clause-within : goal.returns-clause-within
 returns-clause-within t c = (c.loop-g.invariant.0, c.loop-g.invariant.1)
@@ -142,9 +142,9 @@ returns-clause-first t c =
     let a = c.args in
     let v = c.loop-g in
     λ e es l d i F. absurd
-        (omega (
-          arith,
-          (going_end a.text.now a.s.now a.g c.requires.2 a.left e es a.list l i
-              v.table v.at (v.invariant.3 e es l d i F) (sym c.is_element.ensures ∙ c.loop-g-test.false)).0,
-          c.if-at-s.false,
-        ))
+    (omega (
+      arith,
+      (going_end a.text.now a.s.now a.g c.requires.2 a.left e es a.list l i
+          v.table v.at (v.invariant.3 e es l d i F) (sym c.is_element.ensures ∙ c.loop-g-test.false)).0,
+      c.if-at-s.false,
+    ))

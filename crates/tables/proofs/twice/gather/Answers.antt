@@ -1,7 +1,6 @@
 use Rattle.tables.specs.Tables.{Sized}
 use Rattle.tables.proofs.TableLaws.{none-gathered}
 use native.Mathlib.Omega.{arith}
-use borrow.Author.Rules.{rules}
 use Rattle.tables.proofs.twice.gather.Goals as goal
 
 pub entered-f-requires : goal.entered-f-requires
