@@ -4,7 +4,6 @@ use lib.ListN.{length}
 use native.Mathlib.Omega.{arith}
 use lib.Seq.{length-take-le}
 use Rattle.merging.proofs.TablesLaws.{both-sized, both-gathered}
-use borrow.Author.Rules.{rules}
 use Rattle.merging.proofs.gathered.Goals as goal
 
 pub slice_bounds-gather-end-2 : goal.slice_bounds-gather-end-2

@@ -3,7 +3,6 @@ use lib.ListN.{length}
 use lib.Seq.{length-take-le}
 use Rattle.merging.proofs.MergedLaws.{merged-laid, fuel-small, lt-add-one}
 use native.Mathlib.Omega.{arith}
-use borrow.Author.Rules.{rules}
 use Rattle.ground.proofs.BufferLaws.{take_put}
 use Rattle.merging.proofs.merged.Goals as goal
 
