@@ -12,7 +12,7 @@ nonzero_div-magnitude_limit c = (ten-range _ (omega arith) c.ten_to-p.ensures).0
 
 pub rounded-requires : goal.rounded-requires
 rounded-requires c =
-    (rw (to_z-of_z c.ranges.value) c.requires.2, ten-range _ (omega arith) c.ten_to.ensures)
+    record { v_bound = rw (to_z-of_z c.ranges.value) c.requires.2; m_nonzero = ten-range _ (omega arith) c.ten_to.ensures }
 
 pub returns-then-base_decimals-decimals : goal.returns-then-base_decimals-decimals
 returns-then-base_decimals-decimals c =
