@@ -16,4 +16,4 @@ floor_div-requires c = c.requires.m_nonzero
 pub returns : goal.returns
 returns c =
     let e = (raised c.args.v c.ranges.v (c.args.m / 2) c.requires.v_bound (omega arith)).1 in
-    kept c.floor_div.result c.floor_div.type-inv ∙ c.floor_div.ensures ∙ ap (λ (z : ℤ). shr_z z c.args.m) e
+    kept c.floor_div.result c.floor_div.type_inv ∙ c.floor_div.ensures ∙ ap (λ (z : ℤ). shr_z z c.args.m) e
