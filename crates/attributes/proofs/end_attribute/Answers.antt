@@ -80,7 +80,7 @@ with_member-requires c =
 
 pub shape_of-book-then-has_room : goal.shape_of-book-then-has_room
 shape_of-book-then-has_room c =
-    c.put_head-f.auto.0
+    c.put_head-f.auto.book
 
 pub returns-then-has_room : goal.returns-then-has_room
 returns-then-has_room c =

@@ -71,7 +71,7 @@ lay_use-l-requires c =
     let ri = c.judge_types-k.ensures.1 c.args.text.now (known q.decls) (attributes_in q) w.type
     (ready c.args.text.now q c.args.st c.args.book.now _ _ _ c.args.hand.now c.requires.text_len_bound.1 k) me
     g.fair.type rt in
-    let same = c.judge_name-b.auto.1.1.1.1.0 in record { sized = (ri.sized_own, ri.sized_base, omega (arith, bi.named, c.judge_name-b.ensures.0.target), bi.kept, c.requires.text_len_bound.3); used_in_bounds = (k.within, c.requires.text_len_bound.1, c.requires.text_len_bound.2, omega (arith, c.requires.tables_for, same)) }
+    let same = c.judge_name-b.auto.tables in record { sized = (ri.sized_own, ri.sized_base, omega (arith, bi.named, c.judge_name-b.ensures.0.target), bi.kept, c.requires.text_len_bound.3); used_in_bounds = (k.within, c.requires.text_len_bound.1, c.requires.text_len_bound.2, omega (arith, c.requires.tables_for, same)) }
 
 pub end_attribute-requires : goal.end_attribute-requires
 end_attribute-requires c =
@@ -93,7 +93,7 @@ end_attribute-requires c =
     let u = c.use_at-d.ensures.by_index c.args.st.listing.count
     (omega (arith, bi.named, c.judge_name-b.ensures.0.target)) bi.kept in
     let i = name-inside c.args.text.now n p w c.args.scratch.now c.args.a g in
-    let same = c.lay_use-l.auto.1.0 in record {
+    let same = c.lay_use-l.auto.book in record {
       used_in_bounds = (
         omega (arith, k.within, same),
         omega (arith, c.requires.text_len_bound.1, same),
@@ -128,7 +128,7 @@ returns-in-Broken c =
 
 pub shape_of-tables-in-Whole : goal.shape_of-tables-in-Whole
 shape_of-tables-in-Whole c =
-    c.lay_use-l.auto.1.1.1.1.0 ∙ c.judge_name-b.auto.1.1.1.1.0
+    c.lay_use-l.auto.tables ∙ c.judge_name-b.auto.tables
 
 pub returns-in-Whole : goal.returns-in-Whole
 returns-in-Whole c =
@@ -152,4 +152,4 @@ returns-in-Whole c =
     ri.named rt ri.kept in
     judged-end k m ei z bi ri y c.lay_use-l.result _ li _ c.in-Whole.is c.end_attribute.result _ _ _ _ _
     (c.end_attribute.ensures c.args.text.now q c.args.book.now c.args.scratch.now d n p w
-    (sym c.lay_use-l.auto.1.0) (passes k m ei z bi ri y c.lay_use-l.result _ li _ c.in-Whole.is c.use_at-d.result u))
+    (sym c.lay_use-l.auto.book) (passes k m ei z bi ri y c.lay_use-l.result _ li _ c.in-Whole.is c.use_at-d.result u))

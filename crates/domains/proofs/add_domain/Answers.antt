@@ -61,7 +61,7 @@ returns-then-has_room c =
     (c.base_number-of_base.ensures c.args.text.now (known s.decls)
     c.args.st.listing.count c.requires.text_len_bound.2 m)
     c.head_record-head.result c.put.new.0 (index_in y v) (chains_in y v)
-    c.head_record-head.ensures c.put.ensures c.put.auto.0 c.enter_domain.ensures.0 c.enter_domain.ensures.2
+    c.head_record-head.ensures c.put.ensures c.put.auto.out c.enter_domain.ensures.0 c.enter_domain.ensures.2
     (definition-rows c.args.st c.args.work.now c.requires.ample
     (c.args.st.listing.count + 2) (omega arith)) c.requires.text_len_bound.2 f c.declared.result
     c.declared.ensures _ refl _ c.enter_domain.ensures.1

@@ -44,7 +44,7 @@ returns-then-x-gt0 c =
 pub typed_domain-requires : goal.typed_domain-requires
 typed_domain-requires c =
     let (s, n, p, b, w, hs, k, h) = c.requires.by_index in record {
-      loan = loaned refl refl c.name_ruling-q.auto.1.1.1.0 c.requires.loan;
+      loan = loaned refl refl c.name_ruling-q.auto.tables c.requires.loan;
       ample = (c.requires.ample, c.reach-e.ensures.0, c.reach-e.ensures.1);
       some_extending = (
         s,

@@ -46,7 +46,7 @@ add_domain-requires c =
     let q = laid h c.over_base-over.result v c.lay_written-l.new.1.0 c.lay_written-l.result c.lay_written-l.ensures in record {
       text_len_bound = (
         c.requires.loan.text_short,
-        still-below c.lay_written-l.auto.1.0 c.requires.loan.book_short,
+        still-below c.lay_written-l.auto.book c.requires.loan.book_short,
         c.requires.ample.1,
       );
       ample = c.requires.ample.0;
@@ -60,7 +60,7 @@ add_domain-requires c =
         hs,
         c.args.scratch.now,
         h,
-        sym c.lay_written-l.auto.1.0,
+        sym c.lay_written-l.auto.book,
         (whole h c.over_base-over.result v c.lay_written-l.new.1.0 c.lay_written-l.result q _ c.in-Whole.is).0,
       );
     }
@@ -100,4 +100,4 @@ returns-in-Whole c =
     (room (lent (length c.args.book.now)) n.offset j) c.args.st
     c.add_domain.result c.add_domain.new.1.0 c.add_domain.new.1.1.0 hs)
     (sym f) (c.add_domain.ensures s n p b w c.args.book.now hs c.args.scratch.now h
-    (sym c.lay_written-l.auto.1.0) (record { sized = g.0; laid = g.1 }) (next-fair h f))
+    (sym c.lay_written-l.auto.book) (record { sized = g.0; laid = g.1 }) (next-fair h f))

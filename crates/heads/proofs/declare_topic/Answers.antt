@@ -35,7 +35,7 @@ declared-requires c = record {
 }
 
 pub shape_of-book : goal.shape_of-book
-shape_of-book c = c.put.auto.0
+shape_of-book c = c.put.auto.out
 
 pub returns : goal.returns
 unfolding new_topic

@@ -27,4 +27,4 @@ finish-requires c =
 pub returns : goal.returns
 returns c =
     tried c.args.text.now c.args.book.now c.run-a.new.1.0 _ c.least-m.result c.args.most c.run-a.result
-    c.least-m.ensures.0 c.requires.loan.book_short c.run-a.auto.1.0 c.run-a.ensures c.finish.ensures
+    c.least-m.ensures.0 c.requires.loan.book_short c.run-a.auto.book c.run-a.ensures c.finish.ensures

@@ -31,23 +31,23 @@ step-t-requires c =
 
 pub shape_of-book-in-End : goal.shape_of-book-in-End
 shape_of-book-in-End c =
-    c.step-t.auto.1.0 ∙ c.loop-a.invariant.0
+    c.step-t.auto.book ∙ c.loop-a.invariant.0
 
 pub shape_of-work-in-End : goal.shape_of-work-in-End
 shape_of-work-in-End c =
-    c.step-t.auto.1.1.0 ∙ c.loop-a.invariant.1
+    c.step-t.auto.work ∙ c.loop-a.invariant.1
 
 pub shape_of-hand-in-End : goal.shape_of-hand-in-End
 shape_of-hand-in-End c =
-    c.step-t.auto.1.1.1.0 ∙ c.loop-a.invariant.2
+    c.step-t.auto.hand ∙ c.loop-a.invariant.2
 
 pub shape_of-scratch-in-End : goal.shape_of-scratch-in-End
 shape_of-scratch-in-End c =
-    c.step-t.auto.1.1.1.1.0 ∙ c.loop-a.invariant.3
+    c.step-t.auto.scratch ∙ c.loop-a.invariant.3
 
 pub shape_of-tables-in-End : goal.shape_of-tables-in-End
 shape_of-tables-in-End c =
-    c.step-t.auto.1.1.1.1.1.0 ∙ c.loop-a.invariant.4
+    c.step-t.auto.tables ∙ c.loop-a.invariant.4
 
 pub returns-in-End : goal.returns-in-End
 returns-in-End c =

@@ -20,7 +20,7 @@ pub judge-j-requires : goal.judge-j-requires
 judge-j-requires c =
     let R = c.requires.runs in
     let G = given R c.read_unit-s.ensures c.requires.loan.text_short c.in-Read.is (sym c.is_over.ensures ∙ c.if-is_over.false) in
-    let ample = c.requires.suffice.0 c.args.g.state refl (few-records R) in record { loan = loaned refl c.read_unit-s.auto.1.0 refl c.requires.loan; ample = (ample, c.requires.suffice.1); kept = (R.state, G.unit, R.keeps, G.comes) }
+    let ample = c.requires.suffice.0 c.args.g.state refl (few-records R) in record { loan = loaned refl c.read_unit-s.auto.scratch refl c.requires.loan; ample = (ample, c.requires.suffice.1); kept = (R.state, G.unit, R.keeps, G.comes) }
 
 pub returns-in-Unread : goal.returns-in-Unread
 returns-in-Unread c =
