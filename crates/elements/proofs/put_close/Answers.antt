@@ -25,16 +25,16 @@ overflow_add-result c =
 
 pub returns-then-start-at-2 : goal.returns-then-start-at-2
 returns-then-start-at-2 c =
-    close-law _ _ _ c.args.is-final _ c.flag.ensures
+    close-law _ _ _ c.args.is_final _ c.flag.ensures
 
 pub returns-else-start-at-2 : goal.returns-else-start-at-2
 returns-else-start-at-2 c =
-    close-not _ _ _ c.args.is-final (inr (omega arith)) _ _
+    close-not _ _ _ c.args.is_final (inr (omega arith)) _ _
 
 pub returns-else-start-at : goal.returns-else-start-at
 returns-else-start-at c =
-    close-not _ _ _ c.args.is-final (inr (omega arith)) _ _
+    close-not _ _ _ c.args.is_final (inr (omega arith)) _ _
 
 pub returns-else-fits : goal.returns-else-fits
 returns-else-fits c =
-    close-not _ _ _ c.args.is-final (inl (leb-false _ _ (sym c.fits.ensures ∙ c.if-fits.false))) _ _
+    close-not _ _ _ c.args.is_final (inl (leb-false _ _ (sym c.fits.ensures ∙ c.if-fits.false))) _ _

@@ -1,0 +1,16 @@
+use Rattle.std.proofs.Common.{◌+◌, ◌*◌, length, ◌-◌}
+use Rattle.elements.proofs.LoopLaws.{Loop}
+use Rattle.elements.proofs.+element_enumeration.Given as goal
+
+abbrev pub decreases-element : goal.decreases-element
+decreases-element l = 2 * l.nesting + 1
+
+abbrev pub decreases-enumeration : goal.decreases-enumeration
+decreases-enumeration l = 2 * l.nesting
+
+abbrev pub invariant-enumeration-loop-z : goal.invariant-enumeration-loop-z
+invariant-enumeration-loop-z l =
+    Loop l.text l.start l.nesting l.initial.scratch l.initial.z l.initial.at l.scratch l.z l.at
+
+abbrev pub decreases-enumeration-loop-z : goal.decreases-enumeration-loop-z
+decreases-enumeration-loop-z l = length l.text - l.z.place
