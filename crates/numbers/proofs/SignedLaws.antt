@@ -47,7 +47,7 @@ abbrev pub Holds : ℤ → ℤ → Type 0
 Holds z w = SFits w64 z × (held z ≡ w)
 
 pub kept : (z : ℤ) → mag z < 2 ^ 63 → held z ≡ z
-kept z h = to_z-of_z (record { sfits = h })
+kept z h = to_z-of_z {w = w64} (record { sfits = h })
 
 pub holds : {z w : ℤ} → z ≡ w → SFits w64 w → Holds z w
 holds e f = (rw e f, rw e (to_z-of_z f))

@@ -8,7 +8,7 @@ use Rattle.attribute_names.proofs.judge_name.Goals as goal
 
 pub slot_of-first-requires : goal.slot_of-first-requires
 slot_of-first-requires c =
-    (c.requires.0.1, c.requires.0.2, c.requires.1.0.0, c.requires.1.0.1)
+    (c.requires.inside.1, c.requires.inside.2, c.requires.in_hand_bound.0, c.requires.in_hand_bound.1)
 
 pub returns-then-r-gt0 : goal.returns-then-r-gt0
 returns-then-r-gt0 c =
@@ -21,7 +21,7 @@ returns-then-r-gt0 c =
 
 pub element_ruling-e-requires : goal.element_ruling-e-requires
 element_ruling-e-requires c =
-    (c.requires.1.1.0.0, c.requires.1.1.0.1)
+    (c.requires.scratch_len_bound.0, c.requires.scratch_len_bound.1)
 
 pub returns-then-e-gt0 : goal.returns-then-e-gt0
 returns-then-e-gt0 c =
@@ -36,10 +36,7 @@ returns-then-e-gt0 c =
     )
 
 pub reach-requires : goal.reach-requires
-reach-requires c = (
-  (c.requires.0.0, c.requires.0.2, omega (arith, c.slot_of-first.ensures.0, c.requires.1.0.0), c.requires.1.0.1),
-  c.requires.1.1.1,
-)
+reach-requires c = record { inside = (c.requires.inside.0, c.requires.inside.2, omega (arith, c.slot_of-first.ensures.0, c.requires.in_hand_bound.0), c.requires.in_hand_bound.1); reference_value = c.requires.reference_value }
 
 pub returns : goal.returns
 returns c = (

@@ -11,12 +11,12 @@ use Rattle.attribute_names.proofs.reach.Goals as goal
 
 pub target-target-requires : goal.target-target-requires
 target-target-requires c =
-    ((c.requires.0.0, c.requires.0.1), c.requires.1)
+    record { inside = (c.requires.inside.0, c.requires.inside.1); reference_value = c.requires.reference_value }
 
 pub reference_ruling-ruling-requires : goal.reference_ruling-ruling-requires
 unfolding index_in
 reference_ruling-ruling-requires c =
-    definition-rows c.args.st c.args.work.now c.requires.0.1 c.target-target.result
+    definition-rows c.args.st c.args.work.now c.requires.inside.1 c.target-target.result
     (omega (arith, c.target-target.ensures.0))
 
 pub returns : goal.returns

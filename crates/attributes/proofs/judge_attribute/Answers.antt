@@ -16,21 +16,17 @@ use Rattle.attributes.proofs.judge_attribute.Goals as goal
 
 pub judge_name-b-requires : goal.judge_name-b-requires
 judge_name-b-requires c =
-    let (q, n, p, w, k, m) = c.requires.1.1 in
-    let g = unit-is k m in (
-      (k.model.inside, name-inside c.args.text.now n p w c.args.scratch.now c.args.a g, c.requires.0.3),
-      (
-        (k.hand, c.requires.0.4),
-        (
-          (c.requires.0.2, omega (arith, c.requires.1.0)),
-          (
-            reference_in w.type,
-            is-reference c.args.text.now n p w c.args.scratch.now c.args.a g,
-            reference-fair c.args.text.now w.type g.fair.type,
-          ),
-        ),
-      ),
-    )
+    let (q, n, p, w, k, m) = c.requires.by_index in
+    let g = unit-is k m in record {
+      inside = (k.model.inside, name-inside c.args.text.now n p w c.args.scratch.now c.args.a g, c.requires.text_len_bound.3);
+      in_hand_bound = (k.hand, c.requires.text_len_bound.4);
+      scratch_len_bound = (c.requires.text_len_bound.2, omega (arith, c.requires.tables_for));
+      reference_value = (
+        reference_in w.type,
+        is-reference c.args.text.now n p w c.args.scratch.now c.args.a g,
+        reference-fair c.args.text.now w.type g.fair.type,
+      );
+    }
 
 pub returns-then-b-gt0 : goal.returns-then-b-gt0
 returns-then-b-gt0 c =
@@ -43,8 +39,8 @@ returns-then-b-gt0 c =
 
 pub judge_types-k-requires : goal.judge_types-k-requires
 judge_types-k-requires c =
-    let (q, n, p, w, k, m) = c.requires.1.1 in
-    (k.within, c.requires.0.3, c.judge_name-b.ensures.0)
+    let (q, n, p, w, k, m) = c.requires.by_index in
+    (k.within, c.requires.text_len_bound.3, c.judge_name-b.ensures.0)
 
 pub returns-then-k-gt0 : goal.returns-then-k-gt0
 returns-then-k-gt0 c =
@@ -57,7 +53,7 @@ returns-then-k-gt0 c =
     let me = is-meant c.args.text.now n p w c.args.scratch.now c.args.a g in
     let bi = c.judge_types-k.ensures.0 in
     let ri = c.judge_types-k.ensures.1 c.args.text.now (known q.decls) (attributes_in q) w.type
-    (ready c.args.text.now q c.args.st c.args.book.now _ _ _ c.args.hand.now c.requires.0.1 k) me
+    (ready c.args.text.now q c.args.st c.args.book.now _ _ _ c.args.hand.now c.requires.text_len_bound.1 k) me
     g.fair.type rt in
     judged-refused c.args.text.now q (U.attribute n p w) c.args.book.now c.args.st
     c.refused-then-k-gt0.result _ _ _ _ _ _ _ (judged-second k m ei z bi ri c.if-k-gt0.true) c.refused-then-k-gt0.ensures
@@ -65,7 +61,7 @@ returns-then-k-gt0 c =
 pub lay_use-l-requires : goal.lay_use-l-requires
 lay_use-l-requires c =
     let z = c.if-b-gt0.false in
-    let (q, n, p, w, k, m) = c.requires.1.1 in
+    let (q, n, p, w, k, m) = c.requires.by_index in
     let g = unit-is k m in
     let (d, ed) = class-is k m in
     let ei = c.judge_name-b.ensures.1 q d n p w c.args.book.now k ed g in
@@ -73,18 +69,15 @@ lay_use-l-requires c =
     let me = is-meant c.args.text.now n p w c.args.scratch.now c.args.a g in
     let bi = c.judge_types-k.ensures.0 in
     let ri = c.judge_types-k.ensures.1 c.args.text.now (known q.decls) (attributes_in q) w.type
-    (ready c.args.text.now q c.args.st c.args.book.now _ _ _ c.args.hand.now c.requires.0.1 k) me
+    (ready c.args.text.now q c.args.st c.args.book.now _ _ _ c.args.hand.now c.requires.text_len_bound.1 k) me
     g.fair.type rt in
-    let same = c.judge_name-b.auto.1.1.1.1.0 in (
-      (ri.sized_own, ri.sized_base, omega (arith, bi.named, c.judge_name-b.ensures.0.target), bi.kept, c.requires.0.3),
-      (k.within, c.requires.0.1, c.requires.0.2, omega (arith, c.requires.1.0, same)),
-    )
+    let same = c.judge_name-b.auto.tables in record { sized = (ri.sized_own, ri.sized_base, omega (arith, bi.named, c.judge_name-b.ensures.0.target), bi.kept, c.requires.text_len_bound.3); used_in_bounds = (k.within, c.requires.text_len_bound.1, c.requires.text_len_bound.2, omega (arith, c.requires.tables_for, same)) }
 
 pub end_attribute-requires : goal.end_attribute-requires
 end_attribute-requires c =
     let z = c.if-b-gt0.false in
     let y = c.if-k-gt0.false in
-    let (q, n, p, w, k, m) = c.requires.1.1 in
+    let (q, n, p, w, k, m) = c.requires.by_index in
     let g = unit-is k m in
     let (d, ed) = class-is k m in
     let ei = c.judge_name-b.ensures.1 q d n p w c.args.book.now k ed g in
@@ -92,27 +85,25 @@ end_attribute-requires c =
     let me = is-meant c.args.text.now n p w c.args.scratch.now c.args.a g in
     let bi = c.judge_types-k.ensures.0 in
     let ri = c.judge_types-k.ensures.1 c.args.text.now (known q.decls) (attributes_in q) w.type
-    (ready c.args.text.now q c.args.st c.args.book.now _ _ _ c.args.hand.now c.requires.0.1 k) me
+    (ready c.args.text.now q c.args.st c.args.book.now _ _ _ c.args.hand.now c.requires.text_len_bound.1 k) me
     g.fair.type rt in
-    let ls = lays k m ei z bi ri y c.judge_name-b.ensures.0.base c.requires.0.1 in
+    let ls = lays k m ei z bi ri y c.judge_name-b.ensures.0.base c.requires.text_len_bound.1 in
     let li = c.lay_use-l.ensures (known q.decls) (attributes_in q) _ c.args.st.listing.total
     c.judge_name-b.result.target w.type ls in
-    let u = c.use_at-d.ensures.1 c.args.st.listing.count
+    let u = c.use_at-d.ensures.by_index c.args.st.listing.count
     (omega (arith, bi.named, c.judge_name-b.ensures.0.target)) bi.kept in
     let i = name-inside c.args.text.now n p w c.args.scratch.now c.args.a g in
-    let same = c.lay_use-l.auto.1.0 in (
-      (
+    let same = c.lay_use-l.auto.book in record {
+      used_in_bounds = (
         omega (arith, k.within, same),
-        omega (arith, c.requires.0.1, same),
+        omega (arith, c.requires.text_len_bound.1, same),
         small c.args.text.now q c.args.st c.args.book.now _ _ _ c.args.hand.now k,
-        c.requires.0.3,
-        c.requires.0.4,
-      ),
-      (
-        (c.judge_name-b.ensures.0, omega (arith, z), k.hand, u),
-        (omega (arith, c.requires.0.0, i), size-solid k m ei z bi ri y c.lay_use-l.result _ li _ c.in-Whole.is),
-      ),
-    )
+        c.requires.text_len_bound.3,
+        c.requires.text_len_bound.4,
+      );
+      within = (c.judge_name-b.ensures.0, omega (arith, z), k.hand, u);
+      len_bound = (omega (arith, c.requires.text_len_bound.0, i), size-solid k m ei z bi ri y c.lay_use-l.result _ li _ c.in-Whole.is);
+    }
 
 pub returns-in-Broken : goal.returns-in-Broken
 returns-in-Broken c =
@@ -126,9 +117,9 @@ returns-in-Broken c =
     let me = is-meant c.args.text.now n p w c.args.scratch.now c.args.a g in
     let bi = c.judge_types-k.ensures.0 in
     let ri = c.judge_types-k.ensures.1 c.args.text.now (known q.decls) (attributes_in q) w.type
-    (ready c.args.text.now q c.args.st c.args.book.now _ _ _ c.args.hand.now c.requires.0.1 k) me
+    (ready c.args.text.now q c.args.st c.args.book.now _ _ _ c.args.hand.now c.requires.text_len_bound.1 k) me
     g.fair.type rt in
-    let ls = lays k m ei z bi ri y c.judge_name-b.ensures.0.base c.requires.0.1 in
+    let ls = lays k m ei z bi ri y c.judge_name-b.ensures.0.base c.requires.text_len_bound.1 in
     let li = c.lay_use-l.ensures (known q.decls) (attributes_in q) _ c.args.st.listing.total
     c.judge_name-b.result.target w.type ls in
     judged-refused c.args.text.now q (U.attribute n p w) c.args.book.now c.args.st
@@ -137,7 +128,7 @@ returns-in-Broken c =
 
 pub shape_of-tables-in-Whole : goal.shape_of-tables-in-Whole
 shape_of-tables-in-Whole c =
-    c.lay_use-l.auto.1.1.1.1.0 ∙ c.judge_name-b.auto.1.1.1.1.0
+    c.lay_use-l.auto.tables ∙ c.judge_name-b.auto.tables
 
 pub returns-in-Whole : goal.returns-in-Whole
 returns-in-Whole c =
@@ -151,14 +142,14 @@ returns-in-Whole c =
     let me = is-meant c.args.text.now n p w c.args.scratch.now c.args.a g in
     let bi = c.judge_types-k.ensures.0 in
     let ri = c.judge_types-k.ensures.1 c.args.text.now (known q.decls) (attributes_in q) w.type
-    (ready c.args.text.now q c.args.st c.args.book.now _ _ _ c.args.hand.now c.requires.0.1 k) me
+    (ready c.args.text.now q c.args.st c.args.book.now _ _ _ c.args.hand.now c.requires.text_len_bound.1 k) me
     g.fair.type rt in
-    let ls = lays k m ei z bi ri y c.judge_name-b.ensures.0.base c.requires.0.1 in
+    let ls = lays k m ei z bi ri y c.judge_name-b.ensures.0.base c.requires.text_len_bound.1 in
     let li = c.lay_use-l.ensures (known q.decls) (attributes_in q) _ c.args.st.listing.total
     c.judge_name-b.result.target w.type ls in
-    let u = c.use_at-d.ensures.0 (known q.decls) w.type
+    let u = c.use_at-d.ensures.v_value (known q.decls) w.type
     (or_no_attribute (entry (attributes_in q) c.judge_name-b.result.base)).use_of c.judge_name-b.result.target me
     ri.named rt ri.kept in
     judged-end k m ei z bi ri y c.lay_use-l.result _ li _ c.in-Whole.is c.end_attribute.result _ _ _ _ _
     (c.end_attribute.ensures c.args.text.now q c.args.book.now c.args.scratch.now d n p w
-    (sym c.lay_use-l.auto.1.0) (passes k m ei z bi ri y c.lay_use-l.result _ li _ c.in-Whole.is c.use_at-d.result u))
+    (sym c.lay_use-l.auto.book) (passes k m ei z bi ri y c.lay_use-l.result _ li _ c.in-Whole.is c.use_at-d.result u))

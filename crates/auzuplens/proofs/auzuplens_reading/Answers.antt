@@ -8,4 +8,4 @@ pub returns : goal.returns
 returns c =
     let fits = c.ranges in
     let p = rw (to_z-of_z fits.value) at c.read_number-r.ensures in
-    kept c.value.result c.value.type-inv ∙ c.value.ensures ∙ p.value
+    kept c.value.result c.value.type_inv ∙ c.value.ensures ∙ p.value

@@ -9,7 +9,7 @@ returns-then-n-gt-LARGE c = too_long _ _ _ (omega arith) c.clear.ensures
 
 pub returns-then-is_full : goal.returns-then-is_full
 returns-then-is_full c =
-    promise-sized c.check_small-a.auto.1.0 c.check_large.ensures
+    promise-sized c.check_small-a.auto.book c.check_large.ensures
 
 pub returns-then-n-le-SMALL : goal.returns-then-n-le-SMALL
 returns-then-n-le-SMALL c =
@@ -17,7 +17,7 @@ returns-then-n-le-SMALL c =
 
 pub returns-then-is_full-2 : goal.returns-then-is_full-2
 returns-then-is_full-2 c =
-    promise-sized c.check_medium-a.auto.1.0 c.check_large-then-is_full-2.ensures
+    promise-sized c.check_medium-a.auto.book c.check_large-then-is_full-2.ensures
 
 pub returns-then-n-le-MEDIUM : goal.returns-then-n-le-MEDIUM
 returns-then-n-le-MEDIUM c =

@@ -14,7 +14,7 @@ returns-then-wrong c = (
   λ z. absurd (not-zero _ (ltb-true _ _ c.if-wrong.true) z),
   λ s k n p b o hs v K eo e h f H.
       let u = c.ruling_to_13-first.ensures.1 s k n p b o hs K e h f in
-      head-broken s k n p b v H o (omega (arith, eo, c.requires.0.2)) _ K.used _ u
+      head-broken s k n p b v H o (omega (arith, eo, c.requires.inside.2)) _ K.used _ u
       (ltb-true _ _ c.if-wrong.true),
 )
 
@@ -25,7 +25,7 @@ returns-then-full c =
       λ z. absurd (omega arith),
       λ s k n p b o hs v K eo e h f H.
           let u = c.ruling_to_13-first.ensures.1 s k n p b o hs K e h f in
-          head-over s k n p b v H o (omega (arith, eo, c.requires.0.2)) _ K.used _ u z
+          head-over s k n p b v H o (omega (arith, eo, c.requires.inside.2)) _ K.used _ u z
           (subst (λ (i : ℕ). i < c.args.st.extent.used + head_size) eo (ltb-true _ _ c.if-full.true))
           _ refl (ap (λ (x : Head). x.name.offset) e),
     )
@@ -38,6 +38,6 @@ returns c =
       λ z. fits,
       λ s k n p b o hs v K eo e h f H.
           let u = c.ruling_to_13-first.ensures.1 s k n p b o hs K e h f in
-          head-fine s k n p b v H o (omega (arith, eo, c.requires.0.2)) _ K.used _ u z
+          head-fine s k n p b v H o (omega (arith, eo, c.requires.inside.2)) _ K.used _ u z
           (subst (λ (i : ℕ). c.args.st.extent.used + head_size ≤ i) eo fits),
     )

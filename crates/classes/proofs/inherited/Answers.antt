@@ -12,12 +12,12 @@ pub inherit-requires : goal.inherit-requires
 unfolding index_in rows_in
 inherit-requires c =
     let l = c.args.st.listing in (
-      c.requires.1.0,
-      c.requires.0.2,
-      definition-rows c.args.st c.args.work.now c.requires.0.0 l.count (omega arith),
-      attribute_rows c.args.st c.args.work.now c.requires.0.0 l.total (omega arith),
-      c.requires.1.1,
-      c.requires.0.1,
+      c.requires.base_le_count.0,
+      c.requires.ample.2,
+      definition-rows c.args.st c.args.work.now c.requires.ample.0 l.count (omega arith),
+      attribute_rows c.args.st c.args.work.now c.requires.ample.0 l.total (omega arith),
+      c.requires.base_le_count.1,
+      c.requires.ample.1,
     )
 
 pub returns : goal.returns

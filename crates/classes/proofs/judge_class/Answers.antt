@@ -11,17 +11,17 @@ use Rattle.classes.proofs.judge_class.Goals as goal
 
 pub head_ruling-e-requires : goal.head_ruling-e-requires
 head_ruling-e-requires c =
-    let (s, k, n, p, b, rs, K, q) = c.requires.1.1 in
-    let i = class-is c.args.text.now s n p b c.args.head rs k q in (
-      (
+    let (s, k, n, p, b, rs, K, q) = c.requires.by_index in
+    let i = class-is c.args.text.now s n p b c.args.head rs k q in record {
+      inside = (
         head-inside c.args.text.now s n p b c.args.head rs (class_sort k) i q.fair.0,
         K.model.inside,
-        c.requires.0.1,
+        c.requires.text_len_bound.1,
         K.within,
-        c.requires.1.0.0,
-      ),
-      (b, ap (λ (u : Head). u.base) i, q.fair.1),
-    )
+        c.requires.ample.0,
+      );
+      base_value = (b, ap (λ (u : Head). u.base) i, q.fair.1);
+    }
 
 pub returns-then-r-gt0 : goal.returns-then-r-gt0
 returns-then-r-gt0 c =
@@ -35,27 +35,25 @@ returns-then-r-gt0 c =
 
 pub open_class-next-requires : goal.open_class-next-requires
 open_class-next-requires c =
-    let (s, k, n, p, b, rs, K, q) = c.requires.1.1 in
-    let i = class-is c.args.text.now s n p b c.args.head rs k q in (
-      (
+    let (s, k, n, p, b, rs, K, q) = c.requires.by_index in
+    let i = class-is c.args.text.now s n p b c.args.head rs k q in record {
+      inside = (
         head-inside c.args.text.now s n p b c.args.head rs (class_sort k) i q.fair.0,
-        c.requires.0.0,
-        c.requires.0.1,
-      ),
-      (
-        (
-          c.head_ruling-e.ensures.1 (le-zero _ c.if-r-gt0.false),
-          small c.args.text.now s c.args.st c.args.book.now _ _ _ c.args.hand.now K,
-          c.requires.1.0.0,
-        ),
-        (
-          c.requires.1.0.1,
-          K.hand,
-          c.head_ruling-e.ensures.0,
-          head-sort c.args.text.now s n p b c.args.head rs (class_sort k) i,
-        ),
-      ),
-    )
+        c.requires.text_len_bound.0,
+        c.requires.text_len_bound.1,
+      );
+      head_size_in_bounds = (
+        c.head_ruling-e.ensures.1 (le-zero _ c.if-r-gt0.false),
+        small c.args.text.now s c.args.st c.args.book.now _ _ _ c.args.hand.now K,
+        c.requires.ample.0,
+      );
+      hand = (
+        c.requires.ample.1,
+        K.hand,
+        c.head_ruling-e.ensures.0,
+        head-sort c.args.text.now s n p b c.args.head rs (class_sort k) i,
+      );
+    }
 
 pub returns : goal.returns
 returns c =

@@ -11,17 +11,17 @@ use Rattle.classes.proofs.judge_unit.Goals as goal
 
 pub head_ruling-e-requires : goal.head_ruling-e-requires
 head_ruling-e-requires c =
-    let (s, n, p, b, hs, rs, K, q) = c.requires.1 in
-    let i = unit-is c.args.text.now s n p b c.args.head rs q in (
-      (
+    let (s, n, p, b, hs, rs, K, q) = c.requires.by_index in
+    let i = unit-is c.args.text.now s n p b c.args.head rs q in record {
+      inside = (
         head-inside c.args.text.now s n p b c.args.head rs unit i q.fair.0,
         K.model.inside,
-        c.requires.0.1,
+        c.requires.text_len_bound.1,
         K.within,
-        c.requires.0.2,
-      ),
-      (b, ap (λ (u : Head). u.base) i, q.fair.1),
-    )
+        c.requires.text_len_bound.2,
+      );
+      base_value = (b, ap (λ (u : Head). u.base) i, q.fair.1);
+    }
 
 pub returns-then-r-gt0 : goal.returns-then-r-gt0
 returns-then-r-gt0 c =
@@ -34,25 +34,23 @@ returns-then-r-gt0 c =
 
 pub declare_unit-requires : goal.declare_unit-requires
 declare_unit-requires c =
-    let (s, n, p, b, hs, rs, K, q) = c.requires.1 in
-    let i = unit-is c.args.text.now s n p b c.args.head rs q in (
-      (
+    let (s, n, p, b, hs, rs, K, q) = c.requires.by_index in
+    let i = unit-is c.args.text.now s n p b c.args.head rs q in record {
+      inside = (
         head-inside c.args.text.now s n p b c.args.head rs unit i q.fair.0,
-        c.requires.0.0,
-        c.requires.0.1,
-      ),
-      (
-        (
-          c.head_ruling-e.ensures.1 (le-zero _ c.if-r-gt0.false),
-          small c.args.text.now s c.args.st c.args.book.now _ _ _ hs K,
-          c.requires.0.2,
-        ),
-        (
-          c.head_ruling-e.ensures.0,
-          head-sort c.args.text.now s n p b c.args.head rs unit i,
-        ),
-      ),
-    )
+        c.requires.text_len_bound.0,
+        c.requires.text_len_bound.1,
+      );
+      head_size_in_bounds = (
+        c.head_ruling-e.ensures.1 (le-zero _ c.if-r-gt0.false),
+        small c.args.text.now s c.args.st c.args.book.now _ _ _ hs K,
+        c.requires.text_len_bound.2,
+      );
+      base_le_count = (
+        c.head_ruling-e.ensures.0,
+        head-sort c.args.text.now s n p b c.args.head rs unit i,
+      );
+    }
 
 pub returns : goal.returns
 returns c =

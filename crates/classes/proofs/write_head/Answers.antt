@@ -10,14 +10,14 @@ use Rattle.classes.proofs.write_head.Goals as goal
 pub base_number-number-requires : goal.base_number-number-requires
 unfolding index_in
 base_number-number-requires c =
-    definition-rows c.args.st c.args.work.now c.requires.1.0.2 c.args.base
-    (omega (arith, c.requires.1.1.0))
+    definition-rows c.args.st c.args.work.now c.requires.head_size_in_bounds.2 c.args.base
+    (omega (arith, c.requires.base_le_count.0))
 
 pub enter-requires : goal.enter-requires
 enter-requires c = (
-  c.requires.1.0.2,
-  class-narrow c.args.st c.args.head c.args.base _ _ c.requires.0.0 c.requires.1.0.0 c.requires.0.1
-      c.requires.1.0.1 c.requires.1.1.0 c.requires.1.1.1 c.wide.ensures.1,
+  c.requires.head_size_in_bounds.2,
+  class-narrow c.args.st c.args.head c.args.base _ _ c.requires.len_bound.0 c.requires.head_size_in_bounds.0 c.requires.len_bound.1
+      c.requires.head_size_in_bounds.1 c.requires.base_le_count.0 c.requires.base_le_count.1 c.wide.ensures.1,
 )
 
 pub returns : goal.returns
@@ -31,5 +31,5 @@ returns c = (
   λ t ks k. c.put.ensures
       ∙ class-record c.args.book.now c.args.st.extent.used c.args.head
       (entry ks c.args.base) _ _ _ _ c.head_record-record.ensures c.head_kind-kind.ensures c.flags-flags.ensures.0
-      (c.base_number-number.ensures t ks c.args.st.listing.count c.requires.1.1.0 k),
+      (c.base_number-number.ensures t ks c.args.st.listing.count c.requires.base_le_count.0 k),
 )

@@ -5,5 +5,5 @@ use Rattle.console.proofs.within.Goals as goal
 
 pub returns : goal.returns
 returns c =
-    let h = c.least.ensures.1 in
+    let h = c.least.ensures.upper_bound_2 in
     (h, sym (length-take-le _ _ h))

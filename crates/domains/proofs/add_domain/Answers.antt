@@ -18,35 +18,32 @@ put-requires c =
 
 pub enter_domain-requires : goal.enter_domain-requires
 enter_domain-requires c =
-    let (s, n, p, b, w, o, hs, rs, h, l, z) = c.requires.1.1 in
-    let v = numbers h c.args.book.now l c.requires.0.1 c.args.size z
-    (sym c.has_room.ensures ∙ c.if-has_room.true) in (
-      (v.inside, c.requires.0.0, c.requires.1.0),
-      (v.home, v.numbered, v.place, v.count, v.total, c.requires.0.2),
-    )
+    let (s, n, p, b, w, o, hs, rs, h, l, z) = c.requires.some_sized in
+    let v = numbers h c.args.book.now l c.requires.text_len_bound.1 c.args.size z
+    (sym c.has_room.ensures ∙ c.if-has_room.true) in record { inside = (v.inside, c.requires.text_len_bound.0, c.requires.ample); home_bound = (v.home, v.numbered, v.place, v.count, v.total, c.requires.text_len_bound.2) }
 
 pub overflow_add-size : goal.overflow_add-size
 overflow_add-size c =
-    let (s, n, p, b, w, o, hs, rs, h, l, z) = c.requires.1.1 in
-    let v = numbers h c.args.book.now l c.requires.0.1 c.args.size z
+    let (s, n, p, b, w, o, hs, rs, h, l, z) = c.requires.some_sized in
+    let v = numbers h c.args.book.now l c.requires.text_len_bound.1 c.args.size z
     (sym c.has_room.ensures ∙ c.if-has_room.true) in
     let k = v.bytes in
     omega arith
 
 pub overflow_add-size-then-has_room : goal.overflow_add-size-then-has_room
 overflow_add-size-then-has_room c =
-    let (s, n, p, b, w, o, hs, rs, h, l, z) = c.requires.1.1 in
-    let v = numbers h c.args.book.now l c.requires.0.1 c.args.size z
+    let (s, n, p, b, w, o, hs, rs, h, l, z) = c.requires.some_sized in
+    let v = numbers h c.args.book.now l c.requires.text_len_bound.1 c.args.size z
     (sym c.has_room.ensures ∙ c.if-has_room.true) in
     let k = v.records in
     omega arith
 
 pub declared-requires : goal.declared-requires
 declared-requires c =
-    let (s, n, p, b, w, o, hs, rs, h, l, z) = c.requires.1.1 in
-    let v = numbers h c.args.book.now l c.requires.0.1 c.args.size z
+    let (s, n, p, b, w, o, hs, rs, h, l, z) = c.requires.some_sized in
+    let v = numbers h c.args.book.now l c.requires.text_len_bound.1 c.args.size z
     (sym c.has_room.ensures ∙ c.if-has_room.true) in
-    ((v.used, v.recorded, v.defined), let k = v.count in omega arith)
+    record { bytes_bound = (v.used, v.recorded, v.defined); count_bound = let k = v.count in omega arith }
 
 pub returns-then-has_room : goal.returns-then-has_room
 unfolding index_in
@@ -55,23 +52,23 @@ returns-then-has_room c =
     let m = (indexed h.keeps.held).known in
     let y = c.args.st.listing.layout in
     let v = c.enter_domain.new.1.0 in
-    kept-domain h c.args.book.now l c.requires.0.1 c.args.size e.sized
+    kept-domain h c.args.book.now l c.requires.text_len_bound.1 c.args.size e.sized
     (sym c.has_room.ensures ∙ c.if-has_room.true) e.laid
     c.is_mandatory-mandatory.result
     (c.is_mandatory-mandatory.ensures c.args.text.now (known s.decls)
-    c.args.st.listing.count c.requires.0.2 m)
+    c.args.st.listing.count c.requires.text_len_bound.2 m)
     c.flags-flags.result c.flags-flags.ensures.0 c.base_number-of_base.result
     (c.base_number-of_base.ensures c.args.text.now (known s.decls)
-    c.args.st.listing.count c.requires.0.2 m)
+    c.args.st.listing.count c.requires.text_len_bound.2 m)
     c.head_record-head.result c.put.new.0 (index_in y v) (chains_in y v)
-    c.head_record-head.ensures c.put.ensures c.put.auto.0 c.enter_domain.ensures.0 c.enter_domain.ensures.2
-    (definition-rows c.args.st c.args.work.now c.requires.1.0
-    (c.args.st.listing.count + 2) (omega arith)) c.requires.0.2 f c.declared.result
+    c.head_record-head.ensures c.put.ensures c.put.auto.out c.enter_domain.ensures.0 c.enter_domain.ensures.2
+    (definition-rows c.args.st c.args.work.now c.requires.ample
+    (c.args.st.listing.count + 2) (omega arith)) c.requires.text_len_bound.2 f c.declared.result
     c.declared.ensures _ refl _ c.enter_domain.ensures.1
 
 pub returns : goal.returns
 returns c =
     λ s n p b w o hs rs h l e f.
-    refused-room h c.args.book.now l c.requires.0.1 c.args.size e.sized
+    refused-room h c.args.book.now l c.requires.text_len_bound.1 c.args.size e.sized
     (sym c.has_room.ensures ∙ c.if-has_room.false)
     c.refused.result c.refused.ensures _ _ _

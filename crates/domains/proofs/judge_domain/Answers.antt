@@ -10,8 +10,8 @@ use Rattle.domains.proofs.judge_domain.Goals as goal
 
 pub name_ruling-q-requires : goal.name_ruling-q-requires
 name_ruling-q-requires c =
-    let (s, n, p, b, w, hs, k, h) = c.requires.1.1 in
-    ((unit-inside h, c.requires.1.0), (c.requires.0.scratch_short, omega (arith, c.requires.0.tables_wide)))
+    let (s, n, p, b, w, hs, k, h) = c.requires.by_index in
+    record { inside = (unit-inside h, c.requires.ample); scratch_len_bound = (c.requires.loan.scratch_short, omega (arith, c.requires.loan.tables_wide)) }
 
 pub returns-then-q-gt0 : goal.returns-then-q-gt0
 returns-then-q-gt0 c =
@@ -24,8 +24,8 @@ returns-then-q-gt0 c =
 
 pub reach-e-requires : goal.reach-e-requires
 reach-e-requires c =
-    let (s, n, p, b, w, hs, k, h) = c.requires.1.1 in
-    ((k.model.inside, c.requires.1.0), (s, n, p, b, w, c.args.scratch.now, h))
+    let (s, n, p, b, w, hs, k, h) = c.requires.by_index in
+    record { inside = (k.model.inside, c.requires.ample); by_index = (s, n, p, b, w, c.args.scratch.now, h) }
 
 pub returns-then-x-gt0 : goal.returns-then-x-gt0
 returns-then-x-gt0 c =
@@ -43,26 +43,24 @@ returns-then-x-gt0 c =
 
 pub typed_domain-requires : goal.typed_domain-requires
 typed_domain-requires c =
-    let (s, n, p, b, w, hs, k, h) = c.requires.1.1 in (
-      loaned refl refl c.name_ruling-q.auto.1.1.1.0 c.requires.0,
-      (
-        (c.requires.1.0, c.reach-e.ensures.0, c.reach-e.ensures.1),
-        (
-          s,
-          n,
-          p,
-          b,
-          w,
-          hs,
-          based-of k h c.name_ruling-q.result
-              (c.name_ruling-q.ensures s n w.type c.args.book.now hs k
-              (ap (λ (u : DomainUnit). u.name) (domain-is h)) h.fair.0
-              (ap (λ (u : DomainUnit). u.written.meant) (domain-is h)) (unit-scratch h)) (omega (arith, c.if-q-gt0.false))
-              (c.reach-e.ensures.2 s n p b w c.args.book.now hs c.args.scratch.now k h)
-              (omega (arith, c.if-x-gt0.false)),
-        ),
-      ),
-    )
+    let (s, n, p, b, w, hs, k, h) = c.requires.by_index in record {
+      loan = loaned refl refl c.name_ruling-q.auto.tables c.requires.loan;
+      ample = (c.requires.ample, c.reach-e.ensures.0, c.reach-e.ensures.1);
+      some_extending = (
+        s,
+        n,
+        p,
+        b,
+        w,
+        hs,
+        based-of k h c.name_ruling-q.result
+            (c.name_ruling-q.ensures s n w.type c.args.book.now hs k
+            (ap (λ (u : DomainUnit). u.name) (domain-is h)) h.fair.0
+            (ap (λ (u : DomainUnit). u.written.meant) (domain-is h)) (unit-scratch h)) (omega (arith, c.if-q-gt0.false))
+            (c.reach-e.ensures.2 s n p b w c.args.book.now hs c.args.scratch.now k h)
+            (omega (arith, c.if-x-gt0.false)),
+      );
+    }
 
 pub returns : goal.returns
 returns c =

@@ -13,24 +13,24 @@ use Rattle.domains.proofs.reach.Goals as goal
 
 pub extends-e-requires : goal.extends-e-requires
 extends-e-requires c =
-    let (s, n, p, b, w, rs, h) = c.requires.1 in
-    (c.requires.0, (b, ap (λ (u : DomainUnit). u.base) (domain-is h), h.fair.1))
+    let (s, n, p, b, w, rs, h) = c.requires.by_index in
+    record { inside = c.requires.inside; base_value = (b, ap (λ (u : DomainUnit). u.base) (domain-is h), h.fair.1) }
 
 pub target-target-requires : goal.target-target-requires
 target-target-requires c =
-    let (s, n, p, b, w, rs, h) = c.requires.1 in (
-      c.requires.0,
-      (
+    let (s, n, p, b, w, rs, h) = c.requires.by_index in record {
+      inside = c.requires.inside;
+      reference_value = (
         reference_in w.type,
         ap (λ (u : DomainUnit). u.written.reference) (domain-is h),
         reference-fair c.args.text.now w.type h.fair.2.type,
-      ),
-    )
+      );
+    }
 
 pub target_ruling-of_type-requires : goal.target_ruling-of_type-requires
 unfolding index_in
 target_ruling-of_type-requires c =
-    definition-rows c.args.st c.args.work.now c.requires.0.1 c.target-target.result
+    definition-rows c.args.st c.args.work.now c.requires.inside.1 c.target-target.result
     (omega (arith, c.target-target.ensures.0))
 
 pub returns : goal.returns

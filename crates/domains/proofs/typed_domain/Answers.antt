@@ -29,46 +29,41 @@ returns-then-is_bad_head c =
 
 pub over_base-over-requires : goal.over_base-over-requires
 over_base-over-requires c =
-    let (s, n, p, b, w, hs, h) = c.requires.1.1 in
-    (h.keeps.within, c.requires.0.book_short, c.requires.1.0.0, c.requires.1.0.1, c.requires.1.0.2)
+    let (s, n, p, b, w, hs, h) = c.requires.some_extending in
+    (h.keeps.within, c.requires.loan.book_short, c.requires.ample.0, c.requires.ample.1, c.requires.ample.2)
 
 pub lay_written-l-requires : goal.lay_written-l-requires
 lay_written-l-requires c =
-    let (s, n, p, b, w, hs, h) = c.requires.1.1 in
+    let (s, n, p, b, w, hs, h) = c.requires.some_extending in
     let v = c.over_base-over.ensures c.args.text.now s n p b w hs c.args.scratch.now c.args.d refl
-    h in (
-      own-sized h c.over_base-over.result v,
-      ((h.keeps.within, c.requires.0.book_short, c.requires.0.scratch_short), c.requires.0.tables_wide),
-    )
+    h in record { sized = own-sized h c.over_base-over.result v; used_in_bounds = (h.keeps.within, c.requires.loan.book_short, c.requires.loan.scratch_short); tables_for = c.requires.loan.tables_wide }
 
 pub add_domain-requires : goal.add_domain-requires
 add_domain-requires c =
-    let (s, n, p, b, w, hs, h) = c.requires.1.1 in
+    let (s, n, p, b, w, hs, h) = c.requires.some_extending in
     let v = c.over_base-over.ensures c.args.text.now s n p b w hs c.args.scratch.now c.args.d refl
     h in
-    let q = laid h c.over_base-over.result v c.lay_written-l.new.1.0 c.lay_written-l.result c.lay_written-l.ensures in (
-      (
-        c.requires.0.text_short,
-        still-below c.lay_written-l.auto.1.0 c.requires.0.book_short,
-        c.requires.1.0.1,
-      ),
-      (
-        c.requires.1.0.0,
-        (
-          s,
-          n,
-          p,
-          b,
-          w,
-          c.args.book.now,
-          hs,
-          c.args.scratch.now,
-          h,
-          sym c.lay_written-l.auto.1.0,
-          (whole h c.over_base-over.result v c.lay_written-l.new.1.0 c.lay_written-l.result q _ c.in-Whole.is).0,
-        ),
-      ),
-    )
+    let q = laid h c.over_base-over.result v c.lay_written-l.new.1.0 c.lay_written-l.result c.lay_written-l.ensures in record {
+      text_len_bound = (
+        c.requires.loan.text_short,
+        still-below c.lay_written-l.auto.book c.requires.loan.book_short,
+        c.requires.ample.1,
+      );
+      ample = c.requires.ample.0;
+      some_sized = (
+        s,
+        n,
+        p,
+        b,
+        w,
+        c.args.book.now,
+        hs,
+        c.args.scratch.now,
+        h,
+        sym c.lay_written-l.auto.book,
+        (whole h c.over_base-over.result v c.lay_written-l.new.1.0 c.lay_written-l.result q _ c.in-Whole.is).0,
+      );
+    }
 
 pub returns-in-Broken : goal.returns-in-Broken
 returns-in-Broken c =
@@ -105,4 +100,4 @@ returns-in-Whole c =
     (room (lent (length c.args.book.now)) n.offset j) c.args.st
     c.add_domain.result c.add_domain.new.1.0 c.add_domain.new.1.1.0 hs)
     (sym f) (c.add_domain.ensures s n p b w c.args.book.now hs c.args.scratch.now h
-    (sym c.lay_written-l.auto.1.0) (record { sized = g.0; laid = g.1 }) (next-fair h f))
+    (sym c.lay_written-l.auto.book) (record { sized = g.0; laid = g.1 }) (next-fair h f))

@@ -5,13 +5,13 @@ use Rattle.fitting.proofs.range_fits.Goals as goal
 pub low_fits-requires : goal.low_fits-requires
 low_fits-requires c = let pre = c.requires in
     let s = sized_range _ _ _ _ pre.1 c.in-Range.is in
-    ((pre.0.0, s.0), (rw (held_small _ pre.0.1) pre.0.1, rw (held_small _ s.1) s.1))
+    record { decimals_le_most_decimals = (pre.0.0, s.0); v_bound = (rw (held_small _ pre.0.1) pre.0.1, rw (held_small _ s.1) s.1) }
 
 pub high_fits-requires : goal.high_fits-requires
 high_fits-requires c =
     let pre = c.requires in
     let s = sized_range _ _ _ _ pre.1 c.in-Range.is in
-    ((pre.0.0, s.0), (rw (held_small _ pre.0.2) pre.0.2, rw (held_small _ s.2) s.2))
+    record { decimals_le_most_decimals = (pre.0.0, s.0); v_bound = (rw (held_small _ pre.0.2) pre.0.2, rw (held_small _ s.2) s.2) }
 
 pub returns-then-low_fits : goal.returns-then-low_fits
 returns-then-low_fits c =

@@ -11,20 +11,20 @@ use Rattle.heads.proofs.close_topic.Goals as goal
 
 pub same_name-requires : goal.same_name-requires
 same_name-requires c =
-    let (s, n, w, hs, rs, k, q) = c.requires.1 in
+    let (s, n, w, hs, rs, k, q) = c.requires.by_index in
     let (d, et, ca) =
-    topic-there c.args.text.now s c.args.st c.args.book.now _ _ _ hs k c.requires.0.2 in (
+    topic-there c.args.text.now s c.args.st c.args.book.now _ _ _ hs k c.requires.book_len_bound.2 in (
       close-inside c.args.text.now s n c.args.st c.args.book.now _ _ _ hs rs
-          c.args.name k q c.requires.0.0,
+          c.args.name k q c.requires.book_len_bound.0,
       ca.inside,
     )
 
 pub grown-requires : goal.grown-requires
 grown-requires c =
-    let (s, n, w, hs, rs, k, q) = c.requires.1 in
+    let (s, n, w, hs, rs, k, q) = c.requires.by_index in
     let a = small c.args.text.now s c.args.st c.args.book.now _ _ _ hs k in
     let u = k.within in
-    let p = c.requires.0.0 in
+    let p = c.requires.book_len_bound.0 in
     let i = c.if-used-book.true in
     (omega (arith, p, i), omega (arith, p, i, a.fewer), omega (arith, p, i, a.fewer, a.defined))
 
@@ -32,10 +32,10 @@ pub returns-then-used-book : goal.returns-then-used-book
 returns-then-used-book c =
     λ s n w hs rs k q.
     let (d, et, ca) =
-    topic-there c.args.text.now s c.args.st c.args.book.now _ _ _ hs k c.requires.0.2 in
+    topic-there c.args.text.now s c.args.st c.args.book.now _ _ _ hs k c.requires.book_len_bound.2 in
     close-topic-fine c.args.text.now s n c.args.st c.args.book.now _ _ _ hs rs
-    c.args.name k q c.requires.0.0
-    (class-none c.args.text.now s c.args.st c.args.book.now _ _ _ hs k c.requires.0.1)
+    c.args.name k q c.requires.book_len_bound.0
+    (class-none c.args.text.now s c.args.st c.args.book.now _ _ _ hs k c.requires.book_len_bound.1)
     c.args.st.context.topic d (ap (λ (u : R.Name). u.bytes) ca.named) et _ c.same_name.ensures _ _ _
     c.if-same_name.true c.if-used-book.true refl
     (c.in_topic.ensures ∙ ap (λ (u : State). in_topic_by u c.args.st.context.topic 0)
@@ -45,10 +45,10 @@ pub returns-then-same_name : goal.returns-then-same_name
 returns-then-same_name c =
     λ s n w hs rs k q.
     let (d, et, ca) =
-    topic-there c.args.text.now s c.args.st c.args.book.now _ _ _ hs k c.requires.0.2 in
+    topic-there c.args.text.now s c.args.st c.args.book.now _ _ _ hs k c.requires.book_len_bound.2 in
     close-topic-over c.args.text.now s n c.args.st c.args.book.now _ _ _ hs rs
-    c.args.name k q c.requires.0.0
-    (class-none c.args.text.now s c.args.st c.args.book.now _ _ _ hs k c.requires.0.1)
+    c.args.name k q c.requires.book_len_bound.0
+    (class-none c.args.text.now s c.args.st c.args.book.now _ _ _ hs k c.requires.book_len_bound.1)
     c.args.st.context.topic d (ap (λ (u : R.Name). u.bytes) ca.named) et _ c.same_name.ensures _ _
     c.if-same_name.true (omega (arith, c.if-used-book.false)) c.refused.ensures
 
@@ -56,9 +56,9 @@ pub returns : goal.returns
 returns c =
     λ s n w hs rs k q.
     let (d, et, ca) =
-    topic-there c.args.text.now s c.args.st c.args.book.now _ _ _ hs k c.requires.0.2 in
+    topic-there c.args.text.now s c.args.st c.args.book.now _ _ _ hs k c.requires.book_len_bound.2 in
     close-topic-other c.args.text.now s n c.args.st c.args.book.now _ _ _ hs rs
-    c.args.name k q c.requires.0.0
-    (class-none c.args.text.now s c.args.st c.args.book.now _ _ _ hs k c.requires.0.1)
+    c.args.name k q c.requires.book_len_bound.0
+    (class-none c.args.text.now s c.args.st c.args.book.now _ _ _ hs k c.requires.book_len_bound.1)
     c.args.st.context.topic d (ap (λ (u : R.Name). u.bytes) ca.named) et _ c.same_name.ensures _ _
     c.if-same_name.false c.refused-2.ensures

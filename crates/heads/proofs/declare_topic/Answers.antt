@@ -13,29 +13,29 @@ use Rattle.heads.proofs.declare_topic.Goals as goal
 
 pub declare-requires : goal.declare-requires
 declare-requires c = (
-  c.requires.1.2,
-  topic-narrow c.args.text.now c.args.st c.args.name _ c.requires.0.0 c.requires.0.1 c.requires.1.0
-      c.requires.0.2 c.requires.1.1,
-  c.requires.0.0,
-  omega (arith, c.requires.1.0, c.requires.0.2, c.requires.1.1.rows),
+  c.requires.topic_size_in_bounds.2,
+  topic-narrow c.args.text.now c.args.st c.args.name _ c.requires.inside.0 c.requires.inside.1 c.requires.topic_size_in_bounds.0
+      c.requires.inside.2 c.requires.topic_size_in_bounds.1,
+  c.requires.inside.0,
+  omega (arith, c.requires.topic_size_in_bounds.0, c.requires.inside.2, c.requires.topic_size_in_bounds.1.rows),
 )
 
 pub overflow_add-home : goal.overflow_add-home
 overflow_add-home c =
-    omega (arith, c.requires.1.0, c.requires.0.2, c.requires.1.1.fewer)
+    omega (arith, c.requires.topic_size_in_bounds.0, c.requires.inside.2, c.requires.topic_size_in_bounds.1.fewer)
 
 pub declared-requires : goal.declared-requires
-declared-requires c = (
-  (
-    omega (arith, c.requires.1.0, c.requires.0.2),
-    omega (arith, c.requires.1.0, c.requires.0.2, c.requires.1.1.fewer),
-    omega (arith, c.requires.1.0, c.requires.0.2, c.requires.1.1.fewer, c.requires.1.1.defined),
-  ),
-  omega (arith, c.requires.1.0, c.requires.0.2, c.requires.1.1.rows),
-)
+declared-requires c = record {
+  bytes_bound = (
+    omega (arith, c.requires.topic_size_in_bounds.0, c.requires.inside.2),
+    omega (arith, c.requires.topic_size_in_bounds.0, c.requires.inside.2, c.requires.topic_size_in_bounds.1.fewer),
+    omega (arith, c.requires.topic_size_in_bounds.0, c.requires.inside.2, c.requires.topic_size_in_bounds.1.fewer, c.requires.topic_size_in_bounds.1.defined),
+  );
+  count_bound = omega (arith, c.requires.topic_size_in_bounds.0, c.requires.inside.2, c.requires.topic_size_in_bounds.1.rows);
+}
 
 pub shape_of-book : goal.shape_of-book
-shape_of-book c = c.put.auto.0
+shape_of-book c = c.put.auto.out
 
 pub returns : goal.returns
 unfolding new_topic
@@ -44,9 +44,9 @@ returns c = (
       c.declared.ensures,
   λ s n hs k e h o f.
       topic-declared c.args.text.now s c.args.st c.args.book.now _ _ _ hs k n
-      c.args.name e h o _ _ c.name_record-record.ensures c.put.ensures c.requires.1.0
+      c.args.name e h o _ _ c.name_record-record.ensures c.put.ensures c.requires.topic_size_in_bounds.0
       _ c.declare.ensures.0
-      (definition-rows c.args.st c.args.work.now c.requires.1.2
+      (definition-rows c.args.st c.args.work.now c.requires.topic_size_in_bounds.2
       (c.args.st.listing.count + 2) (omega arith)) _ c.declare.ensures.1
       _ (c.declare.ensures.2 (known s.decls) (new_topic s n) k.chained k.held.all_defs
       (ap (bytes_of c.args.text.now) e ∙ h.there)) f,

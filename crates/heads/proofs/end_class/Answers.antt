@@ -14,9 +14,9 @@ returns c = (
   c.closed.ensures,
   λ s d hs k e b f.
       class-ended c.args.text.now s c.args.st c.args.book.now _ _ _ hs k d e _ _ refl
-      c.put.ensures c.requires.1.0
+      c.put.ensures c.requires.class_end_size_in_bounds.0
       _ (c.make_known.ensures.0 ∙ c.close.ensures.0)
-      (definition-rows c.args.st c.args.work.now c.requires.1.2
+      (definition-rows c.args.st c.args.work.now c.requires.class_end_size_in_bounds.2
       (c.args.st.listing.count + 2) (omega arith))
       _ (c.make_known.ensures.1 ∙ c.close.ensures.1)
       _ (c.make_known.ensures.2 (known s.decls) d

@@ -4,7 +4,7 @@ use borrow.Author.Rules.{rules}
 use Rattle.heads.proofs.judge_header.Goals as goal
 
 pub is_edition-requires : goal.is_edition-requires
-is_edition-requires c = let (s, v, o, w, hs, rs, k, q) = c.requires.1 in
+is_edition-requires c = let (s, v, o, w, hs, rs, k, q) = c.requires.by_index in
     header-inside c.args.text.now s v c.args.st o _ _ _ hs rs c.args.name k q
 
 pub returns-then-is_edition : goal.returns-then-is_edition

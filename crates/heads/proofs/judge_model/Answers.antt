@@ -7,20 +7,20 @@ use Rattle.heads.proofs.judge_model.Goals as goal
 
 pub begun-requires : goal.begun-requires
 begun-requires c =
-    let (s, n, strings, w, hs, rs, k, q) = c.requires.1 in
+    let (s, n, strings, w, hs, rs, k, q) = c.requires.by_index in
     let a = small c.args.text.now s c.args.st c.args.book.now _ _ _ hs k in
-    let p = c.requires.0.1 in
+    let p = c.requires.text_len_bound.1 in
     let i = c.if-used-book.true in
     (omega (arith, p, i), omega (arith, p, i, a.fewer), omega (arith, p, i, a.fewer, a.defined))
 
 pub returns-then-used-book : goal.returns-then-used-book
 returns-then-used-book c =
     λ s n strings w hs rs k q. model-fine c.args.text.now s n strings c.args.st
-    c.args.book.now _ _ _ hs rs c.args.head k q c.requires.0.1 _ _ _ _ c.if-used-book.true
+    c.args.book.now _ _ _ hs rs c.args.head k q c.requires.text_len_bound.1 _ _ _ _ c.if-used-book.true
     c.name_record-record.ensures c.put.ensures c.begun.ensures refl
 
 pub returns : goal.returns
 returns c =
     λ s n strings w hs rs k q. model-over c.args.text.now s n strings c.args.st
-    c.args.book.now _ _ _ hs rs c.args.head k q c.requires.0.1 _ _
+    c.args.book.now _ _ _ hs rs c.args.head k q c.requires.text_len_bound.1 _ _
     (omega (arith, c.if-used-book.false)) c.refused.ensures

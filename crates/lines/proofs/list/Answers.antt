@@ -21,7 +21,7 @@ ends b i e f p q = sym q ∙ ap found_at p
 pub put_record-out-requires : goal.put_record-out-requires
 put_record-out-requires c =
     let e = ends _ _ _ _ c.in-At.is c.end_from-f.ensures in
-    (listed_here _ _ _ e _ c.loop-out.invariant.3, e)
+    record { number_value = listed_here _ _ _ e _ c.loop-out.invariant.3; beginning_value = e }
 
 pub overflow_add-number : goal.overflow_add-number
 overflow_add-number c =

@@ -23,7 +23,7 @@ loop-q-preserved c = (
   omega arith,
   c.add-n.ensures.1,
   omega (arith, c.add-n.ensures.0),
-  c.add-n.auto.1.1.1.1.0 ∙ c.loop-q.invariant.3,
+  c.add-n.auto.hand ∙ c.loop-q.invariant.3,
   λ ms g own more k f e l u w. own-next ms g own more c.args.first c.args.last c.loop-q.q e l u w
       c.loop-q.invariant.0 c.loop-q-test.true _ c.loop-q.n c.args.count f.all
       (c.loop-q.invariant.4 ms g own more k f e l u w) _ _ (λ h a. c.add-n.ensures.2 ms g h a k),

@@ -29,7 +29,7 @@ add_own-n-requires c =
 
 pub shape_of-hand-then-c-b : goal.shape_of-hand-then-c-b
 shape_of-hand-then-c-b c =
-    c.add_own-n.auto.1.1.1.1.1.0 ∙ c.loop-c.invariant.2 ∙ sym c.requires.4
+    c.add_own-n.auto.hand ∙ c.loop-c.invariant.2 ∙ sym c.requires.4
 
 pub returns-then-c-b : goal.returns-then-c-b
 returns-then-c-b c = (
@@ -44,7 +44,7 @@ pub loop-c-preserved : goal.loop-c-preserved
 loop-c-preserved c = (
   omega arith,
   c.add_own-n.ensures.0,
-  c.add_own-n.auto.1.1.1.1.1.0 ∙ c.loop-c.invariant.2,
+  c.add_own-n.auto.hand ∙ c.loop-c.invariant.2,
   λ ks ms k w. chain_next c.args.text.now ks ms c.args.index.now c.args.count c.args.rows.now
       c.args.total k c.args.base c.loop-c.c c.loop-c-test.true (omega arith) w _ _
       (c.loop-c.invariant.3 ks ms k w) _ _ _ c.field-first.ensures.0 c.field-last.ensures.0 c.field-b.ensures.0 _ _

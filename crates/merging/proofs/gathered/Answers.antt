@@ -9,18 +9,18 @@ use Rattle.merging.proofs.gathered.Goals as goal
 
 pub slice_bounds-gather-end-2 : goal.slice_bounds-gather-end-2
 slice_bounds-gather-end-2 c =
-    sym (length-take-le _ _ (omega (arith, c.requires.1)))
+    sym (length-take-le _ _ (omega (arith, c.requires.tables_for)))
 
 pub gather-own-requires : goal.gather-own-requires
 gather-own-requires c =
     let part : ℕ = length c.args.scratch.now / 2 + 4 in
-    let e = length-take-le part c.args.tables.now (omega (arith, c.requires.1)) in
-    (omega (arith, c.requires.0.1), omega (arith, e, c.requires.1))
+    let e = length-take-le part c.args.tables.now (omega (arith, c.requires.tables_for)) in
+    (omega (arith, c.requires.b_len_bound.1), omega (arith, e, c.requires.tables_for))
 
 pub returns : goal.returns
 returns c =
     let a = c.args in
-    let f : length a.scratch.now / 2 + 4 ≤ length a.tables.now = omega (arith, c.requires.1) in (
+    let f : length a.scratch.now / 2 + 4 ≤ length a.tables.now = omega (arith, c.requires.tables_for) in (
       both-sized _ a.tables.now _ _ f c.gather-own.auto.1.1.1.0 c.gather-of_base.auto.1.1.1.0 a.text.now
           a.b.now a.scratch.now a.base c.gather-own.ensures c.gather-of_base.ensures,
       both-gathered _ a.tables.now _ _ f c.gather-own.auto.1.1.1.0 c.gather-of_base.auto.1.1.1.0 a.text.now

@@ -15,9 +15,9 @@ pub loop-left-init : goal.loop-left-init
 loop-left-init c =
     let a = c.args in
     let r = a.course in (
-      record { same_size = refl; fewer = c.requires.0.3; deep = c.requires.0.2; room = c.requires.1.0 },
+      record { same_size = refl; fewer = c.requires.n_le_start.3; deep = c.requires.n_le_start.2; room = c.requires.fuel_bound },
       λ G. far-start a.text.now a.scratch.now a.out.now a.n r.start r.begun
-          r.fuel r.first c.requires.0.0,
+          r.fuel r.first c.requires.n_le_start.0,
     )
 
 pub shape_of-out-then-d-eq0 : goal.shape_of-out-then-d-eq0
@@ -32,18 +32,18 @@ returns-then-d-eq0 c =
 
 pub slice_bounds-look-end : goal.slice_bounds-look-end
 slice_bounds-look-end c =
-    omega (arith, c.loop-left.invariant.0.same_size, c.requires.0.1)
+    omega (arith, c.loop-left.invariant.0.same_size, c.requires.n_le_start.1)
 
 pub slice_bounds-look-end-in-loop-left : goal.slice_bounds-look-end-in-loop-left
 slice_bounds-look-end-in-loop-left c =
-    sym (length-take-le _ _ (omega (arith, c.loop-left.invariant.0.same_size, c.requires.0.1)))
+    sym (length-take-le _ _ (omega (arith, c.loop-left.invariant.0.same_size, c.requires.n_le_start.1)))
 
 pub top-requires : goal.top-requires
 top-requires c = (omega (arith, c.if-d-eq0.false), c.loop-left.invariant.0.deep)
 
 pub look-m-requires : goal.look-m-requires
 look-m-requires c =
-    c.requires.1.1
+    c.requires.both_sized
 
 pub shape_of-out-then-is_barred : goal.shape_of-out-then-is_barred
 shape_of-out-then-is_barred c = c.loop-left.invariant.0.same_size

@@ -11,14 +11,14 @@ floor_div-requires c = ten-range _ (omega arith) c.ten_to-p.ensures
 
 pub rounded-requires : goal.rounded-requires
 rounded-requires c =
-    (rw (to_z-of_z c.ranges.v) c.requires.1.0, ten-range _ (omega arith) c.ten_to.ensures)
+    record { v_bound = rw (to_z-of_z c.ranges.v) c.requires.v_bound.0; m_nonzero = ten-range _ (omega arith) c.ten_to.ensures }
 
 pub returns-then-base_decimals-decimals : goal.returns-then-base_decimals-decimals
 returns-then-base_decimals-decimals c =
     let f = c.ranges in
     rw (
       to_z-of_z f.bound,
-      kept c.rounded.result c.rounded.type-inv,
+      kept c.rounded.result c.rounded.type_inv,
       c.rounded.ensures,
       to_z-of_z f.v,
       c.ten_to.ensures,
@@ -30,7 +30,7 @@ returns c =
     let f = c.ranges in
     rw (
       to_z-of_z f.v,
-      kept c.floor_div.result c.floor_div.type-inv,
+      kept c.floor_div.result c.floor_div.type_inv,
       c.floor_div.ensures,
       to_z-of_z f.bound,
       c.ten_to-p.ensures,

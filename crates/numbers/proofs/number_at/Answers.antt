@@ -3,7 +3,7 @@ use borrow.Author.Rules.{rules}
 use Rattle.numbers.proofs.number_at.Goals as goal
 
 pub number_of-requires : goal.number_of-requires
-number_of-requires c = simp add-sub_cancel_left c.requires.1
+number_of-requires c = simp add-sub_cancel_left c.requires.text_bound
 
 pub returns : goal.returns
 returns c = simp add-sub_cancel_left at c.number_of.ensures

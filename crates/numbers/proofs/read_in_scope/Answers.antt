@@ -12,12 +12,12 @@ nonzero_div-magnitude_limit c = (ten-range _ (omega arith) c.ten_to-p.ensures).0
 
 pub rounded-requires : goal.rounded-requires
 rounded-requires c =
-    (rw (to_z-of_z c.ranges.value) c.requires.2, ten-range _ (omega arith) c.ten_to.ensures)
+    record { v_bound = rw (to_z-of_z c.ranges.value) c.requires.2; m_nonzero = ten-range _ (omega arith) c.ten_to.ensures }
 
 pub returns-then-base_decimals-decimals : goal.returns-then-base_decimals-decimals
 returns-then-base_decimals-decimals c =
     let e = rw (to_z-of_z c.ranges.value) at c.rounded.ensures in
-    rw (kept c.rounded.result c.rounded.type-inv) (rounds c.args.value _ _ c.requires c.if-base_decimals-decimals.true c.ten_to.ensures e)
+    rw (kept c.rounded.result c.rounded.type_inv) (rounds c.args.value _ _ c.requires c.if-base_decimals-decimals.true c.ten_to.ensures e)
 
 pub returns-then-magnitude_limit-p : goal.returns-then-magnitude_limit-p
 returns-then-magnitude_limit-p c =
@@ -38,5 +38,5 @@ returns c =
     let k = (le-div_iff_mul-le (ten-range _ (omega arith) p).0).0 c.if-magnitude_limit-p.false in
     let e = rw (to_z-of_z c.ranges.value) at c.size.ensures in
     let w = rw (to_z-of_z c.ranges.value) at c.times.ensures in
-    rw (kept c.times.result c.times.type-inv)
+    rw (kept c.times.result c.times.type_inv)
     (scales c.args.value _ _ c.requires c.if-base_decimals-decimals.false p (rw (← e) (omega arith)) w)

@@ -8,12 +8,12 @@ use Rattle.numbers.proofs.SignedLaws.{kept, raised}
 use Rattle.numbers.proofs.rounded.Goals as goal
 
 pub overflow_add-v : goal.overflow_add-v
-overflow_add-v c = (raised c.args.v c.ranges.v (c.args.m / 2) c.requires.0 (omega arith)).0
+overflow_add-v c = (raised c.args.v c.ranges.v (c.args.m / 2) c.requires.v_bound (omega arith)).0
 
 pub floor_div-requires : goal.floor_div-requires
-floor_div-requires c = c.requires.1
+floor_div-requires c = c.requires.m_nonzero
 
 pub returns : goal.returns
 returns c =
-    let e = (raised c.args.v c.ranges.v (c.args.m / 2) c.requires.0 (omega arith)).1 in
-    kept c.floor_div.result c.floor_div.type-inv ∙ c.floor_div.ensures ∙ ap (λ (z : ℤ). shr_z z c.args.m) e
+    let e = (raised c.args.v c.ranges.v (c.args.m / 2) c.requires.v_bound (omega arith)).1 in
+    kept c.floor_div.result c.floor_div.type_inv ∙ c.floor_div.ensures ∙ ap (λ (z : ℤ). shr_z z c.args.m) e

@@ -2,9 +2,6 @@ use lib.ListN.{length, drop, drop_of_length-le}
 use borrow.Author.Rules.{rules}
 use Rattle.numbers.proofs.WrittenLaws.{Scanned, scanned-first, scanned-small, scanned-next, scanned-whole}
 use Rattle.numbers.proofs.scan.Goals as goal
--- The invariant: the digits and decimals of the whole are those so far with the bytes to come, for
--- whose digits there is room.
-use Prim.Native.Nat.{◌-◌, ◌≤◌}
 
 pub loop-i-init : goal.loop-i-init
 loop-i-init c = (search rules, scanned-first _ c.requires)

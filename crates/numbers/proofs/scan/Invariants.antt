@@ -1,8 +1,10 @@
 use lib.ListN.{length, drop, drop_of_length-le}
 use borrow.Author.Rules.{rules}
 use Rattle.numbers.proofs.WrittenLaws.{Scanned, scanned-first, scanned-small, scanned-next, scanned-whole}
+use Prim.Native.Nat.{◌-◌, ◌≤◌}
 use Rattle.numbers.proofs.scan.Given as goal
 
+-- The digits and decimals of the whole are those so far with the bytes to come, for whose digits there is room.
 abbrev pub invariant-loop-i : goal.invariant-loop-i
 invariant-loop-i l = (l.i ≤ length l.part) × Scanned l.part (drop l.i l.part) l.value l.decimals
 

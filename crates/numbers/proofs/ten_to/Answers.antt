@@ -4,9 +4,10 @@ use borrow.Author.Rules.{rules}
 use Rattle.rules.specs.Numbers.{most_decimals}
 use Rattle.numbers.proofs.PowerLaws.{ten-most, ten-more}
 use Rattle.numbers.proofs.ten_to.Goals as goal
+use mathlib.Core.Path.{◌≡◌, refl}
+
 -- A power of ten by multiplying. What each turn keeps: after `counter` turns, at most n, the product is 10 ^ counter.
 -- `counter` is the loop's own count of its turns, which the code does not name.
-use mathlib.Core.Path.{◌≡◌, refl}
 
 -- before the first turn the product is 1, which is 10 ^ 0
 pub loop-init : goal.loop-init

@@ -7,7 +7,7 @@ overflow_cast-result c = omega arith
 
 pub returns-then-ends_line : goal.returns-then-ends_line
 unfolding behind_byte
-returns-then-ends_line c = rw (sym c.ends_line.ensures ∙ c.if-ends_line.true, c.wrapping_add_u32.ensures)
+returns-then-ends_line c = rw (sym c.ends_line.ensures ∙ c.if-ends_line.true, c.wrapping_add_u32.ensures.value)
 
 pub returns : goal.returns
 unfolding behind_byte

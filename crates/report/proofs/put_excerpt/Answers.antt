@@ -15,4 +15,4 @@ line-in t i e p h = rw p (run-le not_line_end t i h)
 
 pub slice_bounds-put_line-end : goal.slice_bounds-put_line-end
 slice_bounds-put_line-end c =
-    omega (arith, line-in _ _ _ c.line_end-end.ensures c.least-at.ensures.1)
+    omega (arith, line-in _ _ _ c.line_end-end.ensures c.least-at.ensures.upper_bound_2)

@@ -16,7 +16,7 @@ run-a-requires c =
     let l = length-take-le c.least-m.result c.args.book.now c.least-m.ensures.1 in
     let few : length (take c.least-m.result c.args.book.now)
     ≤ c.args.most = omega (arith, l, c.least-m.ensures.2) in
-    (loan-less few c.requires.0, ((suffice-less few c.requires.1.0.0, c.requires.1.0.1), c.requires.1.1))
+    record { loan = loan-less few c.requires.loan; suffice = (suffice-less few c.requires.suffice.0, c.requires.suffice.1); by_index = c.requires.by_index }
 
 pub finish-requires : goal.finish-requires
 finish-requires c =
@@ -27,4 +27,4 @@ finish-requires c =
 pub returns : goal.returns
 returns c =
     tried c.args.text.now c.args.book.now c.run-a.new.1.0 _ c.least-m.result c.args.most c.run-a.result
-    c.least-m.ensures.0 c.requires.0.book_short c.run-a.auto.1.0 c.run-a.ensures c.finish.ensures
+    c.least-m.ensures.0 c.requires.loan.book_short c.run-a.auto.book c.run-a.ensures c.finish.ensures

@@ -12,42 +12,42 @@ use Rattle.running.proofs.run.Goals as goal
 
 pub loop-a-init : goal.loop-a-init
 loop-a-init c =
-    let (n, e) = c.requires.1.1 in
+    let (n, e) = c.requires.by_index in
     let l = ap (λ (i : Listing). i.layout) c.nothing-state.ensures.0 in (
       refl,
       refl,
       refl,
       refl,
       refl,
-      suffices refl refl l c.requires.1.0.0,
-      begins _ _ _ _ _ _ c.args.layout n c.requires.0.text_short e l refl
+      suffices refl refl l c.requires.suffice.0,
+      begins _ _ _ _ _ _ c.args.layout n c.requires.loan.text_short e l refl
           (rw c.start-c.ensures at c.next-next.ensures ∙ next-first _) (c.nothing-state.ensures.1 _ _ _ _ _ n),
     )
 
 pub step-t-requires : goal.step-t-requires
 step-t-requires c =
     let (a, b, d, e, f, g, R) = c.loop-a.invariant in
-    (loaned a e f c.requires.0, ((suffices a b refl g, d ∙ c.requires.1.0.1), runs-sized a R))
+    record { loan = loaned a e f c.requires.loan; suffice = (suffices a b refl g, d ∙ c.requires.suffice.1); runs = runs-sized a R }
 
 pub shape_of-book-in-End : goal.shape_of-book-in-End
 shape_of-book-in-End c =
-    c.step-t.auto.1.0 ∙ c.loop-a.invariant.0
+    c.step-t.auto.book ∙ c.loop-a.invariant.0
 
 pub shape_of-work-in-End : goal.shape_of-work-in-End
 shape_of-work-in-End c =
-    c.step-t.auto.1.1.0 ∙ c.loop-a.invariant.1
+    c.step-t.auto.work ∙ c.loop-a.invariant.1
 
 pub shape_of-hand-in-End : goal.shape_of-hand-in-End
 shape_of-hand-in-End c =
-    c.step-t.auto.1.1.1.0 ∙ c.loop-a.invariant.2
+    c.step-t.auto.hand ∙ c.loop-a.invariant.2
 
 pub shape_of-scratch-in-End : goal.shape_of-scratch-in-End
 shape_of-scratch-in-End c =
-    c.step-t.auto.1.1.1.1.0 ∙ c.loop-a.invariant.3
+    c.step-t.auto.scratch ∙ c.loop-a.invariant.3
 
 pub shape_of-tables-in-End : goal.shape_of-tables-in-End
 shape_of-tables-in-End c =
-    c.step-t.auto.1.1.1.1.1.0 ∙ c.loop-a.invariant.4
+    c.step-t.auto.tables ∙ c.loop-a.invariant.4
 
 pub returns-in-End : goal.returns-in-End
 returns-in-End c =

@@ -6,36 +6,33 @@ use Rattle.running.proofs.step.Goals as goal
 
 pub read_unit-s-requires : goal.read_unit-s-requires
 read_unit-s-requires c =
-    (held-now c.requires.1.1, c.requires.0.scratch_wide)
+    record { held = held-now c.requires.runs; text_in_bounds = c.requires.loan.scratch_wide }
 
 pub returns-then-is_over : goal.returns-then-is_over
 returns-then-is_over c =
     let a = c.args in
-    let R = c.requires.1.1 in
+    let R = c.requires.runs in
     over-ends R c.read_unit-s.ensures c.in-Read.is (sym c.is_over.ensures ∙ c.if-is_over.true)
     (c.accepted-a.ensures a.g.state R.state a.text.now a.book.now a.work.now a.hand.now refl
     R.keeps)
 
 pub judge-j-requires : goal.judge-j-requires
 judge-j-requires c =
-    let R = c.requires.1.1 in
-    let G = given R c.read_unit-s.ensures c.requires.0.text_short c.in-Read.is (sym c.is_over.ensures ∙ c.if-is_over.false) in
-    let ample = c.requires.1.0.0 c.args.g.state refl (few-records R) in (
-      loaned refl c.read_unit-s.auto.1.0 refl c.requires.0,
-      ((ample, c.requires.1.0.1), (R.state, G.unit, R.keeps, G.comes)),
-    )
+    let R = c.requires.runs in
+    let G = given R c.read_unit-s.ensures c.requires.loan.text_short c.in-Read.is (sym c.is_over.ensures ∙ c.if-is_over.false) in
+    let ample = c.requires.suffice.0 c.args.g.state refl (few-records R) in record { loan = loaned refl c.read_unit-s.auto.scratch refl c.requires.loan; ample = (ample, c.requires.suffice.1); kept = (R.state, G.unit, R.keeps, G.comes) }
 
 pub returns-in-Unread : goal.returns-in-Unread
 returns-in-Unread c =
-    unread-ends c.requires.1.1 c.read_unit-s.ensures _ c.requires.0.text_short c.in-Unread.is
+    unread-ends c.requires.runs c.read_unit-s.ensures _ c.requires.loan.text_short c.in-Unread.is
     c.unread.ensures
 
 pub after-requires : goal.after-requires
 after-requires c =
-    c.requires.0.text_short
+    c.requires.loan.text_short
 
 pub returns-else-is_over : goal.returns-else-is_over
 returns-else-is_over c =
-    let R = c.requires.1.1 in
-    let G = given R c.read_unit-s.ensures c.requires.0.text_short c.in-Read.is (sym c.is_over.ensures ∙ c.if-is_over.false) in
+    let R = c.requires.runs in
+    let G = given R c.read_unit-s.ensures c.requires.loan.text_short c.in-Read.is (sym c.is_over.ensures ∙ c.if-is_over.false) in
     turned R G c.after.ensures (c.judge-j.ensures R.state G.unit R.keeps G.comes)

@@ -10,10 +10,10 @@ use Rattle.state.proofs.extends.Goals as goal
 
 pub named-p-requires : goal.named-p-requires
 named-p-requires c =
-    let (b, e, f) = c.requires.1 in (
-      c.requires.0.0,
+    let (b, e, f) = c.requires.base_value in (
+      c.requires.inside.0,
       given_inside c.args.text.now b c.args.base _ c.in-Given.is e f,
-      c.requires.0.1,
+      c.requires.inside.1,
     )
 
 pub returns-in-Nothing : goal.returns-in-Nothing

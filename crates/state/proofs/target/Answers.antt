@@ -5,10 +5,10 @@ use Rattle.state.proofs.target.Goals as goal
 
 pub named-requires : goal.named-requires
 named-requires c =
-    let (b, e, f) = c.requires.1 in (
-      c.requires.0.0,
+    let (b, e, f) = c.requires.reference_value in (
+      c.requires.inside.0,
       given_inside c.args.text.now b c.args.reference _ c.in-Given.is e f,
-      c.requires.0.1,
+      c.requires.inside.1,
     )
 
 pub returns-in-Nothing : goal.returns-in-Nothing

@@ -6,14 +6,14 @@ use borrow.Author.Rules.{rules}
 use Rattle.units.proofs.attribute.Goals as goal
 
 pub read_properties-p-requires : goal.read_properties-p-requires
-read_properties-p-requires c = held (expected is_name c.expect-behind.ensures) c.requires.0
+read_properties-p-requires c = held (expected is_name c.expect-behind.ensures) c.requires.held
 
 pub read_written-w-requires : goal.read_written-w-requires
-read_written-w-requires c = (
-  held (expected (is-mark ":" (omega arith) (omega arith)) c.expect-first.ensures)
-      (held c.read_properties-p.ensures (held (expected is_name c.expect-behind.ensures) c.requires.0)),
-  c.requires.1,
-)
+read_written-w-requires c = record {
+  held = held (expected (is-mark ":" (omega arith) (omega arith)) c.expect-first.ensures)
+      (held c.read_properties-p.ensures (held (expected is_name c.expect-behind.ensures) c.requires.held));
+  text_in_bounds = c.requires.text_in_bounds;
+}
 
 pub returns : goal.returns
 returns c =

@@ -12,8 +12,8 @@ use Rattle.words.proofs.among.Given as goal
 
 abbrev pub invariant-loop-i : goal.invariant-loop-i
 invariant-loop-i l =
-    (l.i ≤ length l.list) × ((l : List (List ℕ)) → l.list ≡ rows l → are_long l.len l ≡ true
-    → (r : List (List ℕ)) × Left (part l.text l.at l.len) l.list l.len l.i l r)
+    (l.i ≤ length l.list) × ((w : List (List ℕ)) → l.list ≡ rows w → are_long l.len w ≡ true
+    → (r : List (List ℕ)) × Left (part l.text l.at l.len) l.list l.len l.i w r)
 
 abbrev pub decreases-loop-i : goal.decreases-loop-i
 decreases-loop-i l = length l.list - l.i

@@ -46,4 +46,4 @@ pub returns-in_default : goal.returns-in_default
 returns-in_default c =
     let a = c.args in
     no_length 10 256 ((21 ∷ []) ∷ (16 ∷ []) ∷ (13 ∷ []) ∷ (12 ∷ []) ∷ (11 ∷ []) ∷ (10 ∷ []) ∷ []) a.text.now
-    a.at a.len refl c.requires.0 (omega arith) (omega arith) c.in_default.rest
+    a.at a.len refl c.requires.0 (omega arith) (omega arith) c.in_default.in_default-own.rest

@@ -22,4 +22,4 @@ pub returns-in_default : goal.returns-in_default
 returns-in_default c =
     let a = c.args in
     no_length 0 4 ((3 ∷ []) ∷ (2 ∷ []) ∷ []) a.text.now a.at a.len refl c.requires.0 (omega arith)
-    (omega arith) c.in_default.rest
+    (omega arith) c.in_default.in_default-own.rest

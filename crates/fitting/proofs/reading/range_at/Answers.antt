@@ -9,9 +9,9 @@ unfolding range_at
 returns-then-at-book c =
     rw (
       le-leb _ _ c.if-at-book.true,
-      kept c.signed_at.result c.signed_at.type-inv,
+      kept c.signed_at.result c.signed_at.type_inv,
       kept
-          c.signed_at-then-at-book.result c.signed_at-then-at-book.type-inv,
+          c.signed_at-then-at-book.result c.signed_at-then-at-book.type_inv,
       c.wide.ensures.0,
       c.signed_at.ensures,
       c.signed_at-then-at-book.ensures,

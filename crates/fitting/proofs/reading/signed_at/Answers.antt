@@ -5,4 +5,4 @@ use Rattle.fitting.proofs.reading.signed_at.Goals as goal
 
 pub returns : goal.returns
 returns c =
-    kept c.signed.result c.signed.type-inv ∙ c.signed.ensures ∙ rw (c.get4.ensures, c.get4-2.ensures)
+    kept c.signed.result c.signed.type_inv ∙ c.signed.ensures ∙ rw (c.get4.ensures, c.get4-2.ensures)

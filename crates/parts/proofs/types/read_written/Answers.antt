@@ -8,7 +8,7 @@ use Rattle.parts.proofs.types.read_written.Goals as goal
 
 pub after_mandatory-m-requires : goal.after_mandatory-m-requires
 after_mandatory-m-requires c =
-    (held (expected (is_word_lem (ascii "MANDATORY") 78 refl) c.expect-z.ensures) c.requires.0, c.requires.1)
+    record { held = held (expected (is_word_lem (ascii "MANDATORY") 78 refl) c.expect-z.ensures) c.requires.held; text_in_bounds = c.requires.text_in_bounds }
 
 pub returns-then-y-eq-MANDATORY : goal.returns-then-y-eq-MANDATORY
 returns-then-y-eq-MANDATORY c =

@@ -6,7 +6,7 @@ use Rattle.parts.proofs.types.text_length.Goals as goal
 pub whole_number-w-requires : goal.whole_number-w-requires
 whole_number-w-requires c =
     let h = number-stands c.requires c.if-y-eq-NUMBER.true in
-    rw c.length_of.ensures ((h.0, h.1), h.2)
+    rw c.length_of.ensures record { len_in_bounds = (h.0, h.1); len_bound = h.2 }
 
 pub returns-then-n-gt4294967295 : goal.returns-then-n-gt4294967295
 returns-then-n-gt4294967295 c =

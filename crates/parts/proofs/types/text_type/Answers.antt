@@ -13,7 +13,7 @@ text_length-requires c =
 pub returns-then-z-eq-STAR : goal.returns-then-z-eq-STAR
 returns-then-z-eq-STAR c =
     λ m k q. text-limited m k c.expect-z.ensures c.if-z-eq-STAR.true c.expect-length.ensures
-    (c.text_length.ensures.0 m q) c.text_length.ensures.1
+    (c.text_length.ensures.reads m q) c.text_length.ensures.reference_value
 
 pub returns : goal.returns
 returns c = λ m k q. text-free m k c.expect-z.ensures q c.if-z-eq-STAR.false

@@ -13,11 +13,11 @@ returns c =
     let a = c.requires.0 in
     let l = c.args.st.listing.layout in (
       part-back l.index (l.rows - l.index) w c.enter.new.0
-          (omega (arith, a.definitions, a.attributes, a.links, a.within)) c.enter.auto.0 ∙ c.enter.ensures,
+          (omega (arith, a.definitions, a.attributes, a.links, a.within)) c.enter.auto.index ∙ c.enter.ensures,
       after-back l.index (l.rows - l.index) w c.enter.new.0
-          (omega (arith, a.definitions, a.attributes, a.links, a.within)) c.enter.auto.0 l.rows
+          (omega (arith, a.definitions, a.attributes, a.links, a.within)) c.enter.auto.index l.rows
           (l.chains - l.rows) (omega (arith, a.definitions)),
       after-back l.index (l.rows - l.index) w c.enter.new.0
-          (omega (arith, a.definitions, a.attributes, a.links, a.within)) c.enter.auto.0 l.chains
+          (omega (arith, a.definitions, a.attributes, a.links, a.within)) c.enter.auto.index l.chains
           (l.end - l.chains) (omega (arith, a.definitions, a.attributes)),
     )

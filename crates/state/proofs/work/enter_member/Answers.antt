@@ -13,11 +13,11 @@ returns c =
     let a = c.requires.0 in
     let l = c.args.st.listing.layout in (
       before_back l.rows (l.chains - l.rows) w c.enter_member.new.0
-          (omega (arith, a.definitions, a.attributes, a.links, a.within)) c.enter_member.auto.0 l.index
+          (omega (arith, a.definitions, a.attributes, a.links, a.within)) c.enter_member.auto.rows l.index
           (l.rows - l.index) (omega (arith, a.definitions)),
       part-back l.rows (l.chains - l.rows) w c.enter_member.new.0
-          (omega (arith, a.definitions, a.attributes, a.links, a.within)) c.enter_member.auto.0 ∙ c.enter_member.ensures,
+          (omega (arith, a.definitions, a.attributes, a.links, a.within)) c.enter_member.auto.rows ∙ c.enter_member.ensures,
       after-back l.rows (l.chains - l.rows) w c.enter_member.new.0
-          (omega (arith, a.definitions, a.attributes, a.links, a.within)) c.enter_member.auto.0 l.chains
+          (omega (arith, a.definitions, a.attributes, a.links, a.within)) c.enter_member.auto.rows l.chains
           (l.end - l.chains) (omega (arith, a.attributes)),
     )

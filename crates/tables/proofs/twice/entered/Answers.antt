@@ -22,7 +22,7 @@ returns-in-Twice c =
     λ e u. whole_twice a.text.now a.s.now a.g c.requires.1 c.clear.new.0
     c.in_list-c.new.1.1.1.1.0 a.at
     (record { some = c.requires.0.some; fits = omega (arith, c.requires.0.fits, c.clear.auto.0) }) c.requires.2
-    c.clear.ensures c.in_list-c.result c.in_list-c.ensures.1 _ c.in-Twice.is e u
+    c.clear.ensures c.in_list-c.result c.in_list-c.ensures.first _ c.in-Twice.is e u
 
 pub returns-in-Past : goal.returns-in-Past
 returns-in-Past c =
@@ -30,7 +30,7 @@ returns-in-Past c =
     λ e u. whole-none a.text.now a.s.now a.g c.requires.1 c.clear.new.0
     c.in_list-c.new.1.1.1.1.0 a.at
     (record { some = c.requires.0.some; fits = omega (arith, c.requires.0.fits, c.clear.auto.0) }) c.requires.2
-    c.clear.ensures c.in_list-c.result c.in_list-c.ensures.1 _ c.in-Past.is e u
+    c.clear.ensures c.in_list-c.result c.in_list-c.ensures.first _ c.in-Past.is e u
 
 pub returns : goal.returns
 returns c = λ e u. not-stands _ _ e _ u (sym c.is_opening.ensures ∙ c.if-is_opening.false)

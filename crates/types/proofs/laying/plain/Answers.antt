@@ -6,7 +6,7 @@ use Rattle.types.proofs.laying.plain.Goals as goal
 
 pub overflow_cast-decimals : goal.overflow_cast-decimals
 overflow_cast-decimals c =
-    record { fits = omega (arith, sized_range _ _ _ _ c.requires.0 c.in-Range.is) }
+    record { fits = omega (arith, sized_range _ _ _ _ c.requires.sized c.in-Range.is) }
 
 pub returns-in-Text : goal.returns-in-Text
 returns-in-Text c =
@@ -14,7 +14,7 @@ returns-in-Text c =
 
 pub returns-in-Range : goal.returns-in-Range
 returns-in-Range c =
-    let s = sized_range _ _ _ _ c.requires.0 c.in-Range.is in
+    let s = sized_range _ _ _ _ c.requires.sized c.in-Range.is in
     rw c.in-Range.is (rw (c.range_record-r.ensures, held_small _ s.1, held_small _ s.2) at c.put_number.ensures)
 
 pub returns-in-Numeric : goal.returns-in-Numeric
