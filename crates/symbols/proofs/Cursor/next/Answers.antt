@@ -56,11 +56,10 @@ returns-in-Quote c =
 
 pub loop-at-smaller-in-To : goal.loop-at-smaller-in-To
 loop-at-smaller-in-To c =
-    let j = c.p-1.given in
     omega (
       arith,
-      comment-ahead c.args.text.now c.loop-at.at j.0.0 c.loop-at.line j.0.1.0 c.loop-at-test.true
-          (sym c.comment-p.ensures ∙ j.1),
+      comment-ahead c.args.text.now c.loop-at.at c.in-To.end c.loop-at.line c.in-To.last c.loop-at-test.true
+          (sym c.comment-p.ensures ∙ c.in-To.is),
     )
 
 pub loop-at-preserved-in-To : goal.loop-at-preserved-in-To
