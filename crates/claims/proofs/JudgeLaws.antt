@@ -251,8 +251,10 @@ alike false false p q = refl
 late-over : (p : ℕ) (x : Option WrittenType) (g : Option Def) (b : Use) →
     All Unbroken (attribute_from_17 p true (is_naming x) (attribute_use x g b) b) → Over (attribute_use x g b) b
 late-over p none g b k = over-self b (inside (ty_of b) (ty_of b) (not-fails k.0) (not-fails k.1.1.0))
-late-over p (some (G.text m n)) g b k = inside _ (ty_of b) (not-fails k.0) (not-fails k.1.1.0)
-late-over p (some (G.numeric q r)) g b k = inside _ (ty_of b) (not-fails k.0) (not-fails k.1.1.0)
+late-over p (some (G.text m n)) g b k =
+    inside (ty_of (attribute_use (some (G.text m n)) g b)) (ty_of b) (not-fails k.0) (not-fails k.1.1.0)
+late-over p (some (G.numeric q r)) g b k =
+    inside (ty_of (attribute_use (some (G.numeric q r)) g b)) (ty_of b) (not-fails k.0) (not-fails k.1.1.0)
 late-over p (some (G.enum e)) g b k = inside _ (ty_of b) (not-fails k.0) (not-fails k.1.1.0)
 late-over p (some (G.named r)) g b k =
     let d = or_no_def g in

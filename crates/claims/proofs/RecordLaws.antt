@@ -217,6 +217,7 @@ here l more n k e = record { before = []; behind = more; split = refl; count = o
 
 placed-in : (n : ℕ) (l : List Attribute) → Placed n l → {a : Attribute} → In a l
     → Within (attributes_records l) n a.number (attribute_records a)
+placed-in n [] h i = elim i [ ]
 placed-in n (b ∷ l) h first = here (attribute_records b) (attributes_records l) n b.number h.0
 placed-in n (b ∷ l) h {a} (later i) = behind_more (attribute_records b) (attributes_records l) n a.number
     (attribute_records a) (placed-in (n + length (attribute_records b)) l h.1 i)
@@ -263,6 +264,7 @@ found-more x l n d h = record {
 }
 
 laid_in : (n : ℕ) (l : List Decl) → Laid n l → {d : Def} → In d (known l) → Found l n d
+laid_in n [] h i = elim i [ ]
 laid_in n (D.model x ∷ l) h {d} i = found-more (D.model x) l n d (laid_in (n + 1) l h.1 i)
 laid_in n (D.def e ∷ l) h first = record {
   at = n;

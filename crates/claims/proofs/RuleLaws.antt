@@ -130,6 +130,7 @@ Refuses k j = (n p : ℕ) × (j ≡ refused n p) × (rank n < rank k)
 
 pub in-refuses : (k : ℕ) (l : List Rule) (s : State) → under k l ≡ true → (r : Rule) → In r l → r.broken ≡ true
     → Refuses k (first_broken_or l s)
+in-refuses k [] s h r i b = elim i [ ]
 in-refuses k (x ∷ l) s h r i b =
     let z : (ltb (rank x.number) (rank k) ≡ true) × (under k l ≡ true) = split h in
     go x r x.broken refl (ltb-true (rank x.number) (rank k) z.0) i b (λ j. in-refuses k l s z.1 r j b)

@@ -46,6 +46,7 @@ given {x = true} p h = h
 given {x = false} p h = never p
 
 ahead_in : (r : Rule) (l : List Rule) → ahead r l ≡ true → NoneBefore r.number r.place l
+ahead_in r [] h q i e b = elim i [ ]
 ahead_in r (x ∷ l) h q first e b =
     leb-true r.place q.place (given (both (eq-eqb q.number r.number e) b) (split {x = not_before r q} h).0)
 ahead_in r (x ∷ l) h q (later i) e b = ahead_in r l (split {x = not_before r x} h).1 q i e b
