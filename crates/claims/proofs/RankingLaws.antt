@@ -16,7 +16,8 @@ use Rattle.rules.specs.Grammar as G
 use Rattle.rules.specs.Grammar.{Reference, WrittenType, Written}
 use Rattle.rules.specs.Units as U
 use Rattle.rules.specs.Declarations.{Attribute, Def, State}
-use Rattle.rules.specs.Judge.{Rule, rule, ok, refused, first_broken_or, resolved, reference_in, extends_rules, class_rules}
+use Rattle.rules.specs.Judge.{Rule, rule, ok, refused, first_broken_or, resolved, reference_in, extends_rules}
+use Rattle.rules.specs.Judge.{class_rules}
 use Rattle.rules.specs.Judge.{domain_to_16, domain_rules, attribute_to_16, attribute_rules, inherited_as, member_rules}
 use Rattle.rules.specs.Judge.{next_state}
 use Rattle.rules.specs.Check.{Given, Outcome, kept, unread, ruled_out, run, answer_of, refusing}

@@ -12,7 +12,8 @@ use Rattle.rules.specs.Grammar.{Written}
 use Rattle.rules.specs.Units as U
 use Rattle.rules.specs.Declarations as D
 use Rattle.rules.specs.Declarations.{Attribute, Sort, Def, Decl, def, State, known}
-use Rattle.rules.specs.Book.{Record, decl_records, decls_records, head_records, end_records, def_record, attribute_records}
+use Rattle.rules.specs.Book.{Record, decl_records, decls_records, head_records, end_records, def_record}
+use Rattle.rules.specs.Book.{attribute_records}
 use Rattle.rules.specs.Book.{attributes_records, open_records}
 use Rattle.rules.specs.Check.{Given}
 use Rattle.rules.specs.Judge.{resolved, reference_in, declare, new_topic, new_class, new_domain, new_attribute}
@@ -63,7 +64,8 @@ laid-append : (n : ℕ) (l : List Decl) (x : Decl) → Laid n l
 laid-append n [] x h k = let e : n + 0 ≡ n = omega arith in (subst (λ (j : ℕ). At j x) e k, tt)
 laid-append n (y ∷ l) x h k =
     let q = length-append (decl_records y) (decls_records l) in
-    let e : n + length (decls_records (y ∷ l)) ≡ (n + length (decl_records y)) + length (decls_records l) = omega arith in
+    let e : n + length (decls_records (y ∷ l))
+    ≡ (n + length (decl_records y)) + length (decls_records l) = omega arith in
     (h.0, laid-append (n + length (decl_records y)) l x h.1 (subst (λ (j : ℕ). At j x) e k))
 
 -- the open class is a class or a structure

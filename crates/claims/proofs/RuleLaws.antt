@@ -104,7 +104,8 @@ first-broken-came (r ∷ pre) post s k p h q =
     go true e z l ih = let y = ap rank (number_of r k p z) in absurd (omega arith)
     go false e z l ih = let y = ih z in record { kept = (e, y.kept); rest = y.rest }
 
-pub first-broken-never : (l : List Rule) (s : State) (k p : ℕ) → lacks k l ≡ true → first_broken_or l s ≡ refused k p → ⊥
+pub first-broken-never : (l : List Rule) (s : State) (k p : ℕ) → lacks k l ≡ true
+    → first_broken_or l s ≡ refused k p → ⊥
 first-broken-never [] s k p h q = not-refused q
 first-broken-never (r ∷ l) s k p h q =
     go r.broken q (λ z. first-broken-never l s k p (split {x = not (eqb r.number k)} h).1 z)

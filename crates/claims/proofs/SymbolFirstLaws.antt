@@ -14,7 +14,8 @@ use Rattle.rules.specs.Grammar as G
 use Rattle.rules.specs.Grammar.{Reference, WrittenType, Written}
 use Rattle.rules.specs.Units as U
 use Rattle.rules.specs.Declarations.{Attribute, Def, is_found, State}
-use Rattle.rules.specs.Judge.{Rule, rule, refused, first_broken_or, first_place, place_of, doubled, resolved, reference_in}
+use Rattle.rules.specs.Judge.{Rule, rule, refused, first_broken_or, first_place, place_of, doubled, resolved}
+use Rattle.rules.specs.Judge.{reference_in}
 use Rattle.rules.specs.Judge.{extends_rules, class_rules, domain_to_16, domain_rules, attribute_to_16, attribute_rules}
 use Rattle.rules.specs.Judge.{inherited_as, member_rules, next_state}
 use Rattle.rules.specs.Check.{Given, judged}
