@@ -1,4 +1,3 @@
 pub mod WalkLaws
 pub mod ListLaws
 pub mod NameLaws
-pub mod Held

@@ -85,7 +85,8 @@ in_text t r = pick (is_named (get_or r 0 0)) (leb (read4 r 1 + get_or r 5 0) (le
     shown : Bool → Bool → Part
     shown p q = cond p (cond q (record { start = read4 r 1; length = get_or r 5 0 }) no_part) no_part
 
-    pick : (p q : Bool) → leb (read4 r 1 + get_or r 5 0) (length t) ≡ q → (shown p q).start + (shown p q).length ≤ length t
+    pick : (p q : Bool) → leb (read4 r 1 + get_or r 5 0) (length t) ≡ q
+        → (shown p q).start + (shown p q).length ≤ length t
     pick true true e = leb-true _ _ e
     pick true false e = omega arith
     pick false q e = omega arith

@@ -118,8 +118,7 @@ impl<'a> RecordReader<'a> {
     }
 }
 
-// The same for a caller that keeps book and position apart: what holds a reader is proved by hand, what calls this is
-// checked as other code is.
+// The same for a caller that keeps book and position apart.
 pub fn end_from(book: &[u8], position: usize) -> Found
     ensures { found_at result ≡ record_end book.now position }
 {

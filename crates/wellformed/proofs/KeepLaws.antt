@@ -151,9 +151,9 @@ module _ (t : List ℕ) (s : State) (h : FairState t s) where
       go (some d) i = i.text
 
 -- which topic is open
-in_topic : (t : List ℕ) (s : State) (d : Decl) (o : Option Def) → AnyIs (λ (e : Def). InText t e.name) o
+in_topic_lem : (t : List ℕ) (s : State) (d : Decl) (o : Option Def) → AnyIs (λ (e : Def). InText t e.name) o
     → FairState t (declare s d) → FairState t (in_topic (declare s d) o)
-in_topic t s d o i h = record {
+in_topic_lem t s d o i h = record {
   defs = h.defs;
   open_class = tt;
   names = h.names;
@@ -199,7 +199,7 @@ fair-topic : (t : List ℕ) (s : State) (n : Name) → is_found s.open_class ≡
 fair-topic t s n c i h =
     let e = new_topic s n in
     let l = declared-more s c e in
-    in_topic t s (def e) (some e) (topic-name t s n i)
+    in_topic_lem t s (def e) (some e) (topic-name t s n i)
     (declare-fair t s h e (omega arith) (new-topic t s n _ l i) (topic-names (known s.decls) s n)
     (now-behind t s h e (topic-number s n)))
 

@@ -8,6 +8,7 @@ use Rattle.rules.proofs.AllLaws.{any-is}
 use Rattle.names.specs.Index.{nth, entry}
 
 pub all-member : {A : Type 0} (P : A → Type 0) (l : List A) (a : A) → All P l → In a l → P a
+all-member P [] a h i = elim i [ ]
 all-member P (b ∷ l) a h first = h.0
 all-member P (b ∷ l) a h (later i) = all-member P l a h.1 i
 

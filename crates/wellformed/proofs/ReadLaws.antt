@@ -285,10 +285,10 @@ module _ {t : List ℕ} (small : length t < 4294967296) where
       bind (the_written (λ _. Unit) (type-or-reference small) (is_one_of (ascii "EXTENDED") p))
       (λ _ w l. bind (the-mark ";") (λ _ _ _. stays (λ _. (h, l.0)))))))
 
-  body_end : (i : Around) → Gives t (Whole t) (Reads t) (body_end i)
+  body_end_lem : (i : Around) → Gives t (Whole t) (Reads t) (body_end i)
   unfolding body_end
-  body_end U.in_topic = end-unit ";" (body U.in_model U.no_run)
-  body_end U.in_model = end-unit "." over
+  body_end_lem U.in_topic = end-unit ";" (body U.in_model U.no_run)
+  body_end_lem U.in_model = end-unit "." over
 
   the-unit : (w : Where) → Gives t (Whole t) (Reads t) (unit_at w)
   unfolding unit_at body_unit member_unit last_step
@@ -300,7 +300,7 @@ module _ {t : List ℕ} (small : length t < 4294967296) where
       (if-next (is_word (ascii "DOMAIN")) (word-step (ascii "DOMAIN") (body i U.domains))
       (if-next (is_word (ascii "UNIT")) (word-step (ascii "UNIT") (body i U.units))
       (if-next (λ y. of_domains r && is_kind name y) (domain-unit i)
-      (if-next (λ y. of_units r && is_kind name y) (unit-unit i) (body_end i))))))
+      (if-next (λ y. of_units r && is_kind name y) (unit-unit i) (body_end_lem i))))))
   the-unit (members i r) =
       if-next (λ y. is_head r && is_word (ascii "ATTRIBUTE") y) (word-step (ascii "ATTRIBUTE") (members i U.a_member))
       (if-next (is_kind name) (attribute-unit i) (end-unit ";" (body i U.no_run)))

@@ -27,6 +27,7 @@ units-self x = unit-itself (unit_of x)
 
 -- ---- a record number stands for one definition
 one_number : (ks : List Def) → Rising ks → (d e : Def) → In d ks → In e ks → d.number ≡ e.number → d ≡ e
+one_number [] h d e i j q = elim i [ ]
 one_number (k ∷ ks) h d e first first q = refl
 one_number (k ∷ ks) h d e first (later j) q =
     absurd (let b = all-member (λ (f : Def). k.number < f.number) ks e h.0 j in omega arith)

@@ -1,11 +1,8 @@
 use mathlib.Core.Path.{◌≡◌, refl, sym, ◌∙◌}
-use Prim.Native.Nat.{◌≤◌}
-use lib.ListN.{length}
-use Rattle.rules.specs.Show.{records_at, beginning_in, find_record}
+use Rattle.rules.specs.Show.{find_record}
 use Rattle.rules.proofs.RecordLaws.{begin-none, begin-here}
 use Rattle.records.proofs.WalkLaws.{none-at, whole-at, begin-next}
 use native.Mathlib.Omega.{arith}
-use borrow.Author.Rules.{rules}
 use Rattle.records.proofs.find_record.Goals as goal
 
 pub loop-k-init : goal.loop-k-init

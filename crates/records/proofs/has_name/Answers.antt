@@ -2,7 +2,6 @@ use mathlib.Core.Path.{refl, sym}
 use Rattle.rules.specs.Show.{is_named}
 use Rattle.records.proofs.NameLaws.{no_name_lem}
 use native.Mathlib.Omega.{arith}
-use borrow.Author.Rules.{rules}
 use Rattle.records.proofs.has_name.Goals as goal
 
 pub returns-then-kind-lt19 : goal.returns-then-kind-lt19

@@ -2,7 +2,6 @@ use mathlib.Core.Path.{sym, ◌∙◌}
 use Rattle.records.proofs.WalkLaws.{whole-at}
 use Rattle.records.proofs.NameLaws.{name-none, name-less, name-fits, name_in_lem, name_out}
 use native.Mathlib.Omega.{arith}
-use borrow.Author.Rules.{rules}
 use Rattle.records.proofs.name_part.Goals as goal
 
 pub bounds-book-beginning : goal.bounds-book-beginning
@@ -13,14 +12,12 @@ pub written_name-p-requires : goal.written_name-p-requires
 written_name-p-requires c =
     let a = c.args in
     let w = whole-at _ _ _ c.size_at.ensures (omega arith) in
-    let k = c.shared_slice_known-then-size_at-gt0-1.given a.beginning in
     omega (arith, w.within, name-fits a.text.now w (omega arith) (sym c.has_name.ensures ∙ c.if-has_name.true))
 
 pub returns-then-p-text : goal.returns-then-p-text
 returns-then-p-text c =
     let a = c.args in
     let w = whole-at _ _ _ c.size_at.ensures (omega arith) in
-    let k = c.shared_slice_known-then-size_at-gt0-1.given a.beginning in
     let e = sym c.has_name.ensures ∙ c.if-has_name.true in
     name_in_lem a.text.now w (omega arith) e _ c.written_name-p.ensures c.if-p-text.true
 
@@ -28,7 +25,6 @@ pub returns-else-p-text : goal.returns-else-p-text
 returns-else-p-text c =
     let a = c.args in
     let w = whole-at _ _ _ c.size_at.ensures (omega arith) in
-    let k = c.shared_slice_known-then-size_at-gt0-1.given a.beginning in
     let e = sym c.has_name.ensures ∙ c.if-has_name.true in
     name_out a.text.now w (omega arith) e _ c.written_name-p.ensures c.if-p-text.false
 

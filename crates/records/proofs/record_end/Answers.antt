@@ -1,7 +1,6 @@
 use mathlib.Core.Path.{sym, ◌∙◌}
 use Rattle.records.proofs.WalkLaws.{whole-at, end_none, end-here}
 use native.Mathlib.Omega.{arith}
-use borrow.Author.Rules.{rules}
 use Rattle.records.proofs.record_end.Goals as goal
 
 pub returns-then-n-eq0 : goal.returns-then-n-eq0

@@ -2,7 +2,6 @@ use mathlib.Core.Path.{refl, sym}
 use Rattle.rules.specs.Show.{size_of}
 use Rattle.records.proofs.WalkLaws.{no_kind}
 use native.Mathlib.Omega.{arith}
-use borrow.Author.Rules.{rules}
 use Rattle.records.proofs.record_size.Goals as goal
 
 pub returns-then-kind-lt20 : goal.returns-then-kind-lt20

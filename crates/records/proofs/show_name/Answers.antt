@@ -1,7 +1,6 @@
 use mathlib.Core.Path.{refl}
 use Rattle.records.proofs.NameLaws.{shown-within, starts-at, cut}
 use native.Mathlib.Omega.{arith}
-use borrow.Author.Rules.{rules}
 use Rattle.records.proofs.show_name.Goals as goal
 
 pub overflow_add-end : goal.overflow_add-end

@@ -1,7 +1,6 @@
 use mathlib.Core.Path.{sym}
 use Rattle.records.proofs.WalkLaws.{size-out, size-short, size-whole}
 use native.Mathlib.Omega.{arith}
-use borrow.Author.Rules.{rules}
 use Rattle.records.proofs.size_at.Goals as goal
 
 pub returns-then-book-at : goal.returns-then-book-at

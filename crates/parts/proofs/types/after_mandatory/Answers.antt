@@ -6,13 +6,13 @@ use Rattle.parts.proofs.types.after_mandatory.Goals as goal
 
 pub returns-then-y-eq-SEMICOLON : goal.returns-then-y-eq-SEMICOLON
 returns-then-y-eq-SEMICOLON c =
-    alone c.args.based c.args.or-reference c.if-based.true c.if-y-eq-SEMICOLON.true
+    alone c.args.based c.args.or_reference c.if-based.true c.if-y-eq-SEMICOLON.true
 
 pub returns-then-based : goal.returns-then-based
 returns-then-based c =
-    not-alone c.args.based c.args.or-reference
+    not-alone c.args.based c.args.or_reference
     (λ z k. fail-r c.args.based (is-no semicolon c.if-y-eq-SEMICOLON.false z k)) c.type_by.ensures
 
 pub returns : goal.returns
 returns c =
-    not-alone c.args.based c.args.or-reference (λ z k. fail-l _ c.if-based.false) c.type_by-2.ensures
+    not-alone c.args.based c.args.or_reference (λ z k. fail-l _ c.if-based.false) c.type_by-2.ensures
