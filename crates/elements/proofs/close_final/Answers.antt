@@ -1,5 +1,4 @@
 use Rattle.elements.proofs.ListLaws.{closes-final}
-use borrow.Author.Rules.{rules}
 use Rattle.elements.proofs.close_final.Goals as goal
 
 pub returns : goal.returns

@@ -1,5 +1,4 @@
 use Rattle.elements.proofs.ListLaws.{ends-final, ends-plain}
-use borrow.Author.Rules.{rules}
 use Rattle.elements.proofs.list_end.Goals as goal
 
 pub returns-then-y-eq-COLON : goal.returns-then-y-eq-COLON

@@ -1,5 +1,4 @@
 use Rattle.elements.proofs.SizeLaws.{fits_whole}
-use borrow.Author.Rules.{rules}
 use Rattle.elements.proofs.outermost.Goals as goal
 
 pub returns : goal.returns

@@ -4,7 +4,6 @@ use lib.ListN.{length, length-set}
 use Prim.Native.Nat.{◌+◌, ◌≤◌, ◌<◌}
 use mathlib.Core.Path.{◌∙◌, sym, refl}
 use native.Mathlib.Omega.{arith}
-use borrow.Author.Rules.{rules}
 use Rattle.book.specs.Sizes.{list_size}
 use Rattle.elements.proofs.put_opening.Goals as goal
 
