@@ -191,7 +191,8 @@ module _ {t : List ℕ} {d start : ℕ} {b : List ℕ} {w₀ : rules.Symbol} whe
         P : Enum → Type 0
         P y = Put b q start (13 ∷ bit (final y) 1 ∷ (s.records ++ rest_bytes y)) r
 
-        go : (r' : Result Element) → Gives t r' (λ e. Put o p i (element_bytes e) j) m → Gives t (and_then t r' after) P n
+        go : (r' : Result Element) → Gives t r' (λ e. Put o p i (element_bytes e) j) m
+            → Gives t (and_then t r' after) P n
         go (done a v) g =
             let stored = put-put b o p start i j (13 ∷ 0 ∷ s.records) (element_bytes a) l s.stored g.value in
             rw (is-no (is-mark "," (omega arith) (omega arith)) k v g.next)

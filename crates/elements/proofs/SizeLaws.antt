@@ -100,8 +100,11 @@ module _ (t : List ℕ) where
         (paid t w.place w (the-mark ",") k (omega arith))
         (λ a v g m. elements-spent f d (suc w.place) v m (omega arith)))
         (λ _. end-spent w.place w k (omega arith)))
-        (λ r v g m.
-        (let q = ap length (rest-after e r) in let n = length-append (element_bytes e) (rest_bytes r) in omega arith, m)))
+        (λ r v g m. (
+          let q = ap length (rest-after e r) in
+              let n = length-append (element_bytes e) (rest_bytes r) in omega arith,
+          m,
+        )))
 
     element-spent : (f d i : ℕ) (z : Symbol) → Lies 0 (length t) z → i ≤ z.place
         → Spent (λ e. length (element_bytes e)) 3 t i (element f d t z)
@@ -124,7 +127,8 @@ pub enumeration-size : (t : List ℕ) (d : ℕ) (z : Symbol) → Stands t z
 enumeration-size t d z s = go (enumeration (enough t) d t z) (enumeration-spent t (enough t) d 0 z
     (record { starts = omega arith; ends = s.ends; solid = s.solid }) (omega arith))
   where
-    go : (m : Result Enum) → Spent (λ e. length (list_bytes e)) 0 t 0 m → On (λ e. length (list_bytes e) ≤ 3 * length t) m
+    go : (m : Result Enum) → Spent (λ e. length (list_bytes e)) 0 t 0 m
+        → On (λ e. length (list_bytes e) ≤ 3 * length t) m
     go (done e w) (h, l) = let q = l.ends in omega arith
     go (refused f p) h = tt
 

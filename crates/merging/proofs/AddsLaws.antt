@@ -75,5 +75,6 @@ pub walk-fits : (b x : Enum) → twice b [] ≡ none → twice x [] ≡ none →
 walk-fits b x p q =
     let d = once-distinct b p in
     let e = once-distinct x q in
-    alike {x = copy_ok b b x} (λ o. walk-adds x x b (λ n k q. q) e o (copy-end b b x o)) (adds-walk b b x (λ n k q. q) d)
+    alike {x = copy_ok b b x} (λ o. walk-adds x x b (λ n k q. q) e o (copy-end b b x o))
+    (adds-walk b b x (λ n k q. q) d)
     ∙ sym (merged-fits b x d e)

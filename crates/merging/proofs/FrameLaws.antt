@@ -164,7 +164,8 @@ inner-nodes : (n : List ℕ) (x : Enum) → nodes (inner n x) ≤ nodes x
 inner-nodes n (end f) = omega arith
 inner-nodes n (elem m i r) = go (same n m.bytes) (inner-nodes n r)
   where
-    go : (t : Bool) → nodes (inner n r) ≤ nodes r → nodes (or_empty (cond t (some i) (at n r))) ≤ suc (nodes i + nodes r)
+    go : (t : Bool) → nodes (inner n r) ≤ nodes r
+        → nodes (or_empty (cond t (some i) (at n r))) ≤ suc (nodes i + nodes r)
     go true h = omega arith
     go false h = omega arith
 
@@ -274,4 +275,5 @@ walk-whole (suc k) (F ∷ Fs) h =
 pub walk-merge : (k : ℕ) (b x : Enum) → copy_steps b x < k
     → walked k (copy b b x ∷ []) ≡ cond (copy_ok b b x) (wrote (element_records (merge b x))) barred
 walk-merge k b x h =
-    walk-whole k (copy b b x ∷ []) (omega arith) ∙ rw (and-true (copy_ok b b x), append-nil (element_records (merge b x)))
+    walk-whole k (copy b b x ∷ []) (omega arith)
+    ∙ rw (and-true (copy_ok b b x), append-nil (element_records (merge b x)))

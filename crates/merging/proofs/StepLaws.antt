@@ -8,7 +8,8 @@ use lib.ListN.{length, set, take}
 use borrow.Author.Tests.{lt-ltb, le-ltb}
 use Rattle.rules.specs.Book.{bytes}
 use Rattle.enumerations.specs.Lists.{nowhere, is_element, past_inner, inner_at, written, find_from}
-use Rattle.merging.specs.Steps.{emitted, piece_of, size_with, element_move, shared_move, added_move, copy_move, add_move}
+use Rattle.merging.specs.Steps.{emitted, piece_of, size_with, element_move, shared_move, added_move}
+use Rattle.merging.specs.Steps.{copy_move, add_move}
 use Rattle.merging.specs.Steps.{look_move}
 use Rattle.merging.specs.Walks.{gone, moved_by}
 use Rattle.book.specs.declared.Part.{Part}
@@ -118,7 +119,8 @@ piece_bytes (Opening n f) = refl
 piece_bytes Barred = refl
 
 pub piece-size : (e : Emit) (s : Size) → ◌≡◌ {A = Size}
-    (record { bytes = s.bytes + (piece_of e).len; records = s.records + (piece_of e).records }) (size_with s (emitted e))
+    (record { bytes = s.bytes + (piece_of e).len; records = s.records + (piece_of e).records })
+    (size_with s (emitted e))
 piece-size Quiet s = refl
 piece-size Close s = refl
 piece-size (Element n) s = refl

@@ -168,7 +168,8 @@ module _ (t b x : List ℕ) (lb : length b < nowhere) (lx : length x < nowhere) 
 
       go : (c : Bool) → goes (emits F) ≡ c → (m : Move) → m ≡ look_move t b x (top_of w)
           → Simulates t b x (emits F) (leaves F) m → Next (leaves F) Gs
-          → (Holds t b x (leaves F ++ Gs) (moved_by w m) → run_from k t b x (moved_by w m) ≡ walked k (leaves F ++ Gs)) →
+          → (Holds t b x (leaves F ++ Gs) (moved_by w m)
+          → run_from k t b x (moved_by w m) ≡ walked k (leaves F ++ Gs)) →
           run_from (suc k) t b x w ≡ cond c (before (emitted (emits F)) (walked k (leaves F ++ Gs))) barred
       go true e m em S N ih =
           run-go k t b x w m d em (ap goes S.emit ∙ e)
@@ -196,7 +197,8 @@ pub whole_run : (t b x : List ℕ) (e d : Enum) (i j k : ℕ) (w : Walk) → len
     → ListAt t b e i → ListAt t x d j
     → Deep 7 e → Deep 7 d → w.depth ≡ 1 → length w.places ≡ 8 →
     get_or w.places 0 no_position ≡ record { base = i; at = i; own = j; adding = false; is_final = final e } →
-    length b * (length x + 1) < k → run_from k t b x w ≡ cond (copy_ok e e d) (wrote (element_records (merge e d))) barred
+    length b * (length x + 1) < k
+    → run_from k t b x w ≡ cond (copy_ok e e d) (wrote (element_records (merge e d))) barred
 whole_run t b x e d i j k w lb lx he hd le ld dw ew pw hk =
     let he' = list-elements t b e i he in
     let s : Shows t b x (copy e e d) (get_or w.places 0 no_position) =

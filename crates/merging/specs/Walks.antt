@@ -1,5 +1,6 @@
 -- The walk through a merged enumeration, on bytes: its open lists, and its run to the end.
-use Rattle.std.specs.Prelude.{◌≡◌, false, cond, List, [], ◌++◌, ℕ, zero, suc, ◌+◌, ◌-◌, ◌≤◌, length, get_or, set, eqb, ltb}
+use Rattle.std.specs.Prelude.{◌≡◌, false, cond, List, [], ◌++◌, ℕ, zero, suc, ◌+◌, ◌-◌, ◌≤◌}
+use Rattle.std.specs.Prelude.{length, get_or, set, eqb, ltb}
 use Rattle.rules.specs.Book.{Record, bytes}
 use Rattle.ground.specs.Parts.{splice}
 use Rattle.merging.specs.Steps.{emitted, goes, size_with, look_move}

@@ -42,7 +42,8 @@ Answers t s g e es l z c =
 
 module _ (t s : List ℕ) (g : Grid) (short : length s < nowhere) (k : ℕ) (e : Enum) (es : List Entry) (l : ℕ)
     (L : ListAt t s e l) (v : InGrid g e l) where
-  answers-twice : (z : List ℕ) (p : ℕ) → Twice p ≡ checked_of (twice e []) (end_of e l) → Answers t s g e es l z (Twice p)
+  answers-twice : (z : List ℕ) (p : ℕ) → Twice p ≡ checked_of (twice e []) (end_of e l)
+      → Answers t s g e es l z (Twice p)
   answers-twice z p h = (h, λ y. none-some (twice e []) p (twice_of (twice e []) (end_of e l) p h) y)
 
   pub going_start : (z : List ℕ) → Deep k e → Filled t s g z es l → Going t s g k e es l z l

@@ -12,7 +12,8 @@ use borrow.Author.Tests.{lt-ltb, le-ltb, ltb-false, leb-true, leb-false, eqb-tru
 use Rattle.rules.specs.Enumerations.{Enum}
 use Rattle.rules.proofs.Tests.{never, not-both, is_false, or_split, or-fails}
 use Rattle.book.specs.declared.Part.{Part}
-use Rattle.enumerations.specs.Lists.{nowhere, is_element, is_opening, end_from, past_inner, written, same_names, find_from}
+use Rattle.enumerations.specs.Lists.{nowhere, is_element, is_opening, end_from, past_inner, written}
+use Rattle.enumerations.specs.Lists.{same_names, find_from}
 use Rattle.enumerations.specs.Standing.{end_of, Stands}
 use Rattle.tables.specs.Tables.{Entry, seek_in, is_entered, list_of, Before, Filled, Serves, Gathered, Grown}
 use Rattle.enumerations.specs.declared.End.{End}
@@ -38,7 +39,8 @@ end_ge : (f : ℕ) (s : List ℕ) (p k c : ℕ) → p ≤ (end_from f s p k c).a
 unfolding end_from
 end_ge zero s p k c = omega arith
 end_ge (suc f) s p k c =
-    go (leb (length s) p) (eqb (get_or s p 0) 14) (eqb (get_or s p 0) 13) (eqb k 0) (end_ge f s (p + element_size) k (c + 1))
+    go (leb (length s) p) (eqb (get_or s p 0) 14) (eqb (get_or s p 0) 13) (eqb k 0)
+    (end_ge f s (p + element_size) k (c + 1))
     (end_ge f s (p + list_size) (k + 1) (c + 1)) (end_ge f s (p + 1) (k - 1) (c + 1))
   where
     go : (a b d e : Bool) → p + element_size ≤ (end_from f s (p + element_size) k (c + 1)).at → p + list_size
@@ -163,7 +165,8 @@ module _ (t s : List ℕ) (g : Grid) where
         → or_found (seek_in t s m n es) nowhere ≡ seek_in t s m n es
     or_nothing es p m n b = go (ltb (seek_in t s m n es) nowhere) refl
       where
-        go : (c : Bool) → ltb (seek_in t s m n es) nowhere ≡ c → cond c (seek_in t s m n es) nowhere ≡ seek_in t s m n es
+        go : (c : Bool) → ltb (seek_in t s m n es) nowhere ≡ c
+            → cond c (seek_in t s m n es) nowhere ≡ seek_in t s m n es
         go true e = refl
         go false e = sym (seek-none es p m n b (ltb-false _ _ e))
 
@@ -213,7 +216,8 @@ module _ (t s : List ℕ) (g : Grid) where
             omega (arith, seek-low W.entries q l (written s q) W.filled.before u)
 
         module _ (new : nowhere ≤ seek_in t s l (written s q) W.entries) where
-          not_yet : (n : Part) → same_names t n (written s q) ≡ true → find_from (length s + 1) t s l n ≡ q + element_size
+          not_yet : (n : Part) → same_names t n (written s q) ≡ true
+              → find_from (length s + 1) t s l n ≡ q + element_size
           not_yet n e =
               W.mid n ∙ rw (
                 seek-same t n (written s q) e s l W.entries,

@@ -1,5 +1,6 @@
 -- Elements by their list and name: chains through the elements of one enumeration, in lent numbers.
-use Rattle.std.specs.Prelude.{◌≡◌, Bool, true, false, cond, ◌&&◌, ◌||◌, List, [], ◌∷◌, ℕ, ◌+◌, ◌-◌, ◌*◌, ◌/◌, ◌%◌, ◌≤◌, ◌<◌, length, get_or, eqb, ltb, leb}
+use Rattle.std.specs.Prelude.{◌≡◌, Bool, true, false, cond, ◌&&◌, ◌||◌, List, [], ◌∷◌, ℕ, ◌+◌, ◌-◌, ◌*◌, ◌/◌, ◌%◌}
+use Rattle.std.specs.Prelude.{◌≤◌, ◌<◌, length, get_or, eqb, ltb, leb}
 use Rattle.rules.specs.Enumerations.{Enum}
 use Rattle.ground.specs.Parts.{part}
 use Rattle.book.specs.declared.Part.{Part}

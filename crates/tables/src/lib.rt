@@ -99,7 +99,8 @@ fn is_hit(text: &[u8], s: &[u8], table: &[u32], g: Grid, p: usize, list: usize, 
 // Past the name of the element of a list that is entered under a name; NOWHERE for none.
 fn seek(text: &[u8], s: &[u8], table: &[u32], g: Grid, list: usize, name: Part) -> usize
     requires { Sized g table.now }
-    ensures { (es : List Entry) (p : ℕ) → Filled text.now s.now g table.now es p → result ≡ seek_in text.now s.now list name es }
+    ensures { (es : List Entry) (p : ℕ) → Filled text.now s.now g table.now es p
+        → result ≡ seek_in text.now s.now list name es }
 {
     let keys = g.keys;
     let k = key_of(text, keys, list, name);

@@ -33,19 +33,26 @@ overflow_add-course c =
 pub overflow_mul-course : goal.overflow_mul-course
 overflow_mul-course c =
     let a = c.args in
-    omega
-    (arith, fuel-small a.n (length a.scratch.now) (omega (arith, c.requires.n_le_start.0, c.requires.n_le_start.2)) c.requires.n_le_start.3)
+    omega (
+      arith,
+      fuel-small a.n (length a.scratch.now) (omega (arith, c.requires.n_le_start.0, c.requires.n_le_start.2))
+          c.requires.n_le_start.3,
+    )
 
 pub overflow_add-course-2 : goal.overflow_add-course-2
 overflow_add-course-2 c =
     let a = c.args in
-    omega
-    (arith, fuel-small a.n (length a.scratch.now) (omega (arith, c.requires.n_le_start.0, c.requires.n_le_start.2)) c.requires.n_le_start.3)
+    omega (
+      arith,
+      fuel-small a.n (length a.scratch.now) (omega (arith, c.requires.n_le_start.0, c.requires.n_le_start.2))
+          c.requires.n_le_start.3,
+    )
 
 pub run-requires : goal.run-requires
 run-requires c =
     let a = c.args in
-    let f = fuel-small a.n (length a.scratch.now) (omega (arith, c.requires.n_le_start.0, c.requires.n_le_start.2)) c.requires.n_le_start.3 in
+    let f = fuel-small a.n (length a.scratch.now)
+    (omega (arith, c.requires.n_le_start.0, c.requires.n_le_start.2)) c.requires.n_le_start.3 in
     record {
       n_le_start = (
         c.requires.n_le_start.0,
