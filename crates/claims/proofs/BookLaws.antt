@@ -12,7 +12,8 @@ use Rattle.rules.specs.Types.{Measure, Ty, text, numeric, structure, enum}
 use Rattle.rules.specs.Declarations as D
 use Rattle.rules.specs.Declarations.{Use, inline, of_domain, of_structure, Attribute, Sort, Def, Decl, State}
 use Rattle.rules.specs.Book.{Record, open_record, inner_records, element_records, unit_records, type_records}
-use Rattle.rules.specs.Book.{use_records, attribute_records, attributes_records, head_records, end_records, decl_records}
+use Rattle.rules.specs.Book.{use_records, attribute_records, attributes_records, head_records, end_records}
+use Rattle.rules.specs.Book.{decl_records}
 use Rattle.rules.specs.Book.{decls_records, open_records, records, bytes, book, padded}
 use Rattle.rules.specs.Show.{size_of, records_from}
 use Rattle.rules.specs.All.{All}

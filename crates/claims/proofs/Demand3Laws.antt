@@ -19,9 +19,11 @@ use Rattle.rules.specs.Declarations.{Use, inline, of_domain, of_structure, ty_of
 use Rattle.rules.specs.Declarations.{known}
 use Rattle.rules.specs.Book.{book}
 use Rattle.rules.specs.Judge as J
-use Rattle.rules.specs.Judge.{Rule, Judged, ok, refused, first_broken_or, or_no_attribute, resolved, reference_in, is_naming}
+use Rattle.rules.specs.Judge.{Rule, Judged, ok, refused, first_broken_or, or_no_attribute, resolved, reference_in}
+use Rattle.rules.specs.Judge.{is_naming}
 use Rattle.rules.specs.Judge.{descends, element_rule, type_rules, extends_rules, class_rules, domain_to_16, domain17}
-use Rattle.rules.specs.Judge.{target_in, domain22, domain_rules, new_attribute, attribute_to_16, attribute17, attribute18}
+use Rattle.rules.specs.Judge.{target_in, domain22, domain_rules, new_attribute, attribute_to_16, attribute17}
+use Rattle.rules.specs.Judge.{attribute18}
 use Rattle.rules.specs.Judge.{attribute22}
 use Rattle.rules.specs.Judge.{attribute_rules, inherited_as, member_rules, open_name, judge}
 use Rattle.rules.specs.Check.{Given, unit_place, capacity, room, answer_of, check}

@@ -13,8 +13,10 @@ use Rattle.rules.specs.Grammar.{Reference, WrittenType, Written}
 use Rattle.rules.specs.Units as U
 use Rattle.rules.specs.Declarations.{Use, of_domain, of_structure, ty_of, Attribute, Sort, domain, unit, is_sort, Def}
 use Rattle.rules.specs.Declarations.{link_of, attributes_of, def, State, known}
-use Rattle.rules.specs.Judge.{element_rule, merged_into, domain_type, attribute_use, or_no_def, or_no_attribute, resolved}
-use Rattle.rules.specs.Judge.{reference_in, declare, opened, new_topic, new_class, new_domain, new_attribute, with_attribute}
+use Rattle.rules.specs.Judge.{element_rule, merged_into, domain_type, attribute_use, or_no_def, or_no_attribute}
+use Rattle.rules.specs.Judge.{resolved}
+use Rattle.rules.specs.Judge.{reference_in, declare, opened, new_topic, new_class, new_domain, new_attribute}
+use Rattle.rules.specs.Judge.{with_attribute}
 use Rattle.rules.specs.Judge.{domain_to_16, domain_rules, attribute_to_16, attribute_rules, inherited_as, member_rules}
 use Rattle.rules.specs.Judge.{after_member, after_close, rules_of, next_state}
 use Rattle.rules.specs.Merged.{distinct, adds_nothing}

@@ -98,7 +98,8 @@ a-path (elem n i r) = let (p, h) = a-path i in (into n.bytes p, or_l _ (both (sa
 abbrev Unread : (Enum → Path → Bool) → Enum → Enum → Type 0
 Unread legal e b = (p : Path) × (legal e p ≡ true) × (read_path b p ≡ none)
 
-outer-unread : (e b : Enum) → (fits_in e b ≡ false → Unread legal_in e b) → enum_fits e b ≡ false → Unread legal_path e b
+outer-unread : (e b : Enum) → (fits_in e b ≡ false → Unread legal_in e b)
+    → enum_fits e b ≡ false → Unread legal_path e b
 outer-unread (end f) (end g) s h = absurd (true≢false h)
 outer-unread (end f) (elem n i r) s h = (here, refl, refl)
 outer-unread (elem n i r) b s h = s h

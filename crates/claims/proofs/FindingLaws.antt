@@ -77,7 +77,8 @@ found b (suc k) j i f =
     next : (n : ℕ) → Whole b j n → FoundAt b k (j + n) i → FoundAt b (suc k) j i
     next n w (h, e) = (h, e ∙ sym (ap (λ (l : List Record). drop (suc k) l) w.first))
 
-onward : (b : List ℕ) (k m i : ℕ) → find_record b k ≡ some i → find_record b (k + m) ≡ behind i (find_record (drop i b) m)
+onward : (b : List ℕ) (k m i : ℕ) → find_record b k ≡ some i
+    → find_record b (k + m) ≡ behind i (find_record (drop i b) m)
 unfolding find_record
 onward b k m i f =
     found-onward (records_at b 0) m k 0 i f

@@ -20,10 +20,13 @@ use Rattle.rules.specs.Declarations.{Link, Use, inline, of_domain, of_structure,
 use Rattle.rules.specs.Declarations.{is_sort, Def, link_of, attributes_of, attribute_at, is_found, def, State, known}
 use Rattle.rules.specs.Book.{decls_records, head_records, end_records, records}
 use Rattle.rules.specs.Judge as J
-use Rattle.rules.specs.Judge.{or_no_def, resolved, meant, merged_into, domain_type, attribute_use, reference_in, is_naming}
+use Rattle.rules.specs.Judge.{or_no_def, resolved, meant, merged_into, domain_type, attribute_use, reference_in}
+use Rattle.rules.specs.Judge.{is_naming}
 use Rattle.rules.specs.Judge.{type_rules, declare, opened, in_topic, new_topic, new_class, new_domain, domain_to_16}
-use Rattle.rules.specs.Judge.{domain_rules, base_of_attribute, new_attribute, with_attribute, attribute_to_16, attribute_from_17}
-use Rattle.rules.specs.Judge.{attribute_rules, inherited_as, member_rules, after_member, after_close, rules_of, next_state}
+use Rattle.rules.specs.Judge.{domain_rules, base_of_attribute, new_attribute, with_attribute, attribute_to_16}
+use Rattle.rules.specs.Judge.{attribute_from_17}
+use Rattle.rules.specs.Judge.{attribute_rules, inherited_as, member_rules, after_member, after_close, rules_of}
+use Rattle.rules.specs.Judge.{next_state}
 use Rattle.rules.specs.Judge.{descends, extends_rules, class_rules}
 use Rattle.rules.specs.All.{All, AnyIs, Unbroken}
 use Rattle.rules.proofs.AllLaws.{all_map, all_append, all_left, all_right, any-is, any-attribute, any-resolved}
@@ -128,7 +131,8 @@ module _ (s : State) (n : Name) (p : List (List ℕ)) (b : Option Reference) (w 
       let k = all_right Unbroken (domain_to_16 s n p b w (some d) g) _ h in
       inside (domain_type w.type g d.type) d.type (not-fails k.0) (not-fails k.1.0)
 
-  domain-early : (o : Option Def) → All Unbroken (domain_rules s n p b w o g) → All Unbroken (domain_to_16 s n p b w o g)
+  domain-early : (o : Option Def) → All Unbroken (domain_rules s n p b w o g)
+      → All Unbroken (domain_to_16 s n p b w o g)
   unfolding domain_rules
   domain-early o h = all_left Unbroken (domain_to_16 s n p b w o g) _ h
 
@@ -251,8 +255,10 @@ alike false false p q = refl
 late-over : (p : ℕ) (x : Option WrittenType) (g : Option Def) (b : Use) →
     All Unbroken (attribute_from_17 p true (is_naming x) (attribute_use x g b) b) → Over (attribute_use x g b) b
 late-over p none g b k = over-self b (inside (ty_of b) (ty_of b) (not-fails k.0) (not-fails k.1.1.0))
-late-over p (some (G.text m n)) g b k = inside _ (ty_of b) (not-fails k.0) (not-fails k.1.1.0)
-late-over p (some (G.numeric q r)) g b k = inside _ (ty_of b) (not-fails k.0) (not-fails k.1.1.0)
+late-over p (some (G.text m n)) g b k =
+    inside (ty_of (attribute_use (some (G.text m n)) g b)) (ty_of b) (not-fails k.0) (not-fails k.1.1.0)
+late-over p (some (G.numeric q r)) g b k =
+    inside (ty_of (attribute_use (some (G.numeric q r)) g b)) (ty_of b) (not-fails k.0) (not-fails k.1.1.0)
 late-over p (some (G.enum e)) g b k = inside _ (ty_of b) (not-fails k.0) (not-fails k.1.1.0)
 late-over p (some (G.named r)) g b k =
     let d = or_no_def g in
@@ -291,7 +297,8 @@ module _ (s : State) (c : Def) (n : Name) (p : List (List ℕ)) (w : Written) (g
       late-over w.place w.type g a.use_of (all_right Unbroken (attribute_to_16 s c n p w (some a) g) _ k)
 
   -- 9 and 10: EXTENDED exactly where there is something inherited
-  attribute-extended : (o : Option Attribute) → All Unbroken (attribute_to_16 s c n p w o g) → J.has_extended p ≡ is_found o
+  attribute-extended : (o : Option Attribute) → All Unbroken (attribute_to_16 s c n p w o g)
+      → J.has_extended p ≡ is_found o
   unfolding attribute_to_16
   attribute-extended o k = alike (J.has_extended p) (is_found o)
       (or-fails {x = is_found (attribute_at n.bytes c.own)} k.1.0).1 k.1.1.1.0

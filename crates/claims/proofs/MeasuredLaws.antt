@@ -13,10 +13,12 @@ use Rattle.rules.specs.Types.{Measure, line, leads_to, unit_fits, Ty, text, nume
 use Rattle.rules.specs.Grammar as G
 use Rattle.rules.specs.Grammar.{Reference, WrittenType, Written}
 use Rattle.rules.specs.Units as U
-use Rattle.rules.specs.Declarations.{Link, Use, of_domain, of_structure, ty_of, Attribute, Sort, domain, unit, is_sort, Def}
+use Rattle.rules.specs.Declarations.{Link, Use, of_domain, of_structure, ty_of, Attribute, Sort, domain, unit, is_sort}
+use Rattle.rules.specs.Declarations.{Def}
 use Rattle.rules.specs.Declarations.{link_of, numbers_of, measure_of, attributes_of, def, State, known, lookup}
 use Rattle.rules.specs.Judge as J
-use Rattle.rules.specs.Judge.{merged_into, domain_type, attribute_use, or_no_def, or_no_attribute, resolved, reference_in}
+use Rattle.rules.specs.Judge.{merged_into, domain_type, attribute_use, or_no_def, or_no_attribute, resolved}
+use Rattle.rules.specs.Judge.{reference_in}
 use Rattle.rules.specs.Judge.{declare, opened, new_topic, new_class, new_domain, new_attribute, with_attribute, type11}
 use Rattle.rules.specs.Judge.{domain_to_16, domain_rules, attribute_to_16, attribute_rules, inherited_as, member_rules}
 use Rattle.rules.specs.Judge.{after_member, after_close, rules_of, next_state}

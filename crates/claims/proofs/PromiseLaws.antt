@@ -1,7 +1,7 @@
 -- `check` allows one outcome, and its buffer is the book and zeros, or zeros.
 use mathlib.Core.Path.{◌≡◌, refl, sym, ap, ◌∙◌}
 use mathlib.Core.List.{List, []}
-use Prim.Native.Nat.{ℕ, suc, ◌-◌, ◌≤◌}
+use Prim.Native.Nat.{ℕ, zero, suc, ◌-◌, ◌≤◌}
 use native.Mathlib.Omega.{arith}
 use lib.ListN.{length, take, drop, replicate, length-append, length-replicate}
 use lib.Seq.{take-append_seam, drop-append_seam}
@@ -36,6 +36,7 @@ one-outcome t g = record {
 
 -- ---- padding
 zeros : (n : ℕ) → Zeros (replicate n 0)
+zeros zero x i = elim i [ ]
 zeros (suc n) x first = refl
 zeros (suc n) x (later k) = zeros n x k
 

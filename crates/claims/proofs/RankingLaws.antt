@@ -16,7 +16,8 @@ use Rattle.rules.specs.Grammar as G
 use Rattle.rules.specs.Grammar.{Reference, WrittenType, Written}
 use Rattle.rules.specs.Units as U
 use Rattle.rules.specs.Declarations.{Attribute, Def, State}
-use Rattle.rules.specs.Judge.{Rule, rule, ok, refused, first_broken_or, resolved, reference_in, extends_rules, class_rules}
+use Rattle.rules.specs.Judge.{Rule, rule, ok, refused, first_broken_or, resolved, reference_in, extends_rules}
+use Rattle.rules.specs.Judge.{class_rules}
 use Rattle.rules.specs.Judge.{domain_to_16, domain_rules, attribute_to_16, attribute_rules, inherited_as, member_rules}
 use Rattle.rules.specs.Judge.{next_state}
 use Rattle.rules.specs.Check.{Given, Outcome, kept, unread, ruled_out, run, answer_of, refusing}
@@ -107,6 +108,7 @@ rising-parts k r l h =
     (leb-true k (rank r.number) z.0, z.1)
 
 rising-in : (k : ℕ) (l : List Rule) → rising k l ≡ true → {r : Rule} → In r l → k ≤ rank r.number
+rising-in k [] h i = elim i [ ]
 rising-in k (q ∷ l) h first = (rising-parts k q l h).0
 rising-in k (q ∷ l) h {r} (later i) =
     let z = rising-parts k q l h in
@@ -133,6 +135,7 @@ at_in n p (r ∷ l) e = go (eqb r.number n) refl (λ q. at_in n p l q)
     go false f ih = let (q, i, h) = ih (sym (at_other n r l f) ∙ e) in (q, later i, h)
 
 pub of-order-in : (l : List Rule) → of_order l ≡ true → {r : Rule} → In r l → is_in r.number order ≡ true
+of-order-in [] h i = elim i [ ]
 of-order-in (q ∷ l) h first = let z : (is_in q.number order ≡ true) × (of_order l ≡ true) = split h in z.0
 of-order-in (q ∷ l) h (later i) =
     let z : (is_in q.number order ≡ true) × (of_order l ≡ true) = split h in of-order-in l z.1 i

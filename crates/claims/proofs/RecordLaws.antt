@@ -12,7 +12,8 @@ use Rattle.rules.specs.Grammar.{Written}
 use Rattle.rules.specs.Units as U
 use Rattle.rules.specs.Declarations as D
 use Rattle.rules.specs.Declarations.{Attribute, Sort, Def, Decl, def, State, known}
-use Rattle.rules.specs.Book.{Record, decl_records, decls_records, head_records, end_records, def_record, attribute_records}
+use Rattle.rules.specs.Book.{Record, decl_records, decls_records, head_records, end_records, def_record}
+use Rattle.rules.specs.Book.{attribute_records}
 use Rattle.rules.specs.Book.{attributes_records, open_records}
 use Rattle.rules.specs.Check.{Given}
 use Rattle.rules.specs.Judge.{resolved, reference_in, declare, new_topic, new_class, new_domain, new_attribute}
@@ -63,7 +64,8 @@ laid-append : (n : ℕ) (l : List Decl) (x : Decl) → Laid n l
 laid-append n [] x h k = let e : n + 0 ≡ n = omega arith in (subst (λ (j : ℕ). At j x) e k, tt)
 laid-append n (y ∷ l) x h k =
     let q = length-append (decl_records y) (decls_records l) in
-    let e : n + length (decls_records (y ∷ l)) ≡ (n + length (decl_records y)) + length (decls_records l) = omega arith in
+    let e : n + length (decls_records (y ∷ l))
+    ≡ (n + length (decl_records y)) + length (decls_records l) = omega arith in
     (h.0, laid-append (n + length (decl_records y)) l x h.1 (subst (λ (j : ℕ). At j x) e k))
 
 -- the open class is a class or a structure
@@ -217,6 +219,7 @@ here l more n k e = record { before = []; behind = more; split = refl; count = o
 
 placed-in : (n : ℕ) (l : List Attribute) → Placed n l → {a : Attribute} → In a l
     → Within (attributes_records l) n a.number (attribute_records a)
+placed-in n [] h i = elim i [ ]
 placed-in n (b ∷ l) h first = here (attribute_records b) (attributes_records l) n b.number h.0
 placed-in n (b ∷ l) h {a} (later i) = behind_more (attribute_records b) (attributes_records l) n a.number
     (attribute_records a) (placed-in (n + length (attribute_records b)) l h.1 i)
@@ -263,6 +266,7 @@ found-more x l n d h = record {
 }
 
 laid_in : (n : ℕ) (l : List Decl) → Laid n l → {d : Def} → In d (known l) → Found l n d
+laid_in n [] h i = elim i [ ]
 laid_in n (D.model x ∷ l) h {d} i = found-more (D.model x) l n d (laid_in (n + 1) l h.1 i)
 laid_in n (D.def e ∷ l) h first = record {
   at = n;

@@ -104,7 +104,8 @@ first-broken-came (r ∷ pre) post s k p h q =
     go true e z l ih = let y = ap rank (number_of r k p z) in absurd (omega arith)
     go false e z l ih = let y = ih z in record { kept = (e, y.kept); rest = y.rest }
 
-pub first-broken-never : (l : List Rule) (s : State) (k p : ℕ) → lacks k l ≡ true → first_broken_or l s ≡ refused k p → ⊥
+pub first-broken-never : (l : List Rule) (s : State) (k p : ℕ) → lacks k l ≡ true
+    → first_broken_or l s ≡ refused k p → ⊥
 first-broken-never [] s k p h q = not-refused q
 first-broken-never (r ∷ l) s k p h q =
     go r.broken q (λ z. first-broken-never l s k p (split {x = not (eqb r.number k)} h).1 z)
@@ -130,6 +131,7 @@ Refuses k j = (n p : ℕ) × (j ≡ refused n p) × (rank n < rank k)
 
 pub in-refuses : (k : ℕ) (l : List Rule) (s : State) → under k l ≡ true → (r : Rule) → In r l → r.broken ≡ true
     → Refuses k (first_broken_or l s)
+in-refuses k [] s h r i b = elim i [ ]
 in-refuses k (x ∷ l) s h r i b =
     let z : (ltb (rank x.number) (rank k) ≡ true) × (under k l ≡ true) = split h in
     go x r x.broken refl (ltb-true (rank x.number) (rank k) z.0) i b (λ j. in-refuses k l s z.1 r j b)

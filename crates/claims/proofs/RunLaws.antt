@@ -149,7 +149,8 @@ module _ (t : List ℕ) (g : Given) where
   long-run e = rw e
 
   -- ---- what holds of each state that is reached
-  judged-open : (s x : State) (u : Option U.Unit) (b : Bool) → Moves (is_open s) u b → judged g s u ≡ ok x → is_open x ≡ b
+  judged-open : (s x : State) (u : Option U.Unit) (b : Bool) → Moves (is_open s) u b
+      → judged g s u ≡ ok x → is_open x ≡ b
   judged-open s x none b v j = let e : s ≡ x = cc in sym (v ∙ ap is_open e)
   judged-open s x (some u) b v j = sym (ap is_open (judged-went g s x u j).next) ∙ next-open s u b v
 

@@ -14,7 +14,8 @@ use Rattle.rules.specs.Grammar as G
 use Rattle.rules.specs.Grammar.{Reference, WrittenType, Written}
 use Rattle.rules.specs.Units as U
 use Rattle.rules.specs.Declarations.{Attribute, Def, is_found, State}
-use Rattle.rules.specs.Judge.{Rule, rule, refused, first_broken_or, first_place, place_of, doubled, resolved, reference_in}
+use Rattle.rules.specs.Judge.{Rule, rule, refused, first_broken_or, first_place, place_of, doubled, resolved}
+use Rattle.rules.specs.Judge.{reference_in}
 use Rattle.rules.specs.Judge.{extends_rules, class_rules, domain_to_16, domain_rules, attribute_to_16, attribute_rules}
 use Rattle.rules.specs.Judge.{inherited_as, member_rules, next_state}
 use Rattle.rules.specs.Check.{Given, judged}
@@ -46,6 +47,7 @@ given {x = true} p h = h
 given {x = false} p h = never p
 
 ahead_in : (r : Rule) (l : List Rule) → ahead r l ≡ true → NoneBefore r.number r.place l
+ahead_in r [] h q i e b = elim i [ ]
 ahead_in r (x ∷ l) h q first e b =
     leb-true r.place q.place (given (both (eq-eqb q.number r.number e) b) (split {x = not_before r q} h).0)
 ahead_in r (x ∷ l) h q (later i) e b = ahead_in r l (split {x = not_before r x} h).1 q i e b

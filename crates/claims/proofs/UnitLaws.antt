@@ -19,14 +19,19 @@ use Rattle.rules.specs.Enumerations.{Enum, end, elem}
 use Rattle.rules.specs.Readers.{Result, done, refused, Reader, and_then, ◌>>=◌, ◌>>◌, ret, refuse, expect, aName}
 use Rattle.rules.specs.Readers.{fault_of, the_mark, if_next, optional}
 use Rattle.rules.specs.Grammar as G
-use Rattle.rules.specs.Grammar.{enough, properties_from, properties, Reference, reference, extends, close_final, Element}
+use Rattle.rules.specs.Grammar.{enough, properties_from, properties, Reference, reference, extends, close_final}
+use Rattle.rules.specs.Grammar.{Element}
 use Rattle.rules.specs.Grammar.{deepest, opening_bracket, enumeration, elements, element, WrittenType, is_length}
-use Rattle.rules.specs.Grammar.{text_length, text_type, unit_reference, optional_unit, range_type, numeric_type, type_of}
+use Rattle.rules.specs.Grammar.{text_length, text_type, unit_reference, optional_unit, range_type, numeric_type}
+use Rattle.rules.specs.Grammar.{type_of}
 use Rattle.rules.specs.Grammar.{type_or_reference, Bounds, Written, place_of_next, written}
 use Rattle.rules.specs.Units as U
-use Rattle.rules.specs.Units.{Around, in_model, in_topic, is_model, of_domains, of_units, is_head, domains, units, no_run}
-use Rattle.rules.specs.Units.{a_member, is_given, class_sort, Where, start, after_header, over, body, members, Step, step}
-use Rattle.rules.specs.Units.{header_unit, model_unit, topic_unit, class_unit, domain_unit, unit_unit, attribute_unit, end_unit}
+use Rattle.rules.specs.Units.{Around, in_model, in_topic, is_model, of_domains, of_units, is_head, domains, units}
+use Rattle.rules.specs.Units.{no_run}
+use Rattle.rules.specs.Units.{a_member, is_given, class_sort, Where, start, after_header, over, body, members, Step}
+use Rattle.rules.specs.Units.{step}
+use Rattle.rules.specs.Units.{header_unit, model_unit, topic_unit, class_unit, domain_unit, unit_unit, attribute_unit}
+use Rattle.rules.specs.Units.{end_unit}
 use Rattle.rules.specs.Units.{word_step, body_end, body_unit, member_unit, last_step, unit_at}
 use Rattle.rules.specs.Judge.{first_place}
 use Rattle.rules.specs.All.{AnyIs}
@@ -205,7 +210,8 @@ module _ (t : List ℕ) where
   properties-from zero l = refuses _ (omega arith)
   properties-from (suc f) l =
       bind (passes (is_one_word l)) (λ _ _.
-      bind (if-next {P = Any} (is_mark ",") (skip (is_mark ",") (properties-from f l)) (skip (is_mark ")") (gives _ tt)))
+      bind
+      (if-next {P = Any} (is_mark ",") (skip (is_mark ",") (properties-from f l)) (skip (is_mark ")") (gives _ tt)))
       (λ _ _. gives _ tt))
 
   the-properties : {i : ℕ} (l : List (List ℕ)) → Reads i Any (properties l)
@@ -300,7 +306,8 @@ module _ (t : List ℕ) where
     the_elements : {i : ℕ} (f d : ℕ) → Reads i (EnumIn i) (elements f d)
     the_elements zero d = refuses _ (omega arith)
     the_elements (suc f) d =
-        bind (the-element f d) (λ e h. bind (if-next {P = EnumIn _} (is_mark ",") (skip (is_mark ",") (the_elements f d))
+        bind (the-element f d)
+        (λ e h. bind (if-next {P = EnumIn _} (is_mark ",") (skip (is_mark ",") (the_elements f d))
         (if-next (is_mark ":") (skip (is_mark ":") close-final) (skip (is_mark ")") (gives _ tt))))
         (λ r k. gives _ (h.0, h.1, k)))
 
@@ -387,7 +394,8 @@ module _ (t : List ℕ) where
   base-written : (i : ℕ) (r : Option Reference) → AnyIs (ReferenceIn i) r
       → Reads (behind_base i r) (λ x. WrittenIn i x × WrittenIn (behind_base i r) x) (written (is_given r) type_of)
   base-written i r h =
-      from-both (base-behind r h) (the_written (is_given r) type_of the_type) (the_written (is_given r) type_of the_type)
+      from-both (base-behind r h) (the_written (is_given r) type_of the_type)
+      (the_written (is_given r) type_of the_type)
     where
       base-behind : (r : Option Reference) → AnyIs (ReferenceIn i) r → i ≤ behind_base i r
       base-behind none h = omega arith
@@ -466,7 +474,8 @@ module _ (t : List ℕ) where
       (if-next (λ y. of_units r && is_kind name y) (the-unit-of w a refl) (the-body-end w a))))))
   the-unit (members a b) =
       let w = members a b in
-      if-next (λ y. is_head b && is_word (ascii "ATTRIBUTE") y) (the_word_lem w (ascii "ATTRIBUTE") (members a a_member) refl)
+      if-next (λ y. is_head b && is_word (ascii "ATTRIBUTE") y)
+      (the_word_lem w (ascii "ATTRIBUTE") (members a a_member) refl)
       (if-next (is_kind name) (the-attribute w a refl) (the_end w ";" (body a no_run) refl))
   the-unit over = last over (is_kind stop) none over tt refl
 

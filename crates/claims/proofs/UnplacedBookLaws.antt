@@ -12,7 +12,8 @@ use Rattle.rules.specs.Types.{Ty, text, numeric, structure, enum}
 use Rattle.rules.specs.Declarations as D
 use Rattle.rules.specs.Declarations.{Link, Use, inline, of_domain, of_structure, Attribute, Sort, Def, Decl, State}
 use Rattle.rules.specs.Book.{Record, open_record, inner_records, element_records, type_records, use_records}
-use Rattle.rules.specs.Book.{attribute_records, attributes_records, base_number, head_records, end_records, decl_records}
+use Rattle.rules.specs.Book.{attribute_records, attributes_records, base_number, head_records, end_records}
+use Rattle.rules.specs.Book.{decl_records}
 use Rattle.rules.specs.Book.{decls_records, open_records, records, bytes, book, is_definition, definitions}
 use Rattle.rules.specs.Show.{is_named}
 use Rattle.claims.specs.Unplaced.{unplaced_enum, unplaced_ty, unplaced_link, unplaced_use, unplaced_attribute}
@@ -69,7 +70,8 @@ attribute-unplaced : (a : Attribute) → attribute_records (unplaced_attribute a
 unfolding is_named
 attribute-unplaced a = rw (use-unplaced a.use_of)
 
-attributes-unplaced : (l : List Attribute) → attributes_records (map unplaced_attribute l) ≡ bares (attributes_records l)
+attributes-unplaced : (l : List Attribute)
+    → attributes_records (map unplaced_attribute l) ≡ bares (attributes_records l)
 attributes-unplaced [] = refl
 attributes-unplaced (a ∷ l) =
     both-unplaced (attribute_records a) (attributes_records l) (attribute-unplaced a) (attributes-unplaced l)

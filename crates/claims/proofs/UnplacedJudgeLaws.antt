@@ -19,13 +19,17 @@ use Rattle.rules.specs.Types as Y
 use Rattle.rules.specs.Types.{Ty}
 use Rattle.rules.specs.Declarations as D
 use Rattle.rules.specs.Declarations.{Link, Use, inline, of_domain, of_structure, ty_of, Attribute, Sort, is_sort, Def}
-use Rattle.rules.specs.Declarations.{link_of, numbers_of, measure_in, attributes_of, attribute_at, is_found, Decl, State}
+use Rattle.rules.specs.Declarations.{link_of, numbers_of, measure_in, attributes_of, attribute_at, is_found, Decl}
+use Rattle.rules.specs.Declarations.{State}
 use Rattle.rules.specs.Declarations.{at_hand}
 use Rattle.rules.specs.Book.{records, book}
-use Rattle.rules.specs.Judge.{Rule, Judged, ok, refused, first_broken_or, or_no_def, or_no_attribute, place_of, resolved}
+use Rattle.rules.specs.Judge.{Rule, Judged, ok, refused, first_broken_or, or_no_def, or_no_attribute, place_of}
+use Rattle.rules.specs.Judge.{resolved}
 use Rattle.rules.specs.Judge.{bases_of, length_in, range_in, merged_into, meant, domain_type, naming, attribute_use}
-use Rattle.rules.specs.Judge.{reference_in, is_naming, is_numeric, doubled, element_rule, type_rules, kind_rule, declare}
-use Rattle.rules.specs.Judge.{new_topic, new_class, extends_rules, class_rules, new_domain, domain_to_16, domain17, domain22}
+use Rattle.rules.specs.Judge.{reference_in, is_naming, is_numeric, doubled, element_rule, type_rules, kind_rule}
+use Rattle.rules.specs.Judge.{declare}
+use Rattle.rules.specs.Judge.{new_topic, new_class, extends_rules, class_rules, new_domain, domain_to_16, domain17}
+use Rattle.rules.specs.Judge.{domain22}
 use Rattle.rules.specs.Judge.{domain_rules, is_domain}
 use Rattle.rules.specs.Judge.{base_of_attribute, new_attribute, with_attribute, attribute_to_16, is_among, descends}
 use Rattle.rules.specs.Judge.{attribute_from_17, attribute_rules, inherited_as, member_rules, after_member, open_name}
@@ -198,7 +202,8 @@ with-unplaced c a = rw (map-append unplaced_attribute c.own (a ∷ []))
 
 -- ---- rules that look at no state
 extends-unplaced : (c : Sort) (r : Option Reference) (o : Option Def) →
-    extends_rules c (Option.map unplaced_reference r) (Option.map unplaced_def o) ≡ map unplaced_rule (extends_rules c r o)
+    extends_rules c (Option.map unplaced_reference r) (Option.map unplaced_def o)
+    ≡ map unplaced_rule (extends_rules c r o)
 unfolding extends_rules
 extends-unplaced c r o =
     rw (place-unplaced r, found-unplaced unplaced_reference r, found-unplaced unplaced_def o, or-def-unplaced o)
@@ -228,7 +233,8 @@ domain-22-unplaced w o g =
     )
 
 attribute-from-17-unplaced : (p : ℕ) (b m : Bool) (u v : Use) →
-    attribute_from_17 (unplaced_place p) b m (unplaced_use u) (unplaced_use v) ≡ map unplaced_rule (attribute_from_17 p b m u v)
+    attribute_from_17 (unplaced_place p) b m (unplaced_use u) (unplaced_use v)
+    ≡ map unplaced_rule (attribute_from_17 p b m u v)
 attribute-from-17-unplaced p b m u v = rw (
   descends-unplaced u v,
   ty-unplaced u,
@@ -238,7 +244,8 @@ attribute-from-17-unplaced p b m u v = rw (
 )
 
 -- ---- topics, classes
-new-topic-unplaced : (s : State) (n : Name) → new_topic (unplaced_state s) (unplaced_name n) ≡ unplaced_def (new_topic s n)
+new-topic-unplaced : (s : State) (n : Name)
+    → new_topic (unplaced_state s) (unplaced_name n) ≡ unplaced_def (new_topic s n)
 unfolding new_topic
 new-topic-unplaced s n = rw (records-count-unplaced s)
 
@@ -250,7 +257,8 @@ module _ (s : State) (c : Sort) (n : Name) (p : List (List ℕ)) (o : Option Def
       class_rules (unplaced_state s) c (unplaced_name n) p (Option.map unplaced_reference r) (Option.map unplaced_def o)
       ≡ map unplaced_rule (class_rules s c n p r o)
   unfolding class_rules
-  class-rules-unplaced r = rw (taken-unplaced s n, extends-unplaced c r o, map-append unplaced_rule (extends_rules c r o))
+  class-rules-unplaced r =
+      rw (taken-unplaced s n, extends-unplaced c r o, map-append unplaced_rule (extends_rules c r o))
 
   new-class-unplaced : new_class (unplaced_state s) c (unplaced_name n) p (Option.map unplaced_def o)
       ≡ unplaced_def (new_class s c n p o)
@@ -266,7 +274,8 @@ module _ (s : State) (c : Sort) (n : Name) (p : List (List ℕ)) (o : Option Def
 
 -- ---- domains
 module _ (s : State) (n : Name) (p : List (List ℕ)) (w : Written) (o g : Option Def) where
-  new-domain-unplaced : new_domain (unplaced_state s) (unplaced_name n) p (unplaced_written w) (Option.map unplaced_def o)
+  new-domain-unplaced : new_domain (unplaced_state s) (unplaced_name n) p
+      (unplaced_written w) (Option.map unplaced_def o)
       (Option.map unplaced_def g)
       ≡ unplaced_def (new_domain s n p w o g)
   unfolding new_domain

@@ -16,8 +16,10 @@ use Rattle.rules.specs.Grammar.{Reference}
 use Rattle.rules.specs.Types.{Ty, text, numeric, structure, enum, kind_of, unit_of, Value, string, number, path, legal}
 use Rattle.rules.specs.Types.{some_path, reading, fits, keeps_unit}
 use Rattle.rules.specs.Declarations as D
-use Rattle.rules.specs.Declarations.{Use, inline, of_domain, of_structure, ty_of, Attribute, is_sort, Def, attributes_of}
-use Rattle.rules.specs.Declarations.{attribute_at, is_found, name_count, Decl, State, known, lookup, number_in, topic_name}
+use Rattle.rules.specs.Declarations.{Use, inline, of_domain, of_structure, ty_of, Attribute, is_sort, Def}
+use Rattle.rules.specs.Declarations.{attributes_of}
+use Rattle.rules.specs.Declarations.{attribute_at, is_found, name_count, Decl, State, known, lookup, number_in}
+use Rattle.rules.specs.Declarations.{topic_name}
 use Rattle.rules.specs.Declarations.{defined_as, at_home, at_hand, in_topic_of, resolve}
 use Rattle.claims.specs.Unplaced.{unplaced_place, unplaced_reference, unplaced_enum, unplaced_ty, unplaced_use}
 use Rattle.claims.specs.Unplaced.{unplaced_attribute, unplaced_def, unplaced_decl, unplaced_state}
@@ -72,7 +74,8 @@ legal-unplaced (enum e) (path p) = legal-path-unplaced e p
 beyond-unplaced : (b : Enum) → beyond (unplaced_enum b) ≡ beyond b
 beyond-unplaced b = rw (final-unplaced b, leaf-unplaced b)
 
-onward-unplaced : (o : Option Enum) (d : Option Path) (k : Enum → Option Path) → ((i : Enum) → k (unplaced_enum i) ≡ k i)
+onward-unplaced : (o : Option Enum) (d : Option Path) (k : Enum → Option Path)
+    → ((i : Enum) → k (unplaced_enum i) ≡ k i)
     → onward (Option.map unplaced_enum o) d k ≡ onward o d k
 onward-unplaced none d k h = refl
 onward-unplaced (some i) d k h = h i

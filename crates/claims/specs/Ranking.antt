@@ -1,7 +1,8 @@
 -- Document 01, "Refusals in order": within a unit that is read, first the attribute count of 4, then 7 to 19, with 22
 -- between 18 and 19 (document 02, No. 1). Of a unit's rules the refusal is by the first in this order that is broken,
 -- and of one number the first symbol is named.
-use Rattle.std.specs.Prelude.{◌≡◌, ◌⊎◌, ◌↔◌, Bool, true, false, cond, ◌&&◌, ◌||◌, List, [], ◌∷◌, ◌++◌, ℕ, suc, ◌≤◌, ◌<◌, length, eqb, leb, ltb}
+use Rattle.std.specs.Prelude.{◌≡◌, ◌⊎◌, ◌↔◌, Bool, true, false, cond, ◌&&◌, ◌||◌, List, [], ◌∷◌, ◌++◌, ℕ, suc, ◌≤◌, ◌<◌}
+use Rattle.std.specs.Prelude.{length, eqb, leb, ltb}
 use Rattle.std.proofs.Math.Option.{Option, none, some}
 use Rattle.rules.specs.Symbols.{Fault, too_long, number_of, symbol_at}
 use Rattle.rules.specs.Readers as R

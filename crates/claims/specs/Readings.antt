@@ -58,7 +58,8 @@ NumberInside t b = (v : Value) → legal t v ≡ true → readable b (in_unit (u
 
 abbrev pub NumberOutside : Ty → Ty → Type 0
 NumberOutside t b =
-    (v : Value) × (legal t v ≡ true) × (unit_in v ≡ unit_of t) × ((u : Option Measure) → readable b (in_unit u v) ≡ false)
+    (v : Value) × (legal t v ≡ true) × (unit_in v ≡ unit_of t)
+    × ((u : Option Measure) → readable b (in_unit u v) ≡ false)
 
 -- all values of t have a unit that b allows; or there is one in t's own unit, which b does not allow
 abbrev pub UnitInside : Ty → Ty → Type 0

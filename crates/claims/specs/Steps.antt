@@ -4,7 +4,8 @@ use Rattle.std.specs.Prelude.{◌≡◌, ◌⊎◌, ◌↔◌, true, false, List
 use Rattle.std.proofs.Math.Option.{Option, none, some}
 use Rattle.rules.specs.All.{AnyIs, In}
 use Rattle.rules.specs.Types.{Measure, unit_fits, Ty, unit_of, Value, legal, reading}
-use Rattle.rules.specs.Declarations.{Link, Use, inline, of_domain, of_structure, ty_of, Attribute, Def, def, State, known}
+use Rattle.rules.specs.Declarations.{Link, Use, inline, of_domain, of_structure, ty_of, Attribute, Def, def, State}
+use Rattle.rules.specs.Declarations.{known}
 use Rattle.rules.specs.Declarations.{lookup, attribute_at, struct, unit, is_sort, measure_of}
 use Rattle.rules.specs.Book.{Record, base_number, records, decl_records, attribute_records}
 use Rattle.rules.specs.Judge.{is_domain, may_extend}

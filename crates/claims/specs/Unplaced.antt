@@ -175,8 +175,10 @@ pub record PlacesIdle : Type 0 where
   pub sized : (s : State) → length (book (unplaced_state s)) ≡ length (book s)
   pub defined : (s : State) → definitions (records (unplaced_state s)) ≡ definitions (records s)
   -- units: the rules with their tests, the next state, and the judgement, without and with 19
-  pub rules : (s : State) (u : U.Unit) → rules_of (unplaced_state s) (unplaced_unit u) ≡ map unplaced_rule (rules_of s u)
-  pub next : (s : State) (u : U.Unit) → next_state (unplaced_state s) (unplaced_unit u) ≡ unplaced_state (next_state s u)
+  pub rules : (s : State) (u : U.Unit)
+      → rules_of (unplaced_state s) (unplaced_unit u) ≡ map unplaced_rule (rules_of s u)
+  pub next : (s : State) (u : U.Unit)
+      → next_state (unplaced_state s) (unplaced_unit u) ≡ unplaced_state (next_state s u)
   pub judging : (s : State) (u : U.Unit) → judge (unplaced_state s) (unplaced_unit u) ≡ unplaced_judged (judge s u)
   pub within : (g : Given) (s : State) (u : Option U.Unit)
       → judged g (unplaced_state s) (Option.map unplaced_unit u) ≡ unplaced_judged (judged g s u)

@@ -29,7 +29,8 @@ FixedBook f = (x : List ℕ) × ((t b : List ℕ) (n k : ℕ) → (f t b).answer
 -- of some text the count is not that of the definitions among the records in the buffer
 abbrev pub InventedCount : Way → Type 0
 InventedCount f =
-    (t b : List ℕ) × (n k : ℕ) × ((f t b).answer ≡ accepting n k) × (¬ (k ≡ definitions (records_from 0 (f t b).buffer)))
+    (t b : List ℕ) × (n k : ℕ) × ((f t b).answer ≡ accepting n k)
+    × (¬ (k ≡ definitions (records_from 0 (f t b).buffer)))
 
 -- the buffer is left as it was lent
 abbrev pub IdleRefusing : Way → Type 0
@@ -90,7 +91,8 @@ Unrounded f = (v : ℤ) (d b : ℕ) → b < d → d ≤ most_decimals → nat_ab
 
 abbrev pub CutOff : ReadingWay → Type 0
 CutOff f =
-    (v : ℤ) (d b : ℕ) → b < d → d ≤ most_decimals → nat_abs v < magnitude_limit → f v d b ≡ reads (shr_z v (10 ^ (d - b)))
+    (v : ℤ) (d b : ℕ) → b < d → d ≤ most_decimals → nat_abs v < magnitude_limit
+    → f v d b ≡ reads (shr_z v (10 ^ (d - b)))
 
 pub record Shut : Type 0 where
   -- there is a way that keeps it

@@ -2,12 +2,12 @@
 use mathlib.Core.Path.{◌≡◌, refl, sym, ap, ◌∙◌}
 use mathlib.Core.Bool.{Bool, true, false, cond, ◌||◌}
 use mathlib.Core.List.{List, [], ◌∷◌, ◌++◌}
-use Prim.Native.Nat.{ℕ, ◌+◌, ◌-◌, ◌*◌, ◌≤◌, ◌<◌}
+use Prim.Native.Nat.{ℕ, ◌+◌, ◌*◌, ◌≤◌, ◌<◌}
 use native.Mathlib.Nat.{mul-le-mul}
 use native.Mathlib.Omega.{arith}
 use lib.ListN.{length, get_or, take, length-append}
 use lib.Seq.{length-take-le}
-use Rattle.rules.specs.Enumerations.{Enum, final, at, merge, enum_fits}
+use Rattle.rules.specs.Enumerations.{Enum, final, merge, enum_fits}
 use Rattle.rules.specs.Book.{Record, bit, open_record, element_records, bytes}
 use Rattle.rules.proofs.MergeLaws.{final-merge}
 use Rattle.ground.specs.Parts.{splice, put_at}

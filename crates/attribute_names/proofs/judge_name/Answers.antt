@@ -12,11 +12,11 @@ slot_of-first-requires c =
 
 pub returns-then-r-gt0 : goal.returns-then-r-gt0
 returns-then-r-gt0 c =
-    let e = c.stopped.ensures in (
-      stopped-within c.args.st _ c.if-r-gt0.true _ e,
+    (
+      stopped-within c.args.st _ c.if-r-gt0.true _ c.stopped.ensures,
       λ q d n p w o k ec g. stopped-name q d n (has_extended p) w.type c.args.hand.now
           c.args.st.context.in_hand _
-          (c.slot_of-first.ensures.2 q d n p w o c.args.scratch.now k ec g).ruling c.if-r-gt0.true _ e,
+          (c.slot_of-first.ensures.2 q d n p w o c.args.scratch.now k ec g).ruling c.if-r-gt0.true _ c.stopped.ensures,
     )
 
 pub element_ruling-e-requires : goal.element_ruling-e-requires
@@ -25,14 +25,14 @@ element_ruling-e-requires c =
 
 pub returns-then-e-gt0 : goal.returns-then-e-gt0
 returns-then-e-gt0 c =
-    let e = c.stopped-then-e-gt0.ensures in (
-      stopped-within c.args.st _ c.if-e-gt0.true _ e,
+    (
+      stopped-within c.args.st _ c.if-e-gt0.true _ c.stopped-then-e-gt0.ensures,
       λ q d n p w o k ec g. stopped-element q d n (has_extended p) w.type c.args.hand.now
           c.args.st.context.in_hand _
           (c.slot_of-first.ensures.2 q d n p w o c.args.scratch.now k ec g).ruling c.if-r-gt0.false _
           (c.element_ruling-e.ensures w.type
           (is-meant c.args.text.now n p w c.args.scratch.now c.args.a g) g.scratched)
-          c.if-e-gt0.true _ e,
+          c.if-e-gt0.true _ c.stopped-then-e-gt0.ensures,
     )
 
 pub reach-requires : goal.reach-requires

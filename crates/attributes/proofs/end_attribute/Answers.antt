@@ -26,15 +26,15 @@ put_head-f-requires c =
 
 pub enter_member-requires : goal.enter_member-requires
 enter_member-requires c =
-    let v = c.requires.used_in_bounds.2 in (
+    (
       c.requires.used_in_bounds.3,
       record {
         offset = omega (arith, c.requires.len_bound.0);
         size = omega (arith, c.requires.len_bound.0);
-        number = omega (arith, c.requires.used_in_bounds.0, c.requires.used_in_bounds.1, v.fewer);
+        number = omega (arith, c.requires.used_in_bounds.0, c.requires.used_in_bounds.1, c.requires.used_in_bounds.2.fewer);
         place = omega (arith, c.requires.used_in_bounds.0, c.requires.used_in_bounds.1);
         flags = omega (arith, c.wide.ensures.1);
-        used = omega (arith, c.requires.used_in_bounds.0, c.requires.used_in_bounds.1, c.requires.within.3, v.rows);
+        used = omega (arith, c.requires.used_in_bounds.0, c.requires.used_in_bounds.1, c.requires.within.3, c.requires.used_in_bounds.2.rows);
       },
     )
 
@@ -44,12 +44,12 @@ overflow_add-q c =
 
 pub hold-n-requires : goal.hold-n-requires
 hold-n-requires c =
-    let v = c.requires.used_in_bounds.2 in (
+    (
       c.requires.within.0.slot,
       c.requires.within.2,
       c.requires.within.0.few c.requires.within.1,
-      omega (arith, c.requires.used_in_bounds.0, c.requires.used_in_bounds.1, v.fewer),
-      omega (arith, c.requires.used_in_bounds.0, c.requires.used_in_bounds.1, v.rows),
+      omega (arith, c.requires.used_in_bounds.0, c.requires.used_in_bounds.1, c.requires.used_in_bounds.2.fewer),
+      omega (arith, c.requires.used_in_bounds.0, c.requires.used_in_bounds.1, c.requires.used_in_bounds.2.rows),
       c.requires.used_in_bounds.4,
     )
 
@@ -67,15 +67,14 @@ overflow_add-size-then-has_room c =
 
 pub with_member-requires : goal.with_member-requires
 with_member-requires c =
-    let v = c.requires.used_in_bounds.2 in
     let r = leb-true (c.args.st.extent.used + head_size + c.args.size.bytes) (length c.args.book.now)
     (sym c.has_room.ensures ∙ c.if-has_room.true) in record {
       bytes_bound = (
         omega (arith, c.requires.used_in_bounds.1, r),
-        omega (arith, c.requires.used_in_bounds.1, c.requires.len_bound.1, v.fewer, r),
-        omega (arith, c.requires.used_in_bounds.1, v.fewer, v.defined, r),
+        omega (arith, c.requires.used_in_bounds.1, c.requires.len_bound.1, c.requires.used_in_bounds.2.fewer, r),
+        omega (arith, c.requires.used_in_bounds.1, c.requires.used_in_bounds.2.fewer, c.requires.used_in_bounds.2.defined, r),
       );
-      total_bound = omega (arith, c.requires.used_in_bounds.0, c.requires.used_in_bounds.1, v.rows);
+      total_bound = omega (arith, c.requires.used_in_bounds.0, c.requires.used_in_bounds.1, c.requires.used_in_bounds.2.rows);
     }
 
 pub shape_of-book-then-has_room : goal.shape_of-book-then-has_room

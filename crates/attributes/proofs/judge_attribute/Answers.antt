@@ -51,12 +51,11 @@ returns-then-k-gt0 c =
     let ei = c.judge_name-b.ensures.1 q d n p w c.args.book.now k ed g in
     let rt = refers_to k m ei z in
     let me = is-meant c.args.text.now n p w c.args.scratch.now c.args.a g in
-    let bi = c.judge_types-k.ensures.0 in
     let ri = c.judge_types-k.ensures.1 c.args.text.now (known q.decls) (attributes_in q) w.type
     (ready c.args.text.now q c.args.st c.args.book.now _ _ _ c.args.hand.now c.requires.text_len_bound.1 k) me
     g.fair.type rt in
     judged-refused c.args.text.now q (U.attribute n p w) c.args.book.now c.args.st
-    c.refused-then-k-gt0.result _ _ _ _ _ _ _ (judged-second k m ei z bi ri c.if-k-gt0.true) c.refused-then-k-gt0.ensures
+    c.refused-then-k-gt0.result _ _ _ _ _ _ _ (judged-second k m ei z c.judge_types-k.ensures.0 ri c.if-k-gt0.true) c.refused-then-k-gt0.ensures
 
 pub lay_use-l-requires : goal.lay_use-l-requires
 lay_use-l-requires c =
@@ -67,11 +66,10 @@ lay_use-l-requires c =
     let ei = c.judge_name-b.ensures.1 q d n p w c.args.book.now k ed g in
     let rt = refers_to k m ei z in
     let me = is-meant c.args.text.now n p w c.args.scratch.now c.args.a g in
-    let bi = c.judge_types-k.ensures.0 in
     let ri = c.judge_types-k.ensures.1 c.args.text.now (known q.decls) (attributes_in q) w.type
     (ready c.args.text.now q c.args.st c.args.book.now _ _ _ c.args.hand.now c.requires.text_len_bound.1 k) me
     g.fair.type rt in
-    let same = c.judge_name-b.auto.tables in record { sized = (ri.sized_own, ri.sized_base, omega (arith, bi.named, c.judge_name-b.ensures.0.target), bi.kept, c.requires.text_len_bound.3); used_in_bounds = (k.within, c.requires.text_len_bound.1, c.requires.text_len_bound.2, omega (arith, c.requires.tables_for, same)) }
+    let same = c.judge_name-b.auto.tables in record { sized = (ri.sized_own, ri.sized_base, omega (arith, c.judge_types-k.ensures.0.named, c.judge_name-b.ensures.0.target), c.judge_types-k.ensures.0.kept, c.requires.text_len_bound.3); used_in_bounds = (k.within, c.requires.text_len_bound.1, c.requires.text_len_bound.2, omega (arith, c.requires.tables_for, same)) }
 
 pub end_attribute-requires : goal.end_attribute-requires
 end_attribute-requires c =
@@ -83,15 +81,14 @@ end_attribute-requires c =
     let ei = c.judge_name-b.ensures.1 q d n p w c.args.book.now k ed g in
     let rt = refers_to k m ei z in
     let me = is-meant c.args.text.now n p w c.args.scratch.now c.args.a g in
-    let bi = c.judge_types-k.ensures.0 in
     let ri = c.judge_types-k.ensures.1 c.args.text.now (known q.decls) (attributes_in q) w.type
     (ready c.args.text.now q c.args.st c.args.book.now _ _ _ c.args.hand.now c.requires.text_len_bound.1 k) me
     g.fair.type rt in
-    let ls = lays k m ei z bi ri y c.judge_name-b.ensures.0.base c.requires.text_len_bound.1 in
+    let ls = lays k m ei z c.judge_types-k.ensures.0 ri y c.judge_name-b.ensures.0.base c.requires.text_len_bound.1 in
     let li = c.lay_use-l.ensures (known q.decls) (attributes_in q) _ c.args.st.listing.total
     c.judge_name-b.result.target w.type ls in
     let u = c.use_at-d.ensures.by_index c.args.st.listing.count
-    (omega (arith, bi.named, c.judge_name-b.ensures.0.target)) bi.kept in
+    (omega (arith, c.judge_types-k.ensures.0.named, c.judge_name-b.ensures.0.target)) c.judge_types-k.ensures.0.kept in
     let i = name-inside c.args.text.now n p w c.args.scratch.now c.args.a g in
     let same = c.lay_use-l.auto.book in record {
       used_in_bounds = (
@@ -102,7 +99,7 @@ end_attribute-requires c =
         c.requires.text_len_bound.4,
       );
       within = (c.judge_name-b.ensures.0, omega (arith, z), k.hand, u);
-      len_bound = (omega (arith, c.requires.text_len_bound.0, i), size-solid k m ei z bi ri y c.lay_use-l.result _ li _ c.in-Whole.is);
+      len_bound = (omega (arith, c.requires.text_len_bound.0, i), size-solid k m ei z c.judge_types-k.ensures.0 ri y c.lay_use-l.result _ li _ c.in-Whole.is);
     }
 
 pub returns-in-Broken : goal.returns-in-Broken
@@ -115,16 +112,15 @@ returns-in-Broken c =
     let ei = c.judge_name-b.ensures.1 q d n p w c.args.book.now k ed g in
     let rt = refers_to k m ei z in
     let me = is-meant c.args.text.now n p w c.args.scratch.now c.args.a g in
-    let bi = c.judge_types-k.ensures.0 in
     let ri = c.judge_types-k.ensures.1 c.args.text.now (known q.decls) (attributes_in q) w.type
     (ready c.args.text.now q c.args.st c.args.book.now _ _ _ c.args.hand.now c.requires.text_len_bound.1 k) me
     g.fair.type rt in
-    let ls = lays k m ei z bi ri y c.judge_name-b.ensures.0.base c.requires.text_len_bound.1 in
+    let ls = lays k m ei z c.judge_types-k.ensures.0 ri y c.judge_name-b.ensures.0.base c.requires.text_len_bound.1 in
     let li = c.lay_use-l.ensures (known q.decls) (attributes_in q) _ c.args.st.listing.total
     c.judge_name-b.result.target w.type ls in
     judged-refused c.args.text.now q (U.attribute n p w) c.args.book.now c.args.st
     c.refused-in-Broken.result _ _ _ _ _ _ _
-    (judged-third k m ei z bi ri y c.lay_use-l.result _ li _ c.in-Broken.is) c.refused-in-Broken.ensures
+    (judged-third k m ei z c.judge_types-k.ensures.0 ri y c.lay_use-l.result _ li _ c.in-Broken.is) c.refused-in-Broken.ensures
 
 pub shape_of-tables-in-Whole : goal.shape_of-tables-in-Whole
 shape_of-tables-in-Whole c =
@@ -140,16 +136,15 @@ returns-in-Whole c =
     let ei = c.judge_name-b.ensures.1 q d n p w c.args.book.now k ed g in
     let rt = refers_to k m ei z in
     let me = is-meant c.args.text.now n p w c.args.scratch.now c.args.a g in
-    let bi = c.judge_types-k.ensures.0 in
     let ri = c.judge_types-k.ensures.1 c.args.text.now (known q.decls) (attributes_in q) w.type
     (ready c.args.text.now q c.args.st c.args.book.now _ _ _ c.args.hand.now c.requires.text_len_bound.1 k) me
     g.fair.type rt in
-    let ls = lays k m ei z bi ri y c.judge_name-b.ensures.0.base c.requires.text_len_bound.1 in
+    let ls = lays k m ei z c.judge_types-k.ensures.0 ri y c.judge_name-b.ensures.0.base c.requires.text_len_bound.1 in
     let li = c.lay_use-l.ensures (known q.decls) (attributes_in q) _ c.args.st.listing.total
     c.judge_name-b.result.target w.type ls in
     let u = c.use_at-d.ensures.v_value (known q.decls) w.type
     (or_no_attribute (entry (attributes_in q) c.judge_name-b.result.base)).use_of c.judge_name-b.result.target me
     ri.named rt ri.kept in
-    judged-end k m ei z bi ri y c.lay_use-l.result _ li _ c.in-Whole.is c.end_attribute.result _ _ _ _ _
+    judged-end k m ei z c.judge_types-k.ensures.0 ri y c.lay_use-l.result _ li _ c.in-Whole.is c.end_attribute.result _ _ _ _ _
     (c.end_attribute.ensures c.args.text.now q c.args.book.now c.args.scratch.now d n p w
-    (sym c.lay_use-l.auto.book) (passes k m ei z bi ri y c.lay_use-l.result _ li _ c.in-Whole.is c.use_at-d.result u))
+    (sym c.lay_use-l.auto.book) (passes k m ei z c.judge_types-k.ensures.0 ri y c.lay_use-l.result _ li _ c.in-Whole.is c.use_at-d.result u))

@@ -9,9 +9,8 @@ pub begun-requires : goal.begun-requires
 begun-requires c =
     let (s, n, strings, w, hs, rs, k, q) = c.requires.by_index in
     let a = small c.args.text.now s c.args.st c.args.book.now _ _ _ hs k in
-    let p = c.requires.text_len_bound.1 in
     let i = c.if-used-book.true in
-    (omega (arith, p, i), omega (arith, p, i, a.fewer), omega (arith, p, i, a.fewer, a.defined))
+    (omega (arith, c.requires.text_len_bound.1, i), omega (arith, c.requires.text_len_bound.1, i, a.fewer), omega (arith, c.requires.text_len_bound.1, i, a.fewer, a.defined))
 
 pub returns-then-used-book : goal.returns-then-used-book
 returns-then-used-book c =

@@ -2,7 +2,6 @@ use mathlib.Core.Path.{sym, ap, ◌∙◌}
 use Rattle.rules.specs.Enumerations.{fits_in}
 use Rattle.holding.specs.declared.Held.{Held}
 use Rattle.holding.proofs.HoldLaws.{by, reads-stands, inside-held}
-use borrow.Author.Rules.{rules}
 use Rattle.holding.proofs.fits.Goals as goal
 
 pub gather-g-requires : goal.gather-g-requires

@@ -4,7 +4,6 @@ use lib.ListN.{length}
 use Rattle.enumerations.specs.Lists.{written, find_from}
 use Rattle.enumerations.proofs.ListLaws.{as_written}
 use Rattle.holding.proofs.HoldLaws.{pair_found, pair-misfit, pair_fits}
-use borrow.Author.Rules.{rules}
 use Rattle.holding.proofs.held_element.Goals as goal
 
 pub returns-then-m-lt-NOWHERE : goal.returns-then-m-lt-NOWHERE

@@ -1,6 +1,5 @@
 use mathlib.Core.Path.{sym, ◌∙◌}
 use Rattle.holding.proofs.HoldLaws.{held-deeper, held-misfit, held_fits}
-use borrow.Author.Rules.{rules}
 use Rattle.holding.proofs.held_inside.Goals as goal
 
 pub returns-then-is_element : goal.returns-then-is_element

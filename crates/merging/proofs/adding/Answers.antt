@@ -2,7 +2,6 @@ use mathlib.Core.Path.{sym, ◌∙◌}
 use Rattle.enumerations.proofs.ListLaws.{as_written, element-in}
 use Rattle.merging.proofs.StepLaws.{add-known, add-barred, add-new, add-end}
 use native.Mathlib.Omega.{arith}
-use borrow.Author.Rules.{rules}
 use Rattle.merging.proofs.adding.Goals as goal
 
 pub written_name-name-requires : goal.written_name-name-requires

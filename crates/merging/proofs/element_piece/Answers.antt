@@ -1,4 +1,3 @@
-use borrow.Author.Rules.{rules}
 use Rattle.merging.proofs.element_piece.Goals as goal
 
 pub returns : goal.returns

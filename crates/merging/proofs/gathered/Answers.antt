@@ -4,7 +4,6 @@ use lib.ListN.{length}
 use native.Mathlib.Omega.{arith}
 use lib.Seq.{length-take-le}
 use Rattle.merging.proofs.TablesLaws.{both-sized, both-gathered}
-use borrow.Author.Rules.{rules}
 use Rattle.merging.proofs.gathered.Goals as goal
 
 pub slice_bounds-gather-end-2 : goal.slice_bounds-gather-end-2
@@ -20,9 +19,10 @@ gather-own-requires c =
 pub returns : goal.returns
 returns c =
     let a = c.args in
-    let f : length a.scratch.now / 2 + 4 ≤ length a.tables.now = omega (arith, c.requires.tables_for) in (
-      both-sized _ a.tables.now _ _ f c.gather-own.auto.1.1.1.0 c.gather-of_base.auto.1.1.1.0 a.text.now
-          a.b.now a.scratch.now a.base c.gather-own.ensures c.gather-of_base.ensures,
-      both-gathered _ a.tables.now _ _ f c.gather-own.auto.1.1.1.0 c.gather-of_base.auto.1.1.1.0 a.text.now
-          a.b.now a.scratch.now a.base c.gather-own.ensures c.gather-of_base.ensures,
-    )
+    let f : length a.scratch.now / 2 + 4 ≤ length a.tables.now = omega (arith, c.requires.tables_for) in
+    record {
+      sized = both-sized _ a.tables.now _ _ f c.gather-own.auto.table c.gather-of_base.auto.table a.text.now
+          a.b.now a.scratch.now a.base c.gather-own.ensures c.gather-of_base.ensures;
+      whole = both-gathered _ a.tables.now _ _ f c.gather-own.auto.table c.gather-of_base.auto.table a.text.now
+          a.b.now a.scratch.now a.base c.gather-own.ensures c.gather-of_base.ensures;
+    }

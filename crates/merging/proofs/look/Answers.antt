@@ -1,7 +1,6 @@
 use mathlib.Core.Path.{sym, ◌∙◌}
 use lib.Seq.{length-take-le}
 use Rattle.merging.proofs.StepLaws.{look-add, look-copy}
-use borrow.Author.Rules.{rules}
 use Rattle.merging.proofs.look.Goals as goal
 
 pub returns-then-p : goal.returns-then-p

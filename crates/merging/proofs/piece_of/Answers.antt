@@ -1,6 +1,5 @@
 use mathlib.Core.Path.{sym, ap, ◌∙◌}
 use Rattle.merging.specs.Steps.{piece_of}
-use borrow.Author.Rules.{rules}
 use Rattle.merging.proofs.piece_of.Goals as goal
 
 pub returns-in-Quiet : goal.returns-in-Quiet

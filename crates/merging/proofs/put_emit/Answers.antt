@@ -4,7 +4,6 @@ use lib.Seq.{length-take-le}
 use mathlib.Core.List.{List}
 use Prim.Native.Nat.{ℕ, ◌+◌}
 use Rattle.merging.proofs.StepLaws.{piece_is}
-use borrow.Author.Rules.{rules}
 use Rattle.ground.specs.Parts.{put_at}
 use Rattle.merging.proofs.put_emit.Goals as goal
 

@@ -4,11 +4,9 @@ use lib.Seq.{length-take-le}
 use borrow.Author.Tests.{not-true, not-false}
 use Rattle.merging.specs.Steps.{look_move}
 use Rattle.merging.specs.Walks.{top_of}
-use Rattle.merging.specs.Merging.{BothGathered}
-use Rattle.merging.proofs.RunLaws.{Bounded, bounded-step, SoFar, far-start, far-step, far-barred, far-done}
+use Rattle.merging.proofs.RunLaws.{bounded-step, far-start, far-step, far-barred, far-done}
 use Rattle.merging.proofs.RunLaws.{far-out}
 use native.Mathlib.Omega.{arith}
-use borrow.Author.Rules.{rules}
 use Rattle.merging.proofs.run.Goals as goal
 
 pub loop-left-init : goal.loop-left-init
@@ -72,12 +70,12 @@ loop-left-preserved c =
     let r = a.course in
     let t = c.loop-left-test.true in (
       bounded-step a.out.now r.start c.loop-left.out c.loop-left.size c.loop-left.left c.loop-left.w c.loop-left.invariant.0 t c.look-m.result.emit
-          c.put_emit-size.new.0 c.put_emit-size.result c.moved-w.result c.put_emit-size.ensures.0 c.put_emit-size.ensures.1 c.moved-w.ensures.1,
+          c.put_emit-size.new.out c.put_emit-size.result c.moved-w.result c.put_emit-size.ensures.0 c.put_emit-size.ensures.1 c.moved-w.ensures.1,
       λ G. let e : c.look-m.result ≡ look_move a.text.now (take a.n a.out.now) a.scratch.now (top_of c.loop-left.w) =
           c.look-m.ensures (rw (c.loop-left.invariant.1 G).base G) ∙ rw ((c.loop-left.invariant.1 G).base, c.top.ensures) in
           far-step a.text.now (take a.n a.out.now) a.scratch.now a.out.now a.n r.start
           r.begun r.fuel r.first c.loop-left.out c.loop-left.size c.loop-left.left c.loop-left.w (c.loop-left.invariant.1 G) t c.if-d-eq0.false c.look-m.result e
-          c.loop-left.invariant.0.same_size (not-false _ (sym c.is_barred.ensures ∙ c.if-is_barred.false)) c.put_emit-size.new.0 c.put_emit-size.result
+          c.loop-left.invariant.0.same_size (not-false _ (sym c.is_barred.ensures ∙ c.if-is_barred.false)) c.put_emit-size.new.out c.put_emit-size.result
           c.moved-w.result c.put_emit-size.ensures.0 c.put_emit-size.ensures.1 c.moved-w.ensures.0,
     )
 

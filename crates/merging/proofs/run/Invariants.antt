@@ -1,14 +1,6 @@
-use mathlib.Core.Path.{◌≡◌, refl, sym, ◌∙◌}
 use lib.ListN.{take}
-use lib.Seq.{length-take-le}
-use borrow.Author.Tests.{not-true, not-false}
-use Rattle.merging.specs.Steps.{look_move}
-use Rattle.merging.specs.Walks.{top_of}
 use Rattle.merging.specs.Merging.{BothGathered}
-use Rattle.merging.proofs.RunLaws.{Bounded, bounded-step, SoFar, far-start, far-step, far-barred, far-done}
-use Rattle.merging.proofs.RunLaws.{far-out}
-use native.Mathlib.Omega.{arith}
-use borrow.Author.Rules.{rules}
+use Rattle.merging.proofs.RunLaws.{Bounded, SoFar}
 use Rattle.merging.proofs.run.Given as goal
 
 abbrev pub invariant-loop-left : goal.invariant-loop-left

@@ -21,10 +21,9 @@ returns-then-base_decimals-decimals c =
 
 pub returns-then-magnitude_limit-p : goal.returns-then-magnitude_limit-p
 returns-then-magnitude_limit-p c =
-    let p = c.ten_to-p.ensures in
-    let k = (div-lt_iff_lt-mul (ten-range _ (omega arith) p).0).0 c.if-magnitude_limit-p.true in
+    let k = (div-lt_iff_lt-mul (ten-range _ (omega arith) c.ten_to-p.ensures).0).0 c.if-magnitude_limit-p.true in
     let e = rw (to_z-of_z c.ranges.value) at c.size.ensures in
-    is_too_great c.args.value _ _ c.requires c.if-base_decimals-decimals.false p (rw (← e) (omega arith))
+    is_too_great c.args.value _ _ c.requires c.if-base_decimals-decimals.false c.ten_to-p.ensures (rw (← e) (omega arith))
 
 pub times-requires : goal.times-requires
 times-requires c =
@@ -34,9 +33,8 @@ times-requires c =
 
 pub returns : goal.returns
 returns c =
-    let p = c.ten_to-p.ensures in
-    let k = (le-div_iff_mul-le (ten-range _ (omega arith) p).0).0 c.if-magnitude_limit-p.false in
+    let k = (le-div_iff_mul-le (ten-range _ (omega arith) c.ten_to-p.ensures).0).0 c.if-magnitude_limit-p.false in
     let e = rw (to_z-of_z c.ranges.value) at c.size.ensures in
     let w = rw (to_z-of_z c.ranges.value) at c.times.ensures in
     rw (kept c.times.result c.times.type_inv)
-    (scales c.args.value _ _ c.requires c.if-base_decimals-decimals.false p (rw (← e) (omega arith)) w)
+    (scales c.args.value _ _ c.requires c.if-base_decimals-decimals.false c.ten_to-p.ensures (rw (← e) (omega arith)) w)

@@ -11,16 +11,14 @@ read_unit-s-requires c =
 pub returns-then-is_over : goal.returns-then-is_over
 returns-then-is_over c =
     let a = c.args in
-    let R = c.requires.runs in
-    over-ends R c.read_unit-s.ensures c.in-Read.is (sym c.is_over.ensures ∙ c.if-is_over.true)
-    (c.accepted-a.ensures a.g.state R.state a.text.now a.book.now a.work.now a.hand.now refl
-    R.keeps)
+    over-ends c.requires.runs c.read_unit-s.ensures c.in-Read.is (sym c.is_over.ensures ∙ c.if-is_over.true)
+    (c.accepted-a.ensures a.g.state c.requires.runs.state a.text.now a.book.now a.work.now a.hand.now refl
+    c.requires.runs.keeps)
 
 pub judge-j-requires : goal.judge-j-requires
 judge-j-requires c =
-    let R = c.requires.runs in
-    let G = given R c.read_unit-s.ensures c.requires.loan.text_short c.in-Read.is (sym c.is_over.ensures ∙ c.if-is_over.false) in
-    let ample = c.requires.suffice.0 c.args.g.state refl (few-records R) in record { loan = loaned refl c.read_unit-s.auto.scratch refl c.requires.loan; ample = (ample, c.requires.suffice.1); kept = (R.state, G.unit, R.keeps, G.comes) }
+    let G = given c.requires.runs c.read_unit-s.ensures c.requires.loan.text_short c.in-Read.is (sym c.is_over.ensures ∙ c.if-is_over.false) in
+    let ample = c.requires.suffice.0 c.args.g.state refl (few-records c.requires.runs) in record { loan = loaned refl c.read_unit-s.auto.scratch refl c.requires.loan; ample = (ample, c.requires.suffice.1); kept = (c.requires.runs.state, G.unit, c.requires.runs.keeps, G.comes) }
 
 pub returns-in-Unread : goal.returns-in-Unread
 returns-in-Unread c =
@@ -33,6 +31,5 @@ after-requires c =
 
 pub returns-else-is_over : goal.returns-else-is_over
 returns-else-is_over c =
-    let R = c.requires.runs in
-    let G = given R c.read_unit-s.ensures c.requires.loan.text_short c.in-Read.is (sym c.is_over.ensures ∙ c.if-is_over.false) in
-    turned R G c.after.ensures (c.judge-j.ensures R.state G.unit R.keeps G.comes)
+    let G = given c.requires.runs c.read_unit-s.ensures c.requires.loan.text_short c.in-Read.is (sym c.is_over.ensures ∙ c.if-is_over.false) in
+    turned c.requires.runs G c.after.ensures (c.judge-j.ensures c.requires.runs.state G.unit c.requires.runs.keeps G.comes)

@@ -13,13 +13,12 @@ use Rattle.state.proofs.named.Goals as goal
 pub resolve-requires : goal.resolve-requires
 unfolding index_in chains_in
 resolve-requires c =
-    let p = c.requires in
     let st = c.args.st in
     let w = c.args.work.now in (
-      p.0,
-      p.1,
-      definition-rows st w p.2 st.listing.count (omega arith),
-      links st w p.2 st.listing.count (omega arith),
+      c.requires.0,
+      c.requires.1,
+      definition-rows st w c.requires.2 st.listing.count (omega arith),
+      links st w c.requires.2 st.listing.count (omega arith),
     )
 
 pub returns : goal.returns

@@ -3,7 +3,6 @@ use Prim.Native.Nat.{ℕ, ◌+◌}
 use lib.ListN.{get_or}
 use Rattle.tables.proofs.TableLaws.{cell_in, cell_out}
 use native.Mathlib.Omega.{arith}
-use borrow.Author.Rules.{rules}
 use Rattle.tables.proofs.cell.Goals as goal
 
 pub returns-then-j-g : goal.returns-then-j-g

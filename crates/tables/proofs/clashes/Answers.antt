@@ -4,7 +4,6 @@ use Rattle.book.specs.declared.Part.{Part}
 use Rattle.tables.specs.Tables.{seek_in}
 use Rattle.enumerations.proofs.ListLaws.{as_written}
 use Rattle.tables.proofs.GatherLaws.{found-old, found-new}
-use borrow.Author.Rules.{rules}
 use Rattle.tables.proofs.clashes.Goals as goal
 
 pub returns-then-seek-lt-NOWHERE : goal.returns-then-seek-lt-NOWHERE

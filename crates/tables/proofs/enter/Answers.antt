@@ -4,7 +4,6 @@ use Rattle.tables.specs.Tables.{key_of}
 use Rattle.enumerations.proofs.ListLaws.{as_written}
 use Rattle.tables.proofs.TableLaws.{filled_more}
 use native.Mathlib.Omega.{arith}
-use borrow.Author.Rules.{rules}
 use Rattle.tables.proofs.enter.Goals as goal
 
 pub bounds-table-keys-then-j-keys : goal.bounds-table-keys-then-j-keys

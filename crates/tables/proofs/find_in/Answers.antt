@@ -3,7 +3,6 @@ use Prim.Native.Nat.{◌+◌}
 use lib.ListN.{length}
 use Rattle.tables.proofs.GatherLaws.{found-hit, found-listed}
 use native.Mathlib.Omega.{arith}
-use borrow.Author.Rules.{rules}
 use Rattle.tables.proofs.find_in.Goals as goal
 
 pub returns-then-m-lt-NOWHERE : goal.returns-then-m-lt-NOWHERE

@@ -3,7 +3,6 @@ use Rattle.enumerations.proofs.ListLaws.{opening-in}
 use Rattle.enumerations.proofs.WrittenLaws.{not-stands}
 use Rattle.tables.proofs.GatherLaws.{list-past, end-within}
 use native.Mathlib.Omega.{arith}
-use borrow.Author.Rules.{rules}
 use Rattle.tables.proofs.grid_of.Goals as goal
 
 pub overflow_add-at : goal.overflow_add-at

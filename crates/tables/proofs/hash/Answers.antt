@@ -1,11 +1,10 @@
-use mathlib.Core.Path.{◌≡◌, sym, ap, ◌∙◌}
-use Prim.Native.Nat.{ℕ, ◌+◌, ◌-◌, ◌*◌, ◌%◌, ◌<◌, ◌≤◌}
+use mathlib.Core.Path.{sym, ap, ◌∙◌}
+use Prim.Native.Nat.{ℕ, ◌+◌, ◌-◌, ◌*◌, ◌%◌}
 use native.Mathlib.Nat.{add-zero, sub-zero}
 use Rattle.ground.specs.Parts.{part}
 use Rattle.tables.specs.Tables.{hash_from}
 use Rattle.tables.proofs.TableLaws.{hash-next, hash-end}
 use native.Mathlib.Omega.{arith}
-use borrow.Author.Rules.{rules}
 use Rattle.tables.proofs.hash.Goals as goal
 
 pub loop-i-init : goal.loop-i-init

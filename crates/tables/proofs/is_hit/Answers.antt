@@ -5,7 +5,6 @@ use Rattle.enumerations.specs.Lists.{same_names}
 use Rattle.enumerations.proofs.ListLaws.{as_written, element-in}
 use Rattle.tables.proofs.TableLaws.{hit-list, hit-element, hit-name}
 use native.Mathlib.Omega.{arith}
-use borrow.Author.Rules.{rules}
 use Rattle.tables.proofs.is_hit.Goals as goal
 
 pub overflow_add-g : goal.overflow_add-g

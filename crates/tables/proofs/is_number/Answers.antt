@@ -1,5 +1,4 @@
 use Rattle.tables.proofs.TableLaws.{number-none, number_of}
-use borrow.Author.Rules.{rules}
 use Rattle.tables.proofs.is_number.Goals as goal
 
 pub returns-then-m-eq0 : goal.returns-then-m-eq0

@@ -4,7 +4,6 @@ use native.Mathlib.Nat.{mod-lt}
 use borrow.Author.Tests.{leb-true}
 use Rattle.tables.proofs.TableLaws.{key_in, key-out}
 use native.Mathlib.Omega.{arith}
-use borrow.Author.Rules.{rules}
 use Rattle.tables.proofs.key_of.Goals as goal
 
 pub hash-requires : goal.hash-requires

@@ -1,10 +1,6 @@
 use mathlib.Core.Path.{sym, ◌∙◌}
-use mathlib.Core.List.{List}
-use Prim.Native.Nat.{ℕ, ◌<◌}
-use Rattle.tables.specs.Tables.{Entry, Filled}
-use Rattle.tables.proofs.TableLaws.{Behind, behind-start, behind-none, behind-hit, behind-on, behind-up}
+use Rattle.tables.proofs.TableLaws.{behind-start, behind-none, behind-hit, behind-on, behind-up}
 use native.Mathlib.Omega.{arith}
-use borrow.Author.Rules.{rules}
 use Rattle.tables.proofs.seek.Goals as goal
 
 pub key_of-k-requires : goal.key_of-k-requires

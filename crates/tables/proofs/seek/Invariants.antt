@@ -1,10 +1,7 @@
-use mathlib.Core.Path.{sym, ◌∙◌}
 use mathlib.Core.List.{List}
 use Prim.Native.Nat.{ℕ, ◌<◌}
 use Rattle.tables.specs.Tables.{Entry, Filled}
-use Rattle.tables.proofs.TableLaws.{Behind, behind-start, behind-none, behind-hit, behind-on, behind-up}
-use native.Mathlib.Omega.{arith}
-use borrow.Author.Rules.{rules}
+use Rattle.tables.proofs.TableLaws.{Behind}
 use Rattle.tables.proofs.seek.Given as goal
 
 abbrev pub invariant-loop-x : goal.invariant-loop-x

@@ -1,6 +1,5 @@
 use native.Mathlib.Omega.{arith}
 use Rattle.merging.proofs.StepLaws.{moved-go, moved-enter, moved-full, moved-leave}
-use borrow.Author.Rules.{rules}
 use Rattle.merging.proofs.Walk.moved.Goals as goal
 
 pub returns-then-d-lt8 : goal.returns-then-d-lt8

@@ -1,6 +1,5 @@
 use mathlib.Core.Path.{refl}
 use Rattle.merging.specs.Walks.{top_of}
-use borrow.Author.Rules.{rules}
 use Rattle.merging.proofs.Walk.top.Goals as goal
 
 pub returns : goal.returns

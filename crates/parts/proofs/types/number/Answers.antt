@@ -8,8 +8,7 @@ number_at-requires c =
 
 pub returns-then-y-eq-NUMBER : goal.returns-then-y-eq-NUMBER
 returns-then-y-eq-NUMBER c =
-    let l = c.length_of.ensures in
-    let e = rw l at c.number_at.ensures in
+    let e = rw c.length_of.ensures at c.number_at.ensures in
     λ z k h. number_read e.0 e.1 z k
 
 pub returns : goal.returns

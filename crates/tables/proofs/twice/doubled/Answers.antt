@@ -1,5 +1,4 @@
 use native.Mathlib.Omega.{arith}
-use borrow.Author.Rules.{rules}
 use Rattle.tables.proofs.twice.doubled.Goals as goal
 
 pub entered-requires : goal.entered-requires

@@ -1,7 +1,6 @@
 use Rattle.tables.specs.Tables.{Sized}
 use Rattle.tables.proofs.TableLaws.{none-gathered}
 use native.Mathlib.Omega.{arith}
-use borrow.Author.Rules.{rules}
 use Rattle.tables.proofs.twice.gather.Goals as goal
 
 pub entered-f-requires : goal.entered-f-requires
@@ -16,14 +15,14 @@ entered-f-requires c = (
 
 pub returns-in-At : goal.returns-in-At
 returns-in-At c =
-    let z : Sized c.grid_of-g.result c.clear.new.0 =
+    let z : Sized c.grid_of-g.result c.clear.new.table =
     record {
       some = c.grid_of-g.ensures.some;
-      fits = omega (arith, c.grid_of-g.ensures.small, c.requires.1, c.entered-f.auto.1.1.1.0, c.clear.auto.0);
+      fits = omega (arith, c.grid_of-g.ensures.small, c.requires.1, c.entered-f.auto.table, c.clear.auto.table);
     } in
     record {
       sized = z;
-      gathered = λ e u. none-gathered c.args.text.now c.args.s.now c.grid_of-g.result c.clear.new.0 z
+      gathered = λ e u. none-gathered c.args.text.now c.args.s.now c.grid_of-g.result c.clear.new.table z
           (λ i h. c.clear.ensures i (omega arith));
     }
 
@@ -33,7 +32,7 @@ returns-in-Nothing c =
       sized = record {
         some = c.grid_of-g.ensures.some;
         fits = omega
-            (arith, c.grid_of-g.ensures.small, c.requires.1, c.entered-f.auto.1.1.1.0);
+            (arith, c.grid_of-g.ensures.small, c.requires.1, c.entered-f.auto.table);
       };
       gathered = λ e u. (c.entered-f.ensures e u).1 c.in-Nothing.is;
     }
