@@ -254,10 +254,10 @@ module _ {t : List ℕ} {y n : Symbol} where
       (if-false (is_word (ascii "NUMERIC")) _ _ (is-no numeric-word c)
       (if-false (is_mark "(") _ _ (is-no (is-mark "(" (omega arith) (omega arith)) d) r))
 
-  pub type-enum : {o p : List ℕ} {u : ℕ} → y.code ≡ 40 → Reads t (enumeration (enough t) deepest) (Whole o p u) y n
+  pub type-enum : (o : List ℕ) {p : List ℕ} {u : ℕ} → y.code ≡ 40 → Reads t (enumeration (enough t) deepest) (Whole o p u) y n
       → Reads t type_of (Means o p (Enumeration u) Nothing) y n
   unfolding type_of
-  type-enum k r =
+  type-enum o k r =
       if-false (is_one_word (ascii "TEXT" ∷ ascii "MTEXT" ∷ [])) _ _ (no_text (omega arith) (omega arith))
       (if-false (is_word (ascii "NUMERIC")) _ _ (is-no numeric-word (omega arith))
       (if-true (is_mark "(") _ _ (is-yes (is-mark "(" (omega arith) (omega arith)) k)
@@ -287,7 +287,8 @@ module _ {t o : List ℕ} {y : Symbol} (based or-reference : Bool) where
   alone h k =
       if-true (λ z. based && is_mark ";" z) _ _ (λ z c. both h (is-yes semicolon k z c)) (stay none (refl, refl, tt))
 
-module _ {t o p : List ℕ} {y n : Symbol} (based or-reference : Bool) {v : Meant} {u : Optional} where
+module _ {t : List ℕ} (o : List ℕ) {p : List ℕ} {y n : Symbol} (based or-reference : Bool) {v : Meant}
+    {u : Optional} where
   pub not-alone : ((z : rules.Symbol) → Cuts t z y → (based && is_mark ";" z) ≡ false)
       → Reads t (type_by or-reference) (Means o p v u) y n
       → Reads t (mandatory_by based (type_by or-reference)) (MeansAny o p v u) y n
@@ -302,7 +303,8 @@ here_reads = record {
 mandatory-word : Test (is_word (ascii "MANDATORY")) 78
 mandatory-word = is_word_lem (ascii "MANDATORY") 78 refl
 
-module _ {t o p : List ℕ} {y n : Symbol} (based or-reference : Bool) {v : Meant} {u : Optional} where
+module _ {t : List ℕ} (o : List ℕ) {p : List ℕ} {y n : Symbol} (based or-reference : Bool) {v : Meant}
+    {u : Optional} where
   pub with-mandatory : {z : Symbol} → y.code ≡ 78 → z ≡ passed t y 78
       → Reads t (mandatory_by based (type_by or-reference)) (MeansAny o p v u) z n
       → Reads t (written based (type_by or-reference))

@@ -4,15 +4,15 @@ use borrow.Author.Rules.{rules}
 use Rattle.attribute_records.proofs.use_at.Goals as goal
 
 pub returns-in-Alone : goal.returns-in-Alone
-returns-in-Alone c = (
-  λ ks w v p e q r h. alone-use ks c.args.kept (entry ks p) w v
-      (alone-is c.args.a.written.meant c.in-Alone.is w e) h,
-  λ n a b. b,
-)
+returns-in-Alone c = record {
+  v_value = λ ks w v p e q r h. alone-use ks c.args.kept (entry ks p) w v
+      (alone-is c.args.a.written.meant c.in-Alone.is w e) h;
+  by_index = λ n a b. b;
+}
 
 pub returns : goal.returns
-returns c = (
-  λ ks w v p e q r h.
-      written-use ks p c.args.named c.args.a.written.meant c.in_default.keys2 w e q r v,
-  λ n a b. a,
-)
+returns c = record {
+  v_value = λ ks w v p e q r h.
+      written-use ks p c.args.named c.args.a.written.meant c.in_default.keys2 w e q r v;
+  by_index = λ n a b. a;
+}

@@ -10,9 +10,9 @@ returns-then-y-eq-SEMICOLON c =
 
 pub returns-then-based : goal.returns-then-based
 returns-then-based c =
-    not-alone c.args.based c.args.or_reference
+    not-alone c.args.scratch.now c.args.based c.args.or_reference
     (λ z k. fail-r c.args.based (is-no semicolon c.if-y-eq-SEMICOLON.false z k)) c.type_by.ensures
 
 pub returns : goal.returns
 returns c =
-    not-alone c.args.based c.args.or_reference (λ z k. fail-l _ c.if-based.false) c.type_by-2.ensures
+    not-alone c.args.scratch.now c.args.based c.args.or_reference (λ z k. fail-l _ c.if-based.false) c.type_by-2.ensures

@@ -13,9 +13,9 @@ after_mandatory-m-requires c =
 pub returns-then-y-eq-MANDATORY : goal.returns-then-y-eq-MANDATORY
 returns-then-y-eq-MANDATORY c =
     rw c.with_place.ensures
-    (with-mandatory c.args.based c.args.or_reference c.if-y-eq-MANDATORY.true c.expect-z.ensures c.after_mandatory-m.ensures)
+    (with-mandatory c.args.scratch.now c.args.based c.args.or_reference c.if-y-eq-MANDATORY.true c.expect-z.ensures c.after_mandatory-m.ensures)
 
 pub returns : goal.returns
 returns c =
     rw c.with_place-2.ensures
-    (not-mandatory c.args.based c.args.or_reference c.if-y-eq-MANDATORY.false c.type_by-m.ensures)
+    (not-mandatory c.args.scratch.now c.args.based c.args.or_reference c.if-y-eq-MANDATORY.false c.type_by-m.ensures)

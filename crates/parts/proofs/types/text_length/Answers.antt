@@ -10,30 +10,32 @@ whole_number-w-requires c =
 
 pub returns-then-n-gt4294967295 : goal.returns-then-n-gt4294967295
 returns-then-n-gt4294967295 c =
-    let whole = rw c.length_of.ensures at c.whole_number-w.ensures in (
-      λ m q.
+    let whole = rw c.length_of.ensures at c.whole_number-w.ensures in record {
+      reads = λ m q.
           long-length m c.if-y-eq-NUMBER.true (sym whole ∙ c.in-Count.is)
-          c.if-n-gt4294967295.true c.faulty.ensures,
-      refl,
-    )
+          c.if-n-gt4294967295.true c.faulty.ensures;
+      reference_value = refl;
+    }
 
 pub returns-in-Count : goal.returns-in-Count
 returns-in-Count c =
-    let whole = rw c.length_of.ensures at c.whole_number-w.ensures in (
-      λ m q. rw q
+    let whole = rw c.length_of.ensures at c.whole_number-w.ensures in record {
+      reads = λ m q. rw q
           (good_length m c.if-y-eq-NUMBER.true (sym whole ∙ c.in-Count.is)
-          c.if-n-gt4294967295.false c.expect.ensures),
-      refl,
-    )
+          c.if-n-gt4294967295.false c.expect.ensures);
+      reference_value = refl;
+    }
 
 pub returns-in-Other : goal.returns-in-Other
 returns-in-Other c =
-    let whole = rw c.length_of.ensures at c.whole_number-w.ensures in (
-      λ m q. no_length m (not-whole c.if-y-eq-NUMBER.true (sym whole ∙ c.in-Other.is))
-          c.no_length.ensures.0,
-      c.no_length.ensures.1,
-    )
+    let whole = rw c.length_of.ensures at c.whole_number-w.ensures in record {
+      reads = λ m q. no_length m (not-whole c.if-y-eq-NUMBER.true (sym whole ∙ c.in-Other.is))
+          c.no_length.ensures.0;
+      reference_value = c.no_length.ensures.1;
+    }
 
 pub returns : goal.returns
-returns c =
-    (λ m q. no_length m (not-number c.if-y-eq-NUMBER.false) c.no_length-2.ensures.0, c.no_length-2.ensures.1)
+returns c = record {
+  reads = λ m q. no_length m (not-number c.if-y-eq-NUMBER.false) c.no_length-2.ensures.0;
+  reference_value = c.no_length-2.ensures.1;
+}
