@@ -13,6 +13,6 @@ returns-in-Alone c = record {
 pub returns : goal.returns
 returns c = record {
   v_value = λ ks w v p e q r h.
-      written-use ks p c.args.named c.args.a.written.meant c.in_default.keys2 w e q r v;
+      written-use ks p c.args.named c.args.a.written.meant c.in_default.in_default-own.keys2 w e q r v;
   by_index = λ n a b. a;
 }

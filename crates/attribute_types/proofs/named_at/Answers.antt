@@ -11,4 +11,4 @@ returns-in-Named c = (
 
 pub returns : goal.returns
 returns c =
-    (omega arith, λ w e. at_none c.args.target w (none_named c.args.m c.in_default.keys2 w e))
+    (omega arith, λ w e. at_none c.args.target w (none_named c.args.m c.in_default.in_default-own.keys2 w e))

@@ -51,7 +51,7 @@ returns-then-has_room c =
     λ s n p b w o hs rs h l e f.
     let m = (indexed h.keeps.held).known in
     let y = c.args.st.listing.layout in
-    let v = c.enter_domain.new.1.0 in
+    let v = c.enter_domain.new.work in
     kept-domain h c.args.book.now l c.requires.text_len_bound.1 c.args.size e.sized
     (sym c.has_room.ensures ∙ c.if-has_room.true) e.laid
     c.is_mandatory-mandatory.result
@@ -60,7 +60,7 @@ returns-then-has_room c =
     c.flags-flags.result c.flags-flags.ensures.0 c.base_number-of_base.result
     (c.base_number-of_base.ensures c.args.text.now (known s.decls)
     c.args.st.listing.count c.requires.text_len_bound.2 m)
-    c.head_record-head.result c.put.new.0 (index_in y v) (chains_in y v)
+    c.head_record-head.result c.put.new.out (index_in y v) (chains_in y v)
     c.head_record-head.ensures c.put.ensures c.put.auto.out c.enter_domain.ensures.0 c.enter_domain.ensures.2
     (definition-rows c.args.st c.args.work.now c.requires.ample
     (c.args.st.listing.count + 2) (omega arith)) c.requires.text_len_bound.2 f c.declared.result

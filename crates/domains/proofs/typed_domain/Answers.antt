@@ -43,7 +43,7 @@ add_domain-requires c =
     let (s, n, p, b, w, hs, h) = c.requires.some_extending in
     let v = c.over_base-over.ensures c.args.text.now s n p b w hs c.args.scratch.now c.args.d refl
     h in
-    let q = laid h c.over_base-over.result v c.lay_written-l.new.1.0 c.lay_written-l.result c.lay_written-l.ensures in record {
+    let q = laid h c.over_base-over.result v c.lay_written-l.new.book c.lay_written-l.result c.lay_written-l.ensures in record {
       text_len_bound = (
         c.requires.loan.text_short,
         still-below c.lay_written-l.auto.book c.requires.loan.book_short,
@@ -61,7 +61,7 @@ add_domain-requires c =
         c.args.scratch.now,
         h,
         sym c.lay_written-l.auto.book,
-        (whole h c.over_base-over.result v c.lay_written-l.new.1.0 c.lay_written-l.result q _ c.in-Whole.is).0,
+        (whole h c.over_base-over.result v c.lay_written-l.new.book c.lay_written-l.result q _ c.in-Whole.is).0,
       );
     }
 
@@ -75,8 +75,8 @@ returns-in-Broken c =
     (c.is_bad_head.ensures p (domain_type w.type (target_in s w) (or_no_def (resolved s b)).type)
     (ap (λ (u : DomainUnit). u.properties) (is-unit h)) v.own) c.if-is_bad_head.false (records_of s b w)
     (c.args.st.extent.used + head_size) c.args.book.now
-    c.lay_written-l.new.1.0 c.lay_written-l.result
-    (laid h c.over_base-over.result v c.lay_written-l.new.1.0 c.lay_written-l.result c.lay_written-l.ensures)
+    c.lay_written-l.new.book c.lay_written-l.result
+    (laid h c.over_base-over.result v c.lay_written-l.new.book c.lay_written-l.result c.lay_written-l.ensures)
     _ c.in-Broken.is c.refused-in-Broken.ensures
 
 pub returns-in-Whole : goal.returns-in-Whole
@@ -86,18 +86,18 @@ returns-in-Whole c =
     let l = c.args.st.listing.layout in
     let v = c.over_base-over.ensures c.args.text.now s n p b w hs c.args.scratch.now c.args.d refl
     h in
-    let q = laid h c.over_base-over.result v c.lay_written-l.new.1.0 c.lay_written-l.result c.lay_written-l.ensures in
-    let g = whole h c.over_base-over.result v c.lay_written-l.new.1.0 c.lay_written-l.result q _ c.in-Whole.is in
+    let q = laid h c.over_base-over.result v c.lay_written-l.new.book c.lay_written-l.result c.lay_written-l.ensures in
+    let g = whole h c.over_base-over.result v c.lay_written-l.new.book c.lay_written-l.result q _ c.in-Whole.is in
     let f = fine-type c.args.text.now n p w (resolved s b) (target_in s w) (declared_in s n p b w)
-    (lent (length c.args.book.now)) c.args.st c.add_domain.result c.add_domain.new.1.0
-    (index_in l c.add_domain.new.1.1.0)
-    (chains_in l c.add_domain.new.1.1.0) (rows_in l c.add_domain.new.1.1.0) hs c.is_bad_head.result
+    (lent (length c.args.book.now)) c.args.st c.add_domain.result c.add_domain.new.book
+    (index_in l c.add_domain.new.work)
+    (chains_in l c.add_domain.new.work) (rows_in l c.add_domain.new.work) hs c.is_bad_head.result
     (c.is_bad_head.ensures p (domain_type w.type (target_in s w) (or_no_def (resolved s b)).type)
     (ap (λ (u : DomainUnit). u.properties) (is-unit h)) v.own) c.if-is_bad_head.false (records_of s b w)
     (c.args.st.extent.used + head_size) c.args.book.now
-    c.lay_written-l.new.1.0 c.lay_written-l.result q _ c.in-Whole.is in
+    c.lay_written-l.new.book c.lay_written-l.result q _ c.in-Whole.is in
     subst (λ (j : J.Judged). Answered c.args.text.now
     (room (lent (length c.args.book.now)) n.offset j) c.args.st
-    c.add_domain.result c.add_domain.new.1.0 c.add_domain.new.1.1.0 hs)
+    c.add_domain.result c.add_domain.new.book c.add_domain.new.work hs)
     (sym f) (c.add_domain.ensures s n p b w c.args.book.now hs c.args.scratch.now h
     (sym c.lay_written-l.auto.book) (record { sized = g.0; laid = g.1 }) (next-fair h f))

@@ -21,10 +21,10 @@ run-a-requires c =
 pub finish-requires : goal.finish-requires
 finish-requires c =
     let m = c.least-m.result in
-    ended-fits c.args.text.now (length (take m c.args.book.now)) c.run-a.result c.run-a.new.1.0
+    ended-fits c.args.text.now (length (take m c.args.book.now)) c.run-a.result c.run-a.new.book
     (drop m c.args.book.now) c.run-a.ensures
 
 pub returns : goal.returns
 returns c =
-    tried c.args.text.now c.args.book.now c.run-a.new.1.0 _ c.least-m.result c.args.most c.run-a.result
+    tried c.args.text.now c.args.book.now c.run-a.new.book _ c.least-m.result c.args.most c.run-a.result
     c.least-m.ensures.0 c.requires.loan.book_short c.run-a.auto.book c.run-a.ensures c.finish.ensures

@@ -12,4 +12,4 @@ returns-in-Named c =
 
 pub returns : goal.returns
 returns c =
-    λ w d h e. stands_unit c.args.m w h c.args.sort d e c.in_default.keys2
+    λ w d h e. stands_unit c.args.m w h c.args.sort d e c.in_default.in_default-own.keys2

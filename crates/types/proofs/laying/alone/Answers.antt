@@ -9,7 +9,7 @@ use Rattle.types.proofs.laying.alone.Goals as goal
 pub returns-then-is_enumeration : goal.returns-then-is_enumeration
 returns-then-is_enumeration c =
     let args = c.args in
-    λ t b v u. again-type (λ l. LaidAs true l args.at args.out.now c.again.new.0 c.again.result) t
+    λ t b v u. again-type (λ l. LaidAs true l args.at args.out.now c.again.new.out c.again.result) t
     (take args.used args.out.now) b args.own args.base (sym c.is_enumeration.ensures ∙ c.if-is_enumeration.true) v u
     (λ e k. c.again.ensures t e (rw c.place_of.ensures k))
 
