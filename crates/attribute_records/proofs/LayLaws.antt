@@ -190,7 +190,9 @@ module _ (t b : List ℕ) (ks : List Def) (ms : List Attribute) (x : List ℕ) (
       let (f, q, k) = def-there t b ks ms x count y total r.held u w z in
       let i : naming f ≡ v = sym (ap (λ (o : Option Def). use_for o (ty_of v)) q) ∙ eu in
       let h : kind_of (ty_of (naming d)) ≡ kind_of (ty_of (naming f)) = hk ∙ ap (λ (j : Use). kind_of (ty_of j)) (sym i) in
-      let m : a ≡ is_among f.number (link_of d ∷ d.bases) = ea ∙ rw (e, en t f k.says) in
+      let m : a ≡ is_among f.number (link_of d ∷ d.bases) =
+          ea ∙ ap (λ (o : Option Def). is_among n (bases_of o)) e
+          ∙ ap (λ (j : ℕ). is_among j (link_of d ∷ d.bases)) (en t f k.says) in
       m ∙ descends-both t d f (r.types p d e) (r.types u f q) h ∙ ap (descends (naming d)) i
 
 -- ---- 16 to 18 and 22 of what is named

@@ -1,5 +1,6 @@
 use Rattle.names.specs.Index.{entry}
 use Rattle.attribute_records.proofs.LayLaws.{alone-is, alone-use, written-use}
+use borrow.Enum.Refused.{opened}
 use borrow.Author.Rules.{rules}
 use Rattle.attribute_records.proofs.use_at.Goals as goal
 
@@ -13,6 +14,6 @@ returns-in-Alone c = record {
 pub returns : goal.returns
 returns c = record {
   v_value = λ ks w v p e q r h.
-      written-use ks p c.args.named c.args.a.written.meant c.in_default.in_default-own.keys2 w e q r v;
+      written-use ks p c.args.named c.args.a.written.meant (opened c.in_default.in_default-own.keys2) w e q r v;
   by_index = λ n a b. a;
 }

@@ -1,5 +1,6 @@
 use native.Mathlib.Omega.{arith}
 use Rattle.attribute_types.proofs.UseLaws.{named-is, none_named, at_target, at_none}
+use borrow.Enum.Refused.{opened}
 use borrow.Author.Rules.{rules}
 use Rattle.attribute_types.proofs.named_at.Goals as goal
 
@@ -11,4 +12,4 @@ returns-in-Named c = (
 
 pub returns : goal.returns
 returns c =
-    (omega arith, λ w e. at_none c.args.target w (none_named c.args.m c.in_default.in_default-own.keys2 w e))
+    (omega arith, λ w e. at_none c.args.target w (none_named c.args.m (opened c.in_default.in_default-own.keys2) w e))

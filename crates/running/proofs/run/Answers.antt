@@ -51,23 +51,23 @@ shape_of-tables-in-End c =
 
 pub returns-in-End : goal.returns-in-End
 returns-in-End c =
-    end-turn _ _ _ _ _ _ _ _ _ c.loop-a.invariant.0 c.in-End.is c.step-t.ensures
+    end-turn _ _ _ c.loop-a.stage _ _ _ _ _ c.loop-a.invariant.0 c.in-End.is c.step-t.ensures
 
 pub loop-a-smaller : goal.loop-a-smaller
 loop-a-smaller c =
-    let (R, p, q, e) = on-turn _ _ _ _ _ _ _ _ _ c.loop-a.invariant.0 c.in-On.is c.step-t.ensures in
+    let (R, p, q, e) = on-turn _ _ _ c.loop-a.stage _ _ _ _ _ c.loop-a.invariant.0 c.in-On.is c.step-t.ensures in
     omega (arith, p, q)
 
 pub loop-a-preserved : goal.loop-a-preserved
 loop-a-preserved c =
     let i = c.loop-a.invariant in
     let k = c.step-t.auto in
-    let (R, p, q, e) = on-turn _ _ _ _ _ _ _ _ _ i.0 c.in-On.is c.step-t.ensures in (
-      k.1.0 ∙ i.0,
-      k.1.1.0 ∙ i.1,
-      k.1.1.1.0 ∙ i.2,
-      k.1.1.1.1.0 ∙ i.3,
-      k.1.1.1.1.1.0 ∙ i.4,
+    let (R, p, q, e) = on-turn _ _ _ c.loop-a.stage _ _ _ _ _ i.0 c.in-On.is c.step-t.ensures in (
+      k.book ∙ i.0,
+      k.work ∙ i.1,
+      k.hand ∙ i.2,
+      k.scratch ∙ i.3,
+      k.tables ∙ i.4,
       suffices refl refl e i.5,
       R,
     )

@@ -1,4 +1,5 @@
 use Rattle.state.proofs.TargetLaws.{stands-domain, stands-structure, stands_unit}
+use borrow.Enum.Refused.{opened}
 use borrow.Author.Rules.{rules}
 use Rattle.state.proofs.may_stand_in.Goals as goal
 
@@ -12,4 +13,4 @@ returns-in-Named c =
 
 pub returns : goal.returns
 returns c =
-    λ w d h e. stands_unit c.args.m w h c.args.sort d e c.in_default.in_default-own.keys2
+    λ w d h e. stands_unit c.args.m w h c.args.sort d e (opened c.in_default.in_default-own.keys2)
