@@ -11,7 +11,8 @@ use Rattle.rules.specs.Names as R
 use Rattle.rules.specs.Grammar as G
 use Rattle.rules.specs.Grammar.{Reference, WrittenType}
 use Rattle.rules.specs.Enumerations.{twice}
-use Rattle.rules.specs.Declarations.{Sort, Attribute, Def, attributes_of, attribute_at, is_found, name_count, State, known}
+use Rattle.rules.specs.Declarations.{Sort, Attribute, Def, attributes_of, attribute_at, is_found, name_count, State}
+use Rattle.rules.specs.Declarations.{known}
 use Rattle.rules.specs.Judge as J
 use Rattle.rules.specs.Judge.{Rule, rule, has_extended, reference_in, resolved, element_rule, may_stand_in, place_of}
 use Rattle.rules.proofs.Tests.{not-fails, or-fails}

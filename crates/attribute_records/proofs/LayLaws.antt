@@ -16,10 +16,12 @@ use Rattle.rules.specs.Grammar as G
 use Rattle.rules.specs.Grammar.{WrittenType}
 use Rattle.rules.specs.Types as T
 use Rattle.rules.specs.Types.{Ty, kind_of, fits, keeps_unit}
-use Rattle.rules.specs.Declarations.{Use, inline, of_domain, of_structure, ty_of, link_of, Attribute, Def, is_sort, domain}
+use Rattle.rules.specs.Declarations.{Use, inline, of_domain, of_structure, ty_of, link_of, Attribute, Def, is_sort}
+use Rattle.rules.specs.Declarations.{domain}
 use Rattle.rules.specs.Declarations.{is_found, sort_number}
 use Rattle.rules.specs.Book.{Record, low_first, bytes, type_records, use_records}
-use Rattle.rules.specs.Judge.{attribute_use, Rule, rule, kind_rule, or_no_attribute, naming, bases_of, is_among, descends}
+use Rattle.rules.specs.Judge.{attribute_use, Rule, rule, kind_rule, or_no_attribute, naming, bases_of, is_among}
+use Rattle.rules.specs.Judge.{descends}
 use Rattle.rules.specs.Judge.{is_naming, domain_type, type_rules, may_type}
 use Rattle.book.specs.Forms.{length_form}
 use Rattle.book.specs.Sizes.{length_size}
@@ -189,10 +191,11 @@ module _ (t b : List ℕ) (ks : List Def) (ms : List Attribute) (x : List ℕ) (
   descends-named n en a ea =
       let (f, q, k) = def-there t b ks ms x count y total r.held u w z in
       let i : naming f ≡ v = sym (ap (λ (o : Option Def). use_for o (ty_of v)) q) ∙ eu in
-      let h : kind_of (ty_of (naming d)) ≡ kind_of (ty_of (naming f)) = hk ∙ ap (λ (j : Use). kind_of (ty_of j)) (sym i) in
+      let h : kind_of (ty_of (naming d))
+      ≡ kind_of (ty_of (naming f)) = hk ∙ ap (λ (j : Use). kind_of (ty_of j)) (sym i) in
       let m : a ≡ is_among f.number (link_of d ∷ d.bases) =
-          ea ∙ ap (λ (o : Option Def). is_among n (bases_of o)) e
-          ∙ ap (λ (j : ℕ). is_among j (link_of d ∷ d.bases)) (en t f k.says) in
+      ea ∙ ap (λ (o : Option Def). is_among n (bases_of o)) e
+      ∙ ap (λ (j : ℕ). is_among j (link_of d ∷ d.bases)) (en t f k.says) in
       m ∙ descends-both t d f (r.types p d e) (r.types u f q) h ∙ ap (descends (naming d)) i
 
 -- ---- 16 to 18 and 22 of what is named
@@ -257,7 +260,8 @@ module _ (p : ℕ) (v : Option WrittenType) (d : Def) (o : Option Attribute) (e 
       rw (rule-is, named-type v d (or_no_attribute o).use_of e) (laid-whole q (use_records (naming d)) i out out₁ r h k)
 
 -- what is kept of the base with MANDATORY alone breaks nothing
-unbroken : (p : ℕ) (f : Bool) (t : List ℕ) (b : Use) → FairOrNone t (ty_of b) → ruling_of (use_rules p f none b b) ≡ fair
+unbroken : (p : ℕ) (f : Bool) (t : List ℕ) (b : Use) → FairOrNone t (ty_of b)
+    → ruling_of (use_rules p f none b b) ≡ fair
 unbroken p false t b h = refl
 unbroken p true t b h =
     rw (
@@ -280,7 +284,8 @@ last-rules p true x y = refl
 last-rules p false x y = refl
 
 in-place-rules : (p : ℕ) (f : Bool) (v : Option WrittenType) (g : Option Def) (u b : Use) → is_naming v ≡ false
-    → ty_of u ≡ domain_type v g (ty_of b) → ruling_of (use_rules p f v u b) ≡ ruling_of (written_rules f p v g (ty_of b))
+    → ty_of u ≡ domain_type v g (ty_of b)
+    → ruling_of (use_rules p f v u b) ≡ ruling_of (written_rules f p v g (ty_of b))
 in-place-rules p f v g u b e h =
     rw (e, h) (rules-on (type_rules f p v) _ _ (last-rules p f (domain_type v g (ty_of b)) (ty_of b)))
 

@@ -36,7 +36,8 @@ pub record Lays (t b : List ℕ) (ks : List Def) (ms : List Attribute) (x : List
   pub refers : Refers v (entry ks target)
   pub names : named ≡ cond (is_naming v) target 0
   pub alone : v ≡ none → is_found (entry ms base) ≡ true
-  pub used : use_for (entry ks u) (ty_of (or_no_attribute (entry ms base)).use_of) ≡ (or_no_attribute (entry ms base)).use_of
+  pub used : use_for (entry ks u) (ty_of (or_no_attribute (entry ms base)).use_of)
+      ≡ (or_no_attribute (entry ms base)).use_of
   pub typed : Typed t b (ty_of (or_no_attribute (entry ms base)).use_of) over.base
   pub valued : Valued (ty_of (attribute_use v (entry ks target) (or_no_attribute (entry ms base)).use_of)) over.own
   pub typed_named : 0 < named

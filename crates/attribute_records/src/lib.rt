@@ -40,7 +40,8 @@ fn is_descendant(index: &[u16], count: usize, named: usize, u: usize) -> bool
     requires { (named ≤ count) × (u ≤ count) × Rows index.now count }
     ensures { (t b : List ℕ) (ks : List Def) (ms : List Attribute) (y : List ℕ) (total : ℕ) (d : Def) (v : Use)
         → Ready t b ks ms index.now count y total → entry ks named ≡ some d
-        → use_for (entry ks u) (ty_of v) ≡ v → kind_of (ty_of (naming d)) ≡ kind_of (ty_of v) → result ≡ descends (naming d) v }
+        → use_for (entry ks u) (ty_of v) ≡ v → kind_of (ty_of (naming d)) ≡ kind_of (ty_of v)
+        → result ≡ descends (naming d) v }
 {
     if u == 0 {
         return false;
@@ -151,7 +152,8 @@ pub fn lay_use(
 ) -> Laying
     requires sized { Sized u.over.own × Sized u.over.base × (u.named ≤ st.listing.count)
         × (u.kept ≤ st.listing.count) × Ample st (length work.now) }
-    requires used_in_bounds { (st.extent.used ≤ length book.old) × (length book.old ≤ 65535) × (length scratch.now ≤ 262144)
+    requires used_in_bounds { (st.extent.used ≤ length book.old) × (length book.old ≤ 65535)
+        × (length scratch.now ≤ 262144)
         × TablesFor (length scratch.now) (length book.old) (length tables.old) }
     ensures { (ks : List Def) (ms : List Attribute) (y : List ℕ) (total target : ℕ) (v : Option WrittenType)
         → Lays text.now (take st.extent.used book.old) ks ms

@@ -20,7 +20,8 @@ use Rattle.wellformed.proofs.TypeLaws.{sort-domain}
 use Rattle.rules.specs.Grammar as G
 use Rattle.rules.specs.Grammar.{WrittenType}
 use Rattle.rules.specs.Types.{Ty, unit_of}
-use Rattle.rules.specs.Declarations.{Use, inline, of_domain, of_structure, ty_of, link_of, Attribute, Def, Sort, is_sort}
+use Rattle.rules.specs.Declarations.{Use, inline, of_domain, of_structure, ty_of, link_of, Attribute, Def, Sort}
+use Rattle.rules.specs.Declarations.{is_sort}
 use Rattle.rules.specs.Declarations as D
 use Rattle.rules.specs.Declarations.{sort_number, domain, unit, State, known}
 use Rattle.rules.specs.Book.{Record, flags, number_or, head_record, def_record, type_records, use_records, records}

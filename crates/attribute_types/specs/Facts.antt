@@ -48,6 +48,7 @@ pub record TypingsAre (t b : List ℕ) (ks : List Def) (p : ℕ) (twice : Bool) 
   pub typed_named : 0 < r.uses.named
       → Typed t b (ty_of (attribute_use w (entry ks target) (or_no_attribute o).use_of)) r.uses.over.own
   pub keeps : is_naming w ≡ false → r.uses.over.keeps
-      ≡ keeps_unit (ty_of (attribute_use w (entry ks target) (or_no_attribute o).use_of)) (ty_of (or_no_attribute o).use_of)
+      ≡ keeps_unit (ty_of (attribute_use w (entry ks target) (or_no_attribute o).use_of))
+      (ty_of (or_no_attribute o).use_of)
   pub sized_own : Sized r.uses.over.own
   pub sized_base : Sized r.uses.over.base

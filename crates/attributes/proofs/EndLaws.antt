@@ -11,9 +11,11 @@ use lib.Dec.{leb}
 use borrow.Author.Tests.{leb-true, leb-false}
 use Rattle.rules.specs.Names as R
 use Rattle.rules.specs.Grammar as G
-use Rattle.rules.specs.Declarations.{Use, Attribute, Def, attributes_of, attribute_at, is_found, name_count, State, known}
+use Rattle.rules.specs.Declarations.{Use, Attribute, Def, attributes_of, attribute_at, is_found, name_count, State}
+use Rattle.rules.specs.Declarations.{known}
 use Rattle.rules.specs.Book.{bytes, flags, number_or, head_record, use_records, attribute_records, records, book}
-use Rattle.rules.specs.Judge.{ok, base_of_attribute, has_extended, reference_in, resolved, new_attribute, with_attribute}
+use Rattle.rules.specs.Judge.{ok, base_of_attribute, has_extended, reference_in, resolved, new_attribute}
+use Rattle.rules.specs.Judge.{with_attribute}
 use Rattle.rules.specs.Judge.{opened}
 use Rattle.rules.specs.Check.{lent, room}
 use Rattle.ground.specs.Parts.{splice}

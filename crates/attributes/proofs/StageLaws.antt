@@ -9,8 +9,10 @@ use Rattle.rules.specs.Names as R
 use Rattle.rules.specs.Grammar as G
 use Rattle.rules.specs.Units as U
 use Rattle.rules.specs.Declarations.{ty_of, Attribute, Def, attribute_at, is_found, State}
-use Rattle.rules.specs.Judge.{Rule, Judged, ok, refused, first_broken_or, judge, member_rules, after_member, attribute_rules}
-use Rattle.rules.specs.Judge.{attribute_to_16, attribute_from_17, new_attribute, or_no_attribute, has_extended, has_twice}
+use Rattle.rules.specs.Judge.{Rule, Judged, ok, refused, first_broken_or, judge, member_rules, after_member}
+use Rattle.rules.specs.Judge.{attribute_rules}
+use Rattle.rules.specs.Judge.{attribute_to_16, attribute_from_17, new_attribute, or_no_attribute, has_extended}
+use Rattle.rules.specs.Judge.{has_twice}
 use Rattle.rules.specs.Judge.{reference_in, is_naming, resolved, element_rule, type_rules, kind_rule}
 use Rattle.ground.specs.Rulings.{ruling_of, judged_by}
 use Rattle.ground.specs.declared.Ruling.{Ruling}

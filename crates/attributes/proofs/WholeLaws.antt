@@ -79,7 +79,8 @@ module _ {t : List ℕ} {s : State} {st : code.State} {o x z y hs : List ℕ} {n
   target· = resolved s (reference_in w.type)
 
   stages : judge s (U.attribute n p w) ≡ judged_by (ruling_of (to-11 s c· n p w))
-      (judged_by (ruling_of (to-13 s c· n p w)) (judged_by (ruling_of (to-22 s c· n p w)) (ok (after_attribute s c· n p w))))
+      (judged_by (ruling_of (to-13 s c· n p w))
+      (judged_by (ruling_of (to-22 s c· n p w)) (ok (after_attribute s c· n p w))))
   stages = judged-in-stages s c· n p w class-is.1
 
   module _ {e : Bonds} (ei : BondsAre s class-is.0 n (has_extended p) w.type hs st.context.in_hand e) where
@@ -147,7 +148,8 @@ module _ {t : List ℕ} {s : State} {st : code.State} {o x z y hs : List ℕ} {n
             → judge s (U.attribute n p w) ≡ refused r.ruling.number r.ruling.place
         judged-second h2 =
             past_first
-            ∙ ap (λ (q : Ruling). judged_by q (judged_by (ruling_of (to-22 s c· n p w)) (ok (after_attribute s c· n p w))))
+            ∙ ap
+            (λ (q : Ruling). judged_by q (judged_by (ruling_of (to-22 s c· n p w)) (ok (after_attribute s c· n p w))))
             (sym to-13-are) ∙ stage-broken r.ruling _ h2
 
         module _ (h2 : r.ruling.number ≤ 0) where

@@ -5,7 +5,8 @@ use Rattle.rules.specs.Names as R
 use Rattle.rules.specs.Grammar as G
 use Rattle.rules.specs.Declarations.{Use, ty_of, Attribute, Def, attribute_at, State, known}
 use Rattle.rules.specs.Book.{bytes, flags, use_records}
-use Rattle.rules.specs.Judge.{attribute_use, has_final, has_extended, or_no_def, or_no_attribute, reference_in, resolved}
+use Rattle.rules.specs.Judge.{attribute_use, has_final, has_extended, or_no_def, or_no_attribute, reference_in}
+use Rattle.rules.specs.Judge.{resolved}
 use Rattle.rules.specs.Judge.{new_attribute, with_attribute, opened}
 use Rattle.ground.specs.Parts.{splice}
 use Rattle.book.specs.Sizes.{head_size}
@@ -37,7 +38,8 @@ after_attribute s c n p w = opened s (with_attribute c
 -- its flags in the book
 abbrev pub flags_in : List (List ℕ) → G.Written → Option Def → Option Attribute → ℕ
 flags_in p w g o =
-    flags false (has_final p) (has_extended p) (w.mandatory || ((or_no_def g).mandatory || (or_no_attribute o).mandatory))
+    flags false (has_final p) (has_extended p)
+    (w.mandatory || ((or_no_def g).mandatory || (or_no_attribute o).mandatory))
 
 -- an attribute that breaks none of 4 to 18 and 22, whose records but the head stand in the buffer b₁, which was b, if
 -- they fit it; used is the position of the definition that it then names

@@ -9,7 +9,8 @@ use Rattle.rules.specs.Names.{Name}
 use Rattle.rules.specs.Numbers.{Range}
 use Rattle.rules.specs.Types.{Measure, text}
 use Rattle.rules.specs.Declarations.{Link, of_domain, of_structure}
-use Rattle.rules.specs.Book.{name_record, head_record, length_or, number_record, unit_records, type_records, use_records}
+use Rattle.rules.specs.Book.{name_record, head_record, length_or, number_record, unit_records, type_records}
+use Rattle.rules.specs.Book.{use_records}
 use Rattle.book.specs.Forms.{name_form, head_form, range_form, length_form}
 
 pub name-form : (k : ℕ) (n : Name) → name_record k n ≡ name_form k n.offset (length n.bytes)

@@ -11,7 +11,8 @@ use Rattle.rules.specs.Enumerations.{Enum, end}
 use Rattle.rules.specs.Types.{Measure, text}
 use Rattle.rules.specs.Declarations as D
 use Rattle.rules.specs.Declarations.{Link, of_domain, of_structure}
-use Rattle.rules.specs.Book.{name_record, head_record, open_record, element_records, number_record, unit_records, type_records}
+use Rattle.rules.specs.Book.{name_record, head_record, open_record, element_records, number_record, unit_records}
+use Rattle.rules.specs.Book.{type_records}
 use Rattle.rules.specs.Book.{use_records, end_records}
 use Rattle.rules.specs.Book.{decl_records, bytes}
 use Rattle.rules.specs.Show.{sizes}

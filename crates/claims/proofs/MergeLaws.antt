@@ -5,7 +5,7 @@ use Rattle.claims.specs.Merging.{AllMerged, DistinctFound}
 
 pub all-merged : AllMerged
 all-merged b x = record {
-  in_order_lem = names-merge b b x;
+  in_order = names-merge b b x;
   shared = at-shared b x;
   unwritten = at-unwritten b x;
   new = at-merge-none b x;

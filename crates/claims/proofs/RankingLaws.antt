@@ -240,7 +240,7 @@ units-ranked g s u =
     let j = judged-rules g s u in
     record {
       judges = j;
-      in_order_lem = h;
+      stand_in_order = h;
       of_some_order = o;
       passed = λ x. (
         λ q. passed_none (all_rules g s u) (next_state s u) x (sym j ∙ q),

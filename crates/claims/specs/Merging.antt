@@ -9,7 +9,7 @@ use Rattle.rules.specs.Merged.{names, new_names, distinct, adds_nothing}
 -- of what is merged there
 pub record Merged (b x : Enum) : Type 0 where
   -- the base's names where they stood, then the new ones in text order
-  pub in_order_lem : names (merge b x) ≡ (names b ++ new_names b x)
+  pub in_order : names (merge b x) ≡ (names b ++ new_names b x)
   -- inside a shared element both are merged; an element that is not written, and one that is new, stay as they are;
   -- nothing else is there
   pub shared : (n : List ℕ) (i j : Enum) → at n b ≡ some i → at n x ≡ some j → at n (merge b x) ≡ some (merge i j)

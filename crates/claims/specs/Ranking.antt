@@ -75,7 +75,7 @@ NoneBefore n p l = (r : Rule) → In r l → r.number ≡ n → r.broken ≡ tru
 -- ---- every unit, in every state
 pub record UnitRanked (g : Given) (s : State) (u : U.Unit) : Type 0 where
   pub judges : judged g s (some u) ≡ first_broken_or (all_rules g s u) (next_state s u)
-  pub in_order_lem : in_order (all_rules g s u) ≡ true
+  pub stand_in_order : in_order (all_rules g s u) ≡ true
   pub of_some_order : of_order (all_rules g s u) ≡ true
   -- it leads on exactly where no rule is broken, and is refused exactly as the document says
   pub passed : (x : State) → (judged g s (some u) ≡ ok x) ↔ (All Unbroken (all_rules g s u) × (next_state s u ≡ x))

@@ -17,7 +17,8 @@ use Rattle.rules.specs.Declarations.{name_count, def}
 use Rattle.rules.specs.Book.{bytes, flags, base_number, head_records, decl_records, book}
 use Rattle.rules.specs.Judge as J
 use Rattle.rules.specs.Units.{class_sort}
-use Rattle.rules.specs.Judge.{Rule, ok, refused, rule, first_broken_or, judge, has_twice, has_abstract, has_final, or_no_def}
+use Rattle.rules.specs.Judge.{Rule, ok, refused, rule, first_broken_or, judge, has_twice, has_abstract, has_final}
+use Rattle.rules.specs.Judge.{or_no_def}
 use Rattle.rules.specs.Judge.{bases_of, resolved, extends_rules, class_rules, new_class, declare, opened, next_state}
 use Rattle.rules.specs.Check.{unit_place, lent, room}
 use Rattle.ground.specs.Parts.{splice}
@@ -195,7 +196,8 @@ unit-formed = record { one = λ d w. refl; heads = λ d w. refl }
 
 -- the base of a class has few attributes
 few-base : (t b : List ℕ) (ks : List Def) (ms : List Attribute) (x : List ℕ) (count : ℕ) (y : List ℕ) (total : ℕ) → Held
-    t b ks ms x count y total → (p : ℕ) (o : Option Def) → entry ks p ≡ o → name_count (attributes_of (or_no_def o)) ≤ most
+    t b ks ms x count y total → (p : ℕ) (o : Option Def) → entry ks p ≡ o
+    → name_count (attributes_of (or_no_def o)) ≤ most
 few-base t b ks ms x count y total h p none e = omega arith
 few-base t b ks ms x count y total h p (some d) e = (h.def_rows p d e).owns.few
 

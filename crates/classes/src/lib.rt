@@ -90,7 +90,8 @@ fn ruling_to_13(text: &[u8], work: &[u16], st: State, head: Head) -> Extension
 // The record and the row of a class or unit over the base at a position.
 fn write_head(book: &mut [u8], work: &mut [u16], st: State, head: Head, base: usize)
     requires len_bound { (head.name.offset + head.name.len ≤ 65535) × (length book.old ≤ 65535) }
-    requires head_size_in_bounds { (st.extent.used + head_size ≤ length book.old) × Small st × Ample st (length work.old) }
+    requires head_size_in_bounds { (st.extent.used + head_size ≤ length book.old) × Small st
+        × Ample st (length work.old) }
     requires base_le_count { (base ≤ st.listing.count) × (head.sort ≤ 4) }
     ensures { (index_in st.listing.layout work.new
         ≡ splice (index_in st.listing.layout work.old) ((st.listing.count + 1) * definition_width)
@@ -192,7 +193,8 @@ fn open_class(
     base: usize,
 ) -> State
     requires inside { Inside text.now head.name × (length text.now ≤ 65535) × (length book.old ≤ 65535) }
-    requires head_size_in_bounds { (st.extent.used + head_size ≤ length book.old) × Small st × Ample st (length work.old) }
+    requires head_size_in_bounds { (st.extent.used + head_size ≤ length book.old) × Small st
+        × Ample st (length work.old) }
     requires hand { Hand hand.old × (st.context.in_hand ≤ most) × (base ≤ st.listing.count) × (head.sort ≤ 4) }
     ensures { (result ≡ opened_by st result.context.in_hand)
         × ((s : D.State) (k : Bool) (n : R.Name) (p : List (List ℕ)) (b : Option G.Reference)
@@ -248,7 +250,8 @@ fn declare_unit(
     base: usize,
 ) -> State
     requires inside { Inside text.now head.name × (length text.now ≤ 65535) × (length book.old ≤ 65535) }
-    requires head_size_in_bounds { (st.extent.used + head_size ≤ length book.old) × Small st × Ample st (length work.old) }
+    requires head_size_in_bounds { (st.extent.used + head_size ≤ length book.old) × Small st
+        × Ample st (length work.old) }
     requires base_le_count { (base ≤ st.listing.count) × (head.sort ≤ 4) }
     ensures { (result ≡ declared_by st head_size 1 0)
         × ((s : D.State) (n : R.Name) (p : List (List ℕ)) (b : Option G.Reference) (hs : List ℕ)

@@ -16,7 +16,8 @@ use Rattle.rules.specs.Names.{Name}
 use Rattle.rules.specs.Grammar.{Reference, WrittenType, Written}
 use Rattle.rules.specs.Units as U
 use Rattle.rules.specs.Types.{Ty, structure, unit_of, keeps_unit}
-use Rattle.rules.specs.Declarations.{Sort, domain, Def, Attribute, State, attributes_of, is_found, is_sort, at_hand, known}
+use Rattle.rules.specs.Declarations.{Sort, domain, Def, Attribute, State, attributes_of, is_found, is_sort, at_hand}
+use Rattle.rules.specs.Declarations.{known}
 use Rattle.rules.specs.Declarations.{measure_in}
 use Rattle.rules.specs.Book.{Record, bytes, records, flags, type_records, def_record}
 use Rattle.rules.specs.Judge as J
@@ -490,7 +491,8 @@ module _ {t : List ℕ} {s : State} {st : code.State} {n : Name} {p : List
         let q = g w.type (target_in s w) kind (ap (λ (u : DomainUnit). u.written.meant) unit) h.comes.fair.3
         (rw i h.comes.fair.2.begins) (unit-scratch h.comes) (once h) (a-base h).fair
         (λ f. unbased (resolved s b) (v.based ∙ f)) v.own v.of_base v.keeps in
-        subst (λ (u : Bool). LaidWhen (ltb 0 (ruling_of (from-14· u)).number) (ruling_of (from-14· u)) (type_records own)
+        subst
+        (λ (u : Bool). LaidWhen (ltb 0 (ruling_of (from-14· u)).number) (ruling_of (from-14· u)) (type_records own)
         (st.extent.used + head_size) o o₂ a) (sym v.based) (rw i at q)
 
     -- where no rule is broken

@@ -6,7 +6,8 @@ use Rattle.rules.specs.Grammar.{Reference, WrittenType, Written}
 use Rattle.rules.specs.Units as U
 use Rattle.rules.specs.Types.{Ty, keeps_unit}
 use Rattle.rules.specs.Declarations.{Def, State, domain, def, is_found, at_hand, known}
-use Rattle.rules.specs.Judge.{Judged, Rule, rule, first_broken_or, declare, new_domain, has_twice, has_abstract, has_final}
+use Rattle.rules.specs.Judge.{Judged, Rule, rule, first_broken_or, declare, new_domain, has_twice, has_abstract}
+use Rattle.rules.specs.Judge.{has_final}
 use Rattle.rules.specs.Judge.{is_numeric, or_no_def, resolved, domain_type, element_rule, target_in}
 use Rattle.rules.specs.Book.{Record, bytes, type_records}
 use Rattle.ground.specs.Parts.{splice}

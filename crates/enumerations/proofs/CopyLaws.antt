@@ -17,7 +17,8 @@ module _ (o : List ℕ) (from n at i : ℕ) (h : i ≤ n) (hf : from + n ≤ at)
   pub copy-length : length (paste o at (part o from n) i) ≡ length o
   copy-length = let e = size in length-paste o at (part o from n) i (omega arith) (omega arith)
 
-  pub copy_more : i < n → set (paste o at (part o from n) i) (at + i) (get_or (paste o at (part o from n) i) (from + i) 0)
+  pub copy_more : i < n
+      → set (paste o at (part o from n) i) (at + i) (get_or (paste o at (part o from n) i) (from + i) 0)
       ≡ paste o at (part o from n) (i + 1)
   copy_more l =
       let e = size in

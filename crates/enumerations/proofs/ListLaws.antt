@@ -103,8 +103,8 @@ pub find-here : (f : ℕ) (t s : List ℕ) (p : ℕ) (n : Part) → is_element s
 unfolding find_from
 find-here f t s p n e h = rw (e, h)
 
-pub find-next : (f : ℕ) (t s : List ℕ) (p : ℕ) (n : Part) → is_element s p ≡ true → same_names t n (written s p) ≡ false →
-    find_from (suc f) t s p n ≡ find_from f t s (past_inner s (p + element_size)) n
+pub find-next : (f : ℕ) (t s : List ℕ) (p : ℕ) (n : Part) → is_element s p ≡ true → same_names t n (written s p) ≡ false
+    → find_from (suc f) t s p n ≡ find_from f t s (past_inner s (p + element_size)) n
 unfolding find_from
 find-next f t s p n e h = rw (e, h)
 

@@ -44,7 +44,8 @@ pub end-gt : (e : Enum) (p : ℕ) → p < end_of e p
 end-gt (end f) p = omega arith
 end-gt (elem n i r) p = go (plain i) (end-gt i (p + element_size + list_size)) (λ q. end-gt r q)
   where
-    go : (b : Bool) → p + element_size + list_size < end_of i (p + element_size + list_size) → ((q : ℕ) → q < end_of r q)
+    go : (b : Bool) → p + element_size + list_size < end_of i (p + element_size + list_size)
+        → ((q : ℕ) → q < end_of r q)
         → p < end_of r (cond b (p + element_size) (end_of i (p + element_size + list_size)))
     go true g h = omega (arith, h (p + element_size))
     go false g h = omega (arith, h (end_of i (p + element_size + list_size)))

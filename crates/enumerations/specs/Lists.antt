@@ -50,4 +50,5 @@ unfoldable pub find_from : ℕ → List ℕ → List ℕ → ℕ → Part → �
 find_from zero t s p n = nowhere
 find_from (suc f) t s p n =
     cond (is_element s p)
-    (cond (same_names t n (written s p)) (p + element_size) (find_from f t s (past_inner s (p + element_size)) n)) nowhere
+    (cond (same_names t n (written s p)) (p + element_size) (find_from f t s (past_inner s (p + element_size)) n))
+    nowhere

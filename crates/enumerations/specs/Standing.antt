@@ -1,5 +1,6 @@
 -- Where an enumeration stands as records in the bytes s, with its names in the text t.
-use Rattle.std.specs.Prelude.{◌≡◌, Bool, true, false, cond, not, List, [], ◌∷◌, ◌++◌, ℕ, ◌+◌, ◌-◌, ◌≤◌, ◌<◌, length, get_or, drop}
+use Rattle.std.specs.Prelude.{◌≡◌, Bool, true, false, cond, not, List, [], ◌∷◌, ◌++◌, ℕ, ◌+◌, ◌-◌, ◌≤◌, ◌<◌, length}
+use Rattle.std.specs.Prelude.{get_or, drop}
 use Rattle.std.proofs.Math.Option.{none}
 use Rattle.rules.specs.Names.{Name}
 use Rattle.rules.specs.Symbols.{is_name_text}

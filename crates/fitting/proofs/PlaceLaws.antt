@@ -17,7 +17,8 @@ use borrow.Author.Tests.{lt-ltb, le-ltb, le-leb}
 use Rattle.rules.specs.Numbers.{magnitude_limit, Range}
 use Rattle.rules.specs.Enumerations.{final}
 use Rattle.rules.specs.Types.{Measure, Ty, text, numeric, structure, enum}
-use Rattle.rules.specs.Book.{bit, low_first, twos, length_or, bytes, number_record, unit_records, type_records, open_record}
+use Rattle.rules.specs.Book.{bit, low_first, twos, length_or, bytes, number_record, unit_records, type_records}
+use Rattle.rules.specs.Book.{open_record}
 use Rattle.rules.specs.Book.{element_records}
 use Rattle.rules.specs.Show.{read4}
 use Rattle.numbers.proofs.SignedLaws.{held, Holds, holds}

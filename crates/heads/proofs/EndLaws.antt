@@ -190,7 +190,8 @@ module _ (t : List ℕ) (s : State) (n : R.Name) (st : code.State) (o x z y hs r
           (topic-closed e) m (omega arith) (close-place r 19 er)
 
       pub close-topic-fine : (r : code-judged.Judged) (o' : List ℕ) (st' : code.State) → v ≡ true → st.extent.used
-          + topic_end_size ≤ length o → r ≡ Fine st' → st' ≡ in_topic_by (grown_by st topic_end_size 1 0) own 0 → (w : List ℕ)
+          + topic_end_size ≤ length o → r ≡ Fine st'
+          → st' ≡ in_topic_by (grown_by st topic_end_size 1 0) own 0 → (w : List ℕ)
           → w ≡ 3 ∷ [] → o' ≡ splice o st.extent.used w
           → JudgedAs t (verdict s (U.close n) o) st r o' x z y hs
       close-topic-fine r o' st' e w er es a ea eo' =

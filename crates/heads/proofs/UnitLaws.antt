@@ -221,7 +221,8 @@ topic-declared t s st o x z y hs k n m em h c v o' ev eo w x' ex wx y' ey z' ch 
     def_row t (book s') (known s.decls) (attributes_in s) (st.listing.count + 1) d (topic_definition st m) tl
     (rw (bk, k.used) (stands-new (book s) (name_record 2 n ∷ []) [] refl)) in
     let rw' : row definition_width x' (st.listing.count + 1)
-    ≡ definition_row (topic_definition st m) = rw ex (row_written definition_width x (definition_row (topic_definition st m))
+    ≡ definition_row (topic_definition st m) =
+    rw ex (row_written definition_width x (definition_row (topic_definition st m))
     (st.listing.count + 1) refl (omega arith)) in
     let g : Keeps t s' (declared_by st topic_size 1 0) o' x' z' y hs =
     keeps-declared t s st o x z y hs k d o' x' z' topic_size 1 0 c refl refl refl refl b (rw ex
@@ -287,5 +288,6 @@ module _ (t : List ℕ) (s : State) (n : R.Name) (st : code.State) (o x z y hs r
         → JudgedAs t (verdict s (U.topic n) o) st r o' x' z' y' hs
     topic-fine r o' x' z' y' st' w er es g =
         let f = judge-fair t s (after_topic s n) (U.topic n) c.fair c.stands k.fair topic-judged in
-        judged-fine t s (U.topic n) o st r o' x' z' y' hs (after_topic s n) st' topic-judged m (rw es w) er (rw es (g f))
+        judged-fine t s (U.topic n) o st r o' x' z' y' hs
+        (after_topic s n) st' topic-judged m (rw es w) er (rw es (g f))
         (rw es refl)

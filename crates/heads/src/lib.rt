@@ -15,7 +15,8 @@ ghost use Rattle.enumerations.specs.Standing.{InText};
 ghost use Rattle.names.specs.Index.{row, Says, definition_width, Rows};
 ghost use Rattle.names.specs.References.{bytes_of, Inside};
 ghost use Rattle.readers.specs.Reads.{name_cut};
-ghost use Rattle.units.specs.declared.Unit.TheVariants.{Header as V-as-Header, Model as V-as-Model, Topic as V-as-Topic};
+ghost use Rattle.units.specs.declared.Unit.TheVariants.{Header as V-as-Header, Model as V-as-Model};
+ghost use Rattle.units.specs.declared.Unit.TheVariants.{Topic as V-as-Topic};
 ghost use Rattle.units.specs.declared.Unit.TheVariants.{Close as V-as-Close};
 ghost use Rattle.wellformed.specs.Fairness.{FairState};
 ghost use Rattle.state.specs.Parts.{Ample};
@@ -83,7 +84,8 @@ pub fn judge_model(text: &[u8], book: &mut [u8], st: State, head: ModelHead) -> 
 // A topic's record, its row, and its name, which is found from now on.
 fn declare_topic(text: &[u8], book: &mut [u8], work: &mut [u16], st: State, name: Name) -> State
     requires inside { Inside text.now name × (length text.now ≤ 65535) × (length book.old ≤ 65535) }
-    requires topic_size_in_bounds { (st.extent.used + topic_size ≤ length book.old) × Small st × Ample st (length work.old) }
+    requires topic_size_in_bounds { (st.extent.used + topic_size ≤ length book.old) × Small st
+        × Ample st (length work.old) }
     ensures { (result ≡ topic_by st name)
         × ((s : D.State) (n : R.Name) (hs : List ℕ)
         → Kept text.now s st book.old work.old hs
@@ -135,7 +137,8 @@ pub fn judge_topic(text: &[u8], book: &mut [u8], work: &mut [u16], st: State, na
 // The record of the class's END; its row is counted, and its name found from now on.
 fn end_class(text: &[u8], book: &mut [u8], work: &mut [u16], st: State, own: Name) -> State
     requires inside { Inside text.now own × (length book.old ≤ 65535) }
-    requires class_end_size_in_bounds { (st.extent.used + class_end_size ≤ length book.old) × Small st × Ample st (length work.old) }
+    requires class_end_size_in_bounds { (st.extent.used + class_end_size ≤ length book.old) × Small st
+        × Ample st (length work.old) }
     ensures { (result ≡ closed_by st)
         × ((s : D.State) (c : Def) (hs : List ℕ)
         → Kept text.now s st book.old work.old hs

@@ -32,7 +32,8 @@ take_more (b ∷ l) (suc i) a e = let h = take_more l i a e in let k : suc i + 1
 module _ (hs : List ℕ) (n k q : ℕ) where
   pub number_same : n < most → Hand hs → get_or (set (set hs n k) (most + n) q) n 0 ≡ k
   number_same h l =
-      get_or-set_other (set hs n k) (most + n) n q 0 (λ e. absurd (omega arith)) ∙ get_or-set_same hs n k 0 (omega arith)
+      get_or-set_other (set hs n k) (most + n) n q 0 (λ e. absurd (omega arith))
+      ∙ get_or-set_same hs n k 0 (omega arith)
 
   pub position-same : n < most → Hand hs → get_or (set (set hs n k) (most + n) q) (most + n) 0 ≡ q
   position-same h l = let e = length-set hs n k in get_or-set_same (set hs n k) (most + n) q 0 (omega arith)
@@ -232,7 +233,8 @@ base-few t ks ms x count y total k (suc i) w =
 pub record Chain (ks : List Def) (ms : List Attribute) (base : ℕ) (hs : List ℕ) (n c : ℕ) : Type 0 where
   pub hand : List Attribute
   pub filled : Filled ms hs n hand
-  pub rest : nearest (attributes_of (or_no_def (entry ks base))) ≡ nearest_to hand (attributes_of (or_no_def (entry ks c)))
+  pub rest : nearest (attributes_of (or_no_def (entry ks base)))
+      ≡ nearest_to hand (attributes_of (or_no_def (entry ks c)))
 
 pub chain-start : (ks : List Def) (ms : List Attribute) (base : ℕ) (hs : List ℕ) → Chain ks ms base hs 0 base
 chain-start ks ms base hs = record {

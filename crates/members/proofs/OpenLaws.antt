@@ -129,7 +129,8 @@ filled-grows ms ns hs n h f = record {
 
 -- ---- the class after its head
 pub opened-start : (ms : List Attribute) (hs : List ℕ) (n : ℕ) (o : Option Def) (c : Def) → c.own ≡ []
-    → c.inherited ≡ attributes_of (or_no_def o) → Filled ms hs n (nearest (attributes_of (or_no_def o))) → Opened ms hs n c
+    → c.inherited ≡ attributes_of (or_no_def o)
+    → Filled ms hs n (nearest (attributes_of (or_no_def o))) → Opened ms hs n c
 opened-start ms hs n o c eo ei f =
     let e : attributes_of c ≡ attributes_of (or_no_def o) = rw (eo, ei) in
     record {

@@ -95,7 +95,8 @@ module _ (z : List ℕ) (k last p : ℕ) (hk : k < keys) (hp : keys + keys + p <
             λ j h f. other k (keys + k) (keys + j) (λ y. omega arith) (λ y. omega arith) (λ y. f (omega arith));
         link-new =
             get_or-set_other (two k) (keys + k) (keys + keys + p) p 0 (λ y. omega arith)
-            ∙ get_or-set_other one k (keys + keys + p) p 0 (λ y. omega arith) ∙ get_or-set_same z (keys + keys + p) 0 0 hp;
+            ∙ get_or-set_other one k (keys + keys + p) p 0 (λ y. omega arith)
+            ∙ get_or-set_same z (keys + keys + p) 0 0 hp;
         link-last = λ f. absurd (f e);
         links-kept =
             λ q h w f. other k (keys + k) (keys + keys + q) (λ y. omega arith) (λ y. omega arith) (λ y. omega arith);

@@ -1,11 +1,13 @@
 // What is known: an index of the definitions in lent numbers, and names looked up in it.
 #![tactic(auto)]
 
-ghost use Rattle.std.specs.Prelude.{◌≡◌, Bool, false, ◌||◌, List, [], ◌∷◌, ◌++◌, ℕ, ◌+◌, ◌*◌, ◌≤◌, ◌<◌, length, get_or, set, eqb};
+ghost use Rattle.std.specs.Prelude.{◌≡◌, Bool, false, ◌||◌, List, [], ◌∷◌, ◌++◌, ℕ, ◌+◌, ◌*◌, ◌≤◌, ◌<◌, length, get_or};
+ghost use Rattle.std.specs.Prelude.{set, eqb};
 ghost use Rattle.std.proofs.Math.Option.{none};
 ghost use Rattle.rules.specs.Bytes.{same};
 ghost use Rattle.rules.specs.Declarations as D;
-ghost use Rattle.rules.specs.Declarations.{Def, State, known, lookup, number_in, at_home, at_hand, in_topic_of, sort_number};
+ghost use Rattle.rules.specs.Declarations.{Def, State, known, lookup, number_in, at_home, at_hand, in_topic_of};
+ghost use Rattle.rules.specs.Declarations.{sort_number};
 ghost use Rattle.rules.specs.Book as B;
 ghost use Rattle.rules.specs.Book.{flags};
 ghost use Rattle.rules.specs.Judge.{bases_of, is_among};

@@ -43,12 +43,16 @@ module _ (d db : ℕ) (v bound : ℤ) where
   pub low-is : low_fits d db v bound ≡ le_z bound (reading d db v)
   low-is = go (ltb db d)
     where
-      go : (t : Bool) → cond t (le_z bound (rounded v (10 ^ (d - db)))) (lt_z (shr_z (pred_ℤ bound) (10 ^ (db - d))) v) ≡
-          le_z bound (cond t (rounded v (10 ^ (d - db))) (v *ℤ pos (10 ^ (db - d))))
+      go : (t : Bool) → cond t (le_z bound (rounded v (10 ^ (d - db)))) (lt_z (shr_z (pred_ℤ bound) (10 ^ (db - d))) v)
+          ≡ le_z bound (cond t (rounded v (10 ^ (d - db))) (v *ℤ pos (10 ^ (db - d))))
       go true = refl
       go false =
           let w = v *ℤ pos (10 ^ (db - d)) in
-          rw (less-is (shr_z (pred_ℤ bound) (10 ^ (db - d))) v, floor (db - d) v (pred_ℤ bound), ← less-is (pred_ℤ bound) w)
+          rw (
+            less-is (shr_z (pred_ℤ bound) (10 ^ (db - d))) v,
+            floor (db - d) v (pred_ℤ bound),
+            ← less-is (pred_ℤ bound) w,
+          )
           (above bound w)
 
   pub high_is : high_fits d db v bound ≡ le_z (reading d db v) bound

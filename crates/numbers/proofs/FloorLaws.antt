@@ -57,7 +57,8 @@ module _ (x : ℤ) (m : ℕ) (f : SFits w64 x) (h : (0 < m) × (m < magnitude_li
   remainder : held (rem_z (held x) (to_z w64 m)) ≡ rem_z x (pos m)
   remainder = rw (to_z-of_z f, plain m h.1) (to_z-of_z (below (mag_rem x (pos m)) f))
 
-  pub floor-same : lt_z (held (rem_z (held x) (to_z w64 m))) (pos 0) ≡ false → held (quot_z (held x) (to_z w64 m)) ≡ shr_z x m
+  pub floor-same : lt_z (held (rem_z (held x) (to_z w64 m))) (pos 0) ≡ false
+      → held (quot_z (held x) (to_z w64 m)) ≡ shr_z x m
   floor-same t = quotient.1 ∙ same x m h.0 (rw remainder at t)
 
   pub floor-down : lt_z (held (rem_z (held x) (to_z w64 m))) (pos 0) ≡ true

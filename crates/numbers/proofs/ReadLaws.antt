@@ -8,7 +8,8 @@ use borrow.Author.Tests.{lt-ltb, le-ltb, le-leb, lt-leb}
 use lib.IntN.{ℤ, pos, negsuc, nat_abs, ◌*ℤ◌}
 use lib.Signed.{shr_z}
 use lib.Dec.{ltb}
-use Rattle.rules.specs.Numbers.{most_decimals, magnitude_limit, reads, not_read, rounded, reading, too_great, read_number}
+use Rattle.rules.specs.Numbers.{most_decimals, magnitude_limit, reads, not_read, rounded, reading, too_great}
+use Rattle.rules.specs.Numbers.{read_number}
 use Rattle.rules.proofs.Tests.{or_l, or_r}
 use Rattle.numbers.specs.declared.Reading.{Reading}
 use Rattle.numbers.specs.declared.Reading.TheVariants.{Value, OutOfScope, TooGreat}
@@ -82,5 +83,6 @@ module _ (v : ℤ) (d db : ℕ) where
       pub is_too_great : magnitude_limit ≤ nat_abs v * p → Promised v d db TooGreat
       is_too_great k =
           let q : too_great (reading d db v)
-          ≡ true = rw (le-ltb db d l, ← e) (le-leb magnitude_limit (nat_abs (v *ℤ pos p)) (omega (arith, abs-mul v p))) in
+          ≡ true =
+          rw (le-ltb db d l, ← e) (le-leb magnitude_limit (nat_abs (v *ℤ pos p)) (omega (arith, abs-mul v p))) in
           record { number = rw (in_scope, q); value = rw (in_scope, q) }

@@ -95,5 +95,6 @@ not-below : (v : ℤ) → SFits w64 v → lt_z v (pos 0) ≡ false → T (non_ne
 not-below (pos a) f t = (tt, record { fits = omega (arith, f.sfits) })
 not-below (negsuc a) f t = not-both refl t
 
-pub unsigned : (v : ℤ) → SFits w64 v → lt_z (held v) (pos 0) ≡ false → T (non_neg (held v)) × Fits w64 (nat_abs (held v))
+pub unsigned : (v : ℤ) → SFits w64 v → lt_z (held v) (pos 0) ≡ false
+    → T (non_neg (held v)) × Fits w64 (nat_abs (held v))
 unsigned v f t = rw (to_z-of_z f) (not-below v f (rw (to_z-of_z f) at t))

@@ -11,9 +11,11 @@ use lib.ListN.{length, take, drop, get_or, length-take, get_or-eq_default}
 use lib.Seq.{drop-cons}
 use lib.Dec.{leb, ltb}
 use Rattle.rules.specs.Bytes.{is, is_letter, is_digit, is_word_byte, is_one_of, span}
-use Rattle.rules.specs.Symbols.{Kind, Symbol, Quote, Gap, number, symbol, tag, closed, bad, endless, up_to, open_at, gap}
+use Rattle.rules.specs.Symbols.{Kind, Symbol, Quote, Gap, number, symbol, tag, closed, bad, endless, up_to, open_at}
+use Rattle.rules.specs.Symbols.{gap}
 use Rattle.rules.specs.Symbols.{apart, quote}
-use Rattle.rules.specs.Symbols.{digit_count, unsigned_length, word_kind, number_kind, aString, is_mark_byte, symbol_of, beyond}
+use Rattle.rules.specs.Symbols.{digit_count, unsigned_length, word_kind, number_kind, aString, is_mark_byte, symbol_of}
+use Rattle.rules.specs.Symbols.{beyond}
 use Rattle.rules.specs.Symbols.{symbol_at, most_digits}
 use Rattle.rules.specs.Reserved.{forms, table}
 use Rattle.rules.specs.Numbers.{most_decimals, decimals_of}
@@ -68,7 +70,8 @@ module _ (s : List ℕ) where
       lt_of_not-le (λ h. omega (arith, eqb-true (get_or s front 0) 46 p, get_or-eq_default s 0 {n = front} h))
 
   few-by : 0 < front → (t : Bool) → (t ≡ true → is "." (get_or s front 0) ≡ true) →
-      decimals_of (take (cond t (suc (front + back)) front) s) < digit_count (take (cond t (suc (front + back)) front) s)
+      decimals_of (take (cond t (suc (front + back)) front) s)
+      < digit_count (take (cond t (suc (front + back)) front) s)
   few-by h false p = omega (arith, rw add-zero at (past-decimals 0 s), rw add-zero at (past-digits 0 s))
   few-by h true p =
       let b = get_or s front 0 in

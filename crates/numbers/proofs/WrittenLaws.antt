@@ -79,7 +79,8 @@ scanned-first s h = record { room = room-first s h; value = refl; decimals = ref
 pub scanned-small : {s t : List ℕ} {n d : ℕ} → Scanned s t n d → n < magnitude_limit
 scanned-small x = room_small _ _ x.room
 
-scanned-one : (s t : List ℕ) (b n d : ℕ) → Scanned s (b ∷ t) n d → Scanned s t (with_digit n b) (with_dot d b (length t))
+scanned-one : (s t : List ℕ) (b n d : ℕ) → Scanned s (b ∷ t) n d
+    → Scanned s t (with_digit n b) (with_dot d b (length t))
 scanned-one s t b n d x = record {
   room = room_next b t n x.room;
   value = x.value;
@@ -87,7 +88,8 @@ scanned-one s t b n d x = record {
 }
 
 pub scanned-next : (s : List ℕ) (i n d : ℕ) {n' d' : ℕ} → i < length s → Scanned s (drop i s) n d →
-    n' ≡ with_digit n (get_or s i 0) → d' ≡ with_dot d (get_or s i 0) (length s - (i + 1)) → Scanned s (drop (i + 1) s) n' d'
+    n' ≡ with_digit n (get_or s i 0) → d' ≡ with_dot d (get_or s i 0) (length s - (i + 1))
+    → Scanned s (drop (i + 1) s) n' d'
 scanned-next s i n d h x p q = rw (p, q, add-one, ← length-drop (suc i) s)
     (scanned-one s (drop (suc i) s) (get_or s i 0) n d (rw (drop-cons s i 0 h) at x))
 

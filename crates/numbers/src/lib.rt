@@ -2,7 +2,8 @@
 // base's.
 #![tactic(auto)]
 
-ghost use Rattle.std.specs.Prelude.{◌≡◌, cond, ◌&&◌, ◌+◌, ◌-◌, ◌*◌, ◌≤◌, ◌<◌, ◌^◌, length, take, drop, get_or, pos, nat_abs, ◌*ℤ◌, eqb};
+ghost use Rattle.std.specs.Prelude.{◌≡◌, cond, ◌&&◌, ◌+◌, ◌-◌, ◌*◌, ◌≤◌, ◌<◌, ◌^◌, length, take, drop, get_or, pos};
+ghost use Rattle.std.specs.Prelude.{nat_abs, ◌*ℤ◌, eqb};
 ghost use Rattle.std.specs.Int.Signed.{lt_z, shr_z};
 ghost use Rattle.rules.specs.Bytes.{is, is_digit};
 ghost use Rattle.rules.specs.Symbols.{most_digits, digit_count};

@@ -132,7 +132,8 @@ module _ (t : List ℕ) (l : List (List ℕ)) where
   unfolding properties_from after
   list-step z s = properties-fuel t z (stands-lies s) l (enough t) (suc (enough t)) (omega arith) (omega arith)
 
-  fault-list : (f : Fault) (p : ℕ) → Stands t (fault_at f p) → properties_from (enough t) l t (fault_at f p) ≡ refused f p
+  fault-list : (f : Fault) (p : ℕ) → Stands t (fault_at f p)
+      → properties_from (enough t) l t (fault_at f p) ≡ refused f p
   unfolding after
   fault-list f p s = list-step (fault_at f p) s
 

@@ -254,7 +254,8 @@ module _ {t : List ℕ} {y n : Symbol} where
       (if-false (is_word (ascii "NUMERIC")) _ _ (is-no numeric-word c)
       (if-false (is_mark "(") _ _ (is-no (is-mark "(" (omega arith) (omega arith)) d) r))
 
-  pub type-enum : (o : List ℕ) {p : List ℕ} {u : ℕ} → y.code ≡ 40 → Reads t (enumeration (enough t) deepest) (Whole o p u) y n
+  pub type-enum : (o : List ℕ) {p : List ℕ} {u : ℕ} → y.code ≡ 40
+      → Reads t (enumeration (enough t) deepest) (Whole o p u) y n
       → Reads t type_of (Means o p (Enumeration u) Nothing) y n
   unfolding type_of
   type-enum o k r =
@@ -273,7 +274,8 @@ module _ {t : List ℕ} {y n : Symbol} where
   unfolding type_or_reference
   type-named k r = if-true (is_kind name) _ _ (is-yes is_name k) (mapped named r (λ a h. (refl, ap Given h, tt)))
 
-  pub type-other : {P : WrittenType → Type 0} → (y.code ≡ 1 → ⊥) → Reads t type_of P y n → Reads t type_or_reference P y n
+  pub type-other : {P : WrittenType → Type 0} → (y.code ≡ 1 → ⊥) → Reads t type_of P y n
+      → Reads t type_or_reference P y n
   unfolding type_or_reference
   type-other k r = if-false (is_kind name) _ _ (is-no is_name k) r
 
@@ -328,7 +330,8 @@ module _ {t : List ℕ} (o : List ℕ) {p : List ℕ} {y n : Symbol} (based or-r
 -- ---- an unsigned whole number, as the code tells it
 module _ (t : List ℕ) (place len : ℕ) (h : 0 < len) where
   first_byte : get_or (part t place len) 0 0 ≡ get_or t place 0
-  first_byte = get_or-take len (drop place t) 0 0 h ∙ get_or-drop place t 0 0 ∙ ap (λ (k : ℕ). get_or t k 0) (add-zero place)
+  first_byte =
+      get_or-take len (drop place t) 0 0 h ∙ get_or-drop place t 0 0 ∙ ap (λ (k : ℕ). get_or t k 0) (add-zero place)
 
   pub whole-yes : {n : ℕ} → is_digit (get_or t place 0) ≡ true → decimals_of (part t place len) ≡ 0
       → n ≡ digits (part t place len) 0 → Count n ≡ whole_of (part t place len)

@@ -1,5 +1,7 @@
 -- Bytes among which no line ends.
-use Rattle.std.proofs.Common.{◌≡◌, ℕ, zero, suc, ◌+◌, ◌-◌, ◌<◌, ◌≤◌, Bool, true, false, ltb, ◌⊎◌, List, [], ◌∷◌, length, get_or, take, drop, refl, ap, ◌∙◌, subst, inl, inr, arith, drop_of_length-le, drop-cons, ltb-false, ltb-true, eqb-true}
+use Rattle.std.proofs.Common.{◌≡◌, ℕ, zero, suc, ◌+◌, ◌-◌, ◌<◌, ◌≤◌, Bool, true, false, ltb, ◌⊎◌, List, [], ◌∷◌, length}
+use Rattle.std.proofs.Common.{get_or, take, drop, refl, ap, ◌∙◌, subst, inl, inr, arith, drop_of_length-le, drop-cons}
+use Rattle.std.proofs.Common.{ltb-false, ltb-true, eqb-true}
 use lib.ListN.{get_or-eq_default}
 use Rattle.rules.specs.Bytes.{is, is_line_end, span}
 use Rattle.rules.specs.All.{All}
@@ -24,7 +26,8 @@ module _ (p : ℕ → Bool) (cr : p 13 ≡ false) (lf : p 10 ≡ false) where
   level-run [] = tt
   level-run (b ∷ s) = let h = level-run s in test (p b) (λ e. rw e (no_end b e, h)) (λ e. rw e tt)
 
-pub level-two : (s : List ℕ) → is_line_end (get_or s 0 0) ≡ false → is_line_end (get_or s 1 0) ≡ false → Level (take 2 s)
+pub level-two : (s : List ℕ) → is_line_end (get_or s 0 0) ≡ false
+    → is_line_end (get_or s 1 0) ≡ false → Level (take 2 s)
 level-two [] h k = tt
 level-two (b ∷ []) h k = (h, tt)
 level-two (b ∷ c ∷ s) h k = (h, (k, tt))

@@ -1,5 +1,6 @@
 -- Lines counted on from a place, and the position that the line of a place gives.
-use Rattle.std.proofs.Common.{◌≡◌, ℕ, zero, suc, ◌+◌, ◌-◌, ◌%◌, ◌<◌, ◌≤◌, Bool, true, false, cond, List, length, sym, refl, ap, ◌∙◌, add-zero, zero-add, add-one, arith}
+use Rattle.std.proofs.Common.{◌≡◌, ℕ, zero, suc, ◌+◌, ◌-◌, ◌%◌, ◌<◌, ◌≤◌, Bool, true, false, cond, List, length, sym}
+use Rattle.std.proofs.Common.{refl, ap, ◌∙◌, add-zero, zero-add, add-one, arith}
 use Rattle.rules.specs.Lines as rules
 use Rattle.rules.specs.Lines.{ends_at, position_of}
 use Rattle.rules.proofs.LineLaws.{behind, position_first, position-next, position-end, line-bound}

@@ -27,7 +27,8 @@ pub ≤ℤ-trans : {a b c : ℤ} → a ≤ℤ b → b ≤ℤ c → a ≤ℤ c
 ≤ℤ-trans {a = negsuc a} {b = negsuc b} {c = negsuc c} h k = omega (arith, leb→le, le→leb)
 
 -- two bounds that keep 14
-pub in_order_lem : (x y : List ℕ) → (not (eqb (decimals_of x) (decimals_of y)) || lt_z (value_of y) (value_of x)) ≡ false
+pub in_order_lem : (x y : List ℕ)
+    → (not (eqb (decimals_of x) (decimals_of y)) || lt_z (value_of y) (value_of x)) ≡ false
     → le_z (value_of x) (value_of y) ≡ true
 in_order_lem x y h =
     let (p, q) = or-fails {x = not (eqb (decimals_of x) (decimals_of y))} h in

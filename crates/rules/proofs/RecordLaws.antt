@@ -44,7 +44,8 @@ no_front [] h = refl
 no_front (x ∷ l) h = pick (eqb (size_of x) 0) refl
   where
     pick : (q : Bool) → eqb (size_of x) 0 ≡ q →
-        cond q [] (cond (leb (size_of x) (suc (length l))) (take (size_of x) (x ∷ l) ∷ records_from (size_of x - 1) l) [])
+        cond q []
+        (cond (leb (size_of x) (suc (length l))) (take (size_of x) (x ∷ l) ∷ records_from (size_of x - 1) l) [])
         ≡ []
     pick true e = refl
     pick false e =

@@ -1,5 +1,6 @@
 -- Document 01, "The book": a record is its bytes, one of kind and then its body.
-use Rattle.std.specs.Prelude.{Bool, true, false, cond, ◌&&◌, List, [], ◌∷◌, ◌++◌, ℕ, zero, suc, ◌+◌, ◌-◌, ◌/◌, ◌%◌, ◌^◌, length, get_or, replicate, ℤ, pos, negsuc, leb}
+use Rattle.std.specs.Prelude.{Bool, true, false, cond, ◌&&◌, List, [], ◌∷◌, ◌++◌, ℕ, zero, suc, ◌+◌, ◌-◌, ◌/◌, ◌%◌, ◌^◌}
+use Rattle.std.specs.Prelude.{length, get_or, replicate, ℤ, pos, negsuc, leb}
 use Rattle.std.proofs.Math.Option.{Option, none, some}
 use Rattle.rules.specs.Names.{Name}
 use Rattle.rules.specs.Enumerations.{Enum, end, elem, final}
@@ -55,7 +56,8 @@ inner_records (elem n i r) l = l
 
 abbrev pub element_records : Enum → List Record
 element_records (end f) = (15 ∷ []) ∷ []
-element_records (elem n i r) = name_record 14 n ∷ (inner_records i (open_record i ∷ element_records i) ++ element_records r)
+element_records (elem n i r) =
+    name_record 14 n ∷ (inner_records i (open_record i ∷ element_records i) ++ element_records r)
 
 -- zero is unlimited
 abbrev pub length_or : Option ℕ → ℕ

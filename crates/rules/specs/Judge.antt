@@ -401,7 +401,8 @@ with_attribute c a = record {
 
 -- 4 and 9 to 16; where an attribute is inherited and not EXTENDED, 9 comes first, so behind it an
 -- inherited one is the base
-unfoldable pub attribute_to_16 : State → Def → Name → List (List ℕ) → Written → Option Attribute → Option Def → List Rule
+unfoldable pub attribute_to_16 : State → Def → Name → List (List ℕ) → Written
+    → Option Attribute → Option Def → List Rule
 attribute_to_16 s c n p w base target =
     let u = (new_attribute s n p w base target).use_of in
     rule 4 n.offset (not (is_found (attribute_at n.bytes (attributes_of c))) && leb 256 (name_count (attributes_of c)))
@@ -445,7 +446,8 @@ abbrev pub attribute_from_17 : ℕ → Bool → Bool → Use → Use → List Ru
 attribute_from_17 p based names u b =
     attribute17 p based names u b ∷ attribute18 p based names u b ∷ attribute22 p based names u b ∷ []
 
-unfoldable pub attribute_rules : State → Def → Name → List (List ℕ) → Written → Option Attribute → Option Def → List Rule
+unfoldable pub attribute_rules : State → Def → Name → List (List ℕ) → Written
+    → Option Attribute → Option Def → List Rule
 attribute_rules s c n p w base target =
     attribute_to_16 s c n p w base target
     ++ attribute_from_17 w.place (is_found base) (is_naming w.type)

@@ -21,7 +21,8 @@ use Rattle.rules.specs.Judge as J
 use Rattle.rules.specs.Judge.{judge}
 use Rattle.rules.specs.Book.{book, padded}
 use Rattle.rules.specs.Check as C
-use Rattle.rules.specs.Check.{Given, lent, capacity, is_over, run_from, judged, room, unit_place, after_judge, after_unit}
+use Rattle.rules.specs.Check.{Given, lent, capacity, is_over, run_from, judged, room, unit_place, after_judge}
+use Rattle.rules.specs.Check.{after_unit}
 use Rattle.rules.specs.Check.{finish, Next, run}
 use Rattle.rules.proofs.Tests.{never}
 use Rattle.state.specs.declared.Layout.{Layout}

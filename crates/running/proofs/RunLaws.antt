@@ -20,7 +20,8 @@ use Rattle.rules.specs.Judge.{judge}
 use Rattle.rules.specs.Book as B
 use Rattle.rules.specs.Lines.{position_of}
 use Rattle.rules.specs.Check as C
-use Rattle.rules.specs.Check.{lent, is_over, run_from, judged, room, unit_place, after_judge, after_unit, finish, nothing}
+use Rattle.rules.specs.Check.{lent, is_over, run_from, judged, room, unit_place, after_judge, after_unit, finish}
+use Rattle.rules.specs.Check.{nothing}
 use Rattle.rules.specs.Check.{run}
 use Rattle.rules.proofs.SymbolLaws.{Lies, next-lies}
 use Rattle.rules.proofs.ForwardLaws.{Ends, Stepped, unit-steps}

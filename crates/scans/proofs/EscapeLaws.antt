@@ -45,9 +45,17 @@ abbrev escape_by : ℕ → Bool → Bool → Bool → Bool → ℕ
 escape_by b o p q r = cond (is "\"" b || is "\\" b) 1 (cond (is "u" b && (o && (p && (q && r)))) 5 0)
 
 pub escape-at : (t : List ℕ) (i : ℕ)
-    → escape (drop i t) ≡ escape_by (get_or t i 0) (hex_at t (i + 1)) (hex_at t (i + 2)) (hex_at t (i + 3)) (hex_at t (i + 4))
+    → escape (drop i t)
+    ≡ escape_by (get_or t i 0) (hex_at t (i + 1)) (hex_at t (i + 2)) (hex_at t (i + 3)) (hex_at t (i + 4))
 escape-at t i =
-    rw (get_or-drop i t 0 0, get_or-drop i t 1 0, get_or-drop i t 2 0, get_or-drop i t 3 0, get_or-drop i t 4 0, add-zero i)
+    rw (
+      get_or-drop i t 0 0,
+      get_or-drop i t 1 0,
+      get_or-drop i t 2 0,
+      get_or-drop i t 3 0,
+      get_or-drop i t 4 0,
+      add-zero i,
+    )
 
 four : (o p q r : Bool) → escape_by 117 o p q r ≡ cond ((o && p) && (q && r)) 5 0
 four true true q r = refl

@@ -5,7 +5,8 @@ ghost use Rattle.std.specs.Prelude.{◌≡◌, ◌&&◌, ◌+◌, ◌<◌, lengt
 ghost use Rattle.rules.specs.Bytes.{is_digit, is_hexadecimal};
 ghost use Rattle.rules.specs.Symbols.{escape};
 ghost use Rattle.ground.specs.Parts.{run_end};
-ghost use Rattle.scans.specs.Scans.{is_blank, not_line_end, two_at, close_of, comment_at, fraction_end, hex_at, step_at};
+ghost use Rattle.scans.specs.Scans.{is_blank, not_line_end, two_at, close_of, comment_at, fraction_end, hex_at};
+ghost use Rattle.scans.specs.Scans.{step_at};
 
 use places::Line;
 

@@ -16,7 +16,8 @@ use Rattle.rules.specs.Declarations.{Use, inline, of_domain, of_structure, Attri
 use Rattle.rules.specs.Declarations.{attributes_of, is_found, name_count, Decl, def, end_topic, State, known}
 use Rattle.rules.specs.Book.{Record, bytes, name_record, inner_records, element_records, unit_records, type_records}
 use Rattle.rules.specs.Book.{use_records}
-use Rattle.rules.specs.Book.{head_records, end_records, decl_records, decls_records, attribute_records, attributes_records}
+use Rattle.rules.specs.Book.{head_records, end_records, decl_records, decls_records, attribute_records}
+use Rattle.rules.specs.Book.{attributes_records}
 use Rattle.rules.specs.Book.{records, book, is_definition, definitions}
 use Rattle.rules.specs.Units.{Strings, class_sort}
 use Rattle.rules.specs.Judge.{declare, opened, in_topic, begun, with_attribute}

@@ -14,7 +14,8 @@ use Rattle.rules.specs.Grammar as G
 use Rattle.rules.specs.Declarations as D
 use Rattle.rules.specs.Declarations.{Def, Sort, sort_number, is_found, State, resolve}
 use Rattle.rules.specs.Book.{no_base, base_number}
-use Rattle.rules.specs.Judge.{has_twice, has_abstract, has_final, first_place, bases_of, resolved, may_extend, extends_rules}
+use Rattle.rules.specs.Judge.{has_twice, has_abstract, has_final, first_place, bases_of, resolved, may_extend}
+use Rattle.rules.specs.Judge.{extends_rules}
 use Rattle.ground.specs.declared.Reference.{Reference}
 use Rattle.ground.specs.declared.Reference.TheVariants.{Bare, InModel, InTopic}
 use Rattle.enumerations.specs.Standing.{InText}

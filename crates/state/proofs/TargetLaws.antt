@@ -15,7 +15,8 @@ use Rattle.rules.specs.Grammar.{WrittenType}
 use Rattle.rules.specs.Declarations as D
 use Rattle.rules.specs.Declarations.{Def, Sort, sort_number, is_found}
 use Rattle.rules.specs.Units.{is_given}
-use Rattle.rules.specs.Judge.{rule, first_place, place_of, or_no_def, reference_in, is_naming, may_extend, may_type, may_stand_in}
+use Rattle.rules.specs.Judge.{rule, first_place, place_of, or_no_def, reference_in, is_naming, may_extend, may_type}
+use Rattle.rules.specs.Judge.{may_stand_in}
 use Rattle.rules.specs.Judge.{extends_rules}
 use Rattle.rules.specs.All.{AnyIs}
 use Rattle.ground.specs.declared.Reference.{Reference}
@@ -174,7 +175,8 @@ pub earlier-among : (c : Sort) (b : Option G.Reference) (o : Option Def) (w : Op
     → earlier_of (ruling_of (extends_rules c b o)) (ruling_of (target_rules w g)) ≡ ruling_of (among_rules c b o w g)
 unfolding extends_rules
 earlier-among c b o w g =
-    go (place_of b) (place_of (reference_in w)) (is_given b && not (is_found o)) (is_given (reference_in w) && not (is_found g))
+    go (place_of b) (place_of (reference_in w)) (is_given b && not (is_found o))
+    (is_given (reference_in w) && not (is_found g))
     (is_found o && not (may_extend c (or_no_def o).sort)) (is_found g && not (may_stand_in w (or_no_def g).sort))
     (or_no_def o).final
   where

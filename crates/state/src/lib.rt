@@ -443,7 +443,8 @@ pub fn extends(text: &[u8], work: &[u16], st: State, sort: usize, base: Optional
 // What the reference that stands in a type leads to: its position, 0 for nothing.
 pub fn target(text: &[u8], work: &[u16], st: State, reference: Optional) -> usize
     requires inside { Inside text.now st.context.model × Ample st (length work.now) }
-    requires reference_value { (b : Option G.Reference) × (reference ≡ optional_of b) × AnyIs (FairReference text.now) b }
+    requires reference_value { (b : Option G.Reference) × (reference ≡ optional_of b)
+        × AnyIs (FairReference text.now) b }
     ensures { (result ≤ st.listing.count)
         × ((s : D.State) (b : Option G.Reference) (o hs : List ℕ)
         → Kept text.now s st o work.now hs

@@ -102,7 +102,8 @@ blank-apart b e = at (or_split {x = is " " b} e)
 module _ (k : ℕ) (s : List ℕ) where
   abbrev signed : ℕ → Symbol
   signed b =
-      cond (is_digit (get_or s 0 0)) (a_number k (take (suc (unsigned_length s)) (b ∷ s))) (symbol (fault no_symbol) k [])
+      cond (is_digit (get_or s 0 0)) (a_number k (take (suc (unsigned_length s)) (b ∷ s)))
+      (symbol (fault no_symbol) k [])
 
   of-sign : (b : ℕ) → (b ≡ 43) ⊎ (b ≡ 45) → symbol_of k (b ∷ s) ≡ signed b
   unfolding symbol_of
@@ -137,7 +138,8 @@ module _ (t : List ℕ) (i : ℕ) (x : Line) (h : i < length t) (l : get_or t i 
     where
       at : symbol_at t i ≡ aWord i (part t i (run_end is_word_byte t (i + 1) - i))
       at =
-          let n : suc i + span is_word_byte (drop (suc i) t) - i ≡ suc (span is_word_byte (drop (suc i) t)) = omega arith in
+          let n : suc i + span is_word_byte (drop (suc i) t) - i
+          ≡ suc (span is_word_byte (drop (suc i) t)) = omega arith in
           here Letter c refl ∙ rw (add-one i, n, drop-cons t i 0 h, class-first b Letter l c)
 
   pub next-digit : class_of b ≡ Digit → next t i x ≡ cut_on x (a_number i (part t i (unsigned_length (drop i t))))

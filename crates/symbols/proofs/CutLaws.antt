@@ -12,10 +12,12 @@ use lib.Dec.{eqb, leb, ltb}
 use borrow.Author.Tests.{ltb-false, leb-true, eqb-true, eq-eqb, ne_eqb}
 use Rattle.rules.specs.Bytes.{same, is_one_of, is, from, is_letter, is_digit, is_word_byte, is_line_end, span}
 use Rattle.rules.specs.Reserved.{forms, table}
-use Rattle.rules.specs.Symbols.{Fault, Kind, word, name, number, quoted, dots, stop, mark, fault, Symbol, symbol, end_of}
+use Rattle.rules.specs.Symbols.{Fault, Kind, word, name, number, quoted, dots, stop, mark, fault, Symbol, symbol}
+use Rattle.rules.specs.Symbols.{end_of}
 use Rattle.rules.specs.Symbols.{tag}
 use Rattle.rules.specs.Symbols.{Gap, up_to, open_at, apart, gap, Quote, closed, bad, endless, quote, unsigned_length}
-use Rattle.rules.specs.Symbols.{digit_count, word_kind, number_kind, aWord, a_number, aString, is_mark_byte, symbol_of, beyond}
+use Rattle.rules.specs.Symbols.{digit_count, word_kind, number_kind, aWord, a_number, aString, is_mark_byte, symbol_of}
+use Rattle.rules.specs.Symbols.{beyond}
 use Rattle.rules.specs.Symbols.{symbol_at, most_digits}
 use Rattle.rules.proofs.Tests.{never, alike, or_split, split}
 use Rattle.rules.proofs.ByteLaws.{same-eq, same_refl}
@@ -50,7 +52,8 @@ span_run p (b ∷ s) = go (p b) refl (span_run p s)
     go false e h = refl
 
 -- a word is a letter with word bytes behind it
-word_sound : (b : ℕ) (s : List ℕ) → is_letter b ≡ true → span is_word_byte s ≡ length s → Sound (word_kind (b ∷ s)) (b ∷ s)
+word_sound : (b : ℕ) (s : List ℕ) → is_letter b ≡ true → span is_word_byte s ≡ length s
+    → Sound (word_kind (b ∷ s)) (b ∷ s)
 word_sound b s l q =
     either (λ k. Sound k w) (ltb 255 (length w)) (λ _. tt)
     (λ e. either (λ k. Sound k w) (is_one_of w forms) (λ f. f)
@@ -242,7 +245,8 @@ stop-of (fault f) b s = refl
 stop-of (mark x) b s = neither (7 + x) 5 x 0 (λ e. omega arith) (λ e. omega arith)
 
 -- a word of a list that is at another's position is that other
-position-same : (b w : List ℕ) (l : List (List ℕ)) → is_one_of b l ≡ true → position b l ≡ position w l → same b w ≡ true
+position-same : (b w : List ℕ) (l : List (List ℕ)) → is_one_of b l ≡ true
+    → position b l ≡ position w l → same b w ≡ true
 position-same b w [] h e = never h
 position-same b w (v ∷ l) h e =
     let go = position-same b w l in

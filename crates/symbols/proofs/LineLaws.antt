@@ -35,7 +35,8 @@ escape-level (b ∷ s) =
     either (λ n. Level (take n (b ∷ s))) (is "\"" b || is "\\" b)
     (λ e. (no_end (λ x. is "\"" x || is "\\" x) refl refl b e, tt))
     (λ _. either (λ n. Level (take n (b ∷ s))) (is "u" b && (is_hexadecimal (get_or s 0 0)
-    && (is_hexadecimal (get_or s 1 0) && (is_hexadecimal (get_or s 2 0) && is_hexadecimal (get_or s 3 0))))) five (λ _. tt))
+    && (is_hexadecimal (get_or s 1 0) && (is_hexadecimal (get_or s 2 0) && is_hexadecimal (get_or s 3 0)))))
+    five (λ _. tt))
   where
     hex : (a : ℕ) → is_hexadecimal a ≡ true → is_line_end a ≡ false
     hex = no_end is_hexadecimal refl refl

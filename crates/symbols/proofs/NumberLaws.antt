@@ -25,7 +25,9 @@ use Rattle.scans.proofs.EscapeLaws.{stands}
 
 count-append : (x y : List ℕ) → digit_count (x ++ y) ≡ digit_count x + digit_count y
 count-append [] y = sym (omega arith)
-count-append (b ∷ x) y = let go = count-append x y in test (is_digit b) (λ e. rw (e, go) (omega arith)) (λ e. rw (e, go))
+count-append (b ∷ x) y =
+    let go = count-append x y in
+    test (is_digit b) (λ e. rw (e, go) (omega arith)) (λ e. rw (e, go))
 
 count-run : (s : List ℕ) → digit_count (take (span is_digit s) s) ≡ span is_digit s
 count-run [] = refl
@@ -82,13 +84,15 @@ module _ (t : List ℕ) (at sign : ℕ) where
   module _ (l : Line) (h : at + sign ≤ length t) (z : digit_count (part t at sign) ≡ 0) (e f : ℕ)
       (p : e ≡ run_end is_digit t (at + sign)) (q : f ≡ fraction_end t e) where
     abbrev Cut : ℕ → Type 0
-    Cut n = cut_on l (a_number at (part t at (sign + unsigned_length (drop (at + sign) t)))) ≡ number_cut at (f - at) n l
+    Cut n =
+        cut_on l (a_number at (part t at (sign + unsigned_length (drop (at + sign) t)))) ≡ number_cut at (f - at) n l
 
     fits : (n : ℕ) → f ≤ length t → at + sign ≤ f → digit_count (part t (at + sign) (f - (at + sign))) ≡ n → Cut n
     fits n m g c =
         let u : unsigned_length (drop (at + sign) t) ≡ f - (at + sign) = unsigned ∙ rw (← p, ← q) in
         let k : sign + (f - (at + sign)) ≡ f - at = omega arith in
-        rw u (number_cut_lem at (f - at) n l (part t at (sign + (f - (at + sign)))) (length_part t at _ (omega arith) ∙ k)
+        rw u
+        (number_cut_lem at (f - at) n l (part t at (sign + (f - (at + sign)))) (length_part t at _ (omega arith) ∙ k)
         (count z (f - (at + sign)) ∙ c))
 
     pub number-whole : f ≤ e → cut_on l (a_number at (part t at (sign + unsigned_length (drop (at + sign) t))))

@@ -45,7 +45,8 @@ module _ (c : Typing) (n : ℕ) (target : Option Def) (i : n ≡ unit_number (me
   meant-valued {m} w b e v = rw e (meant_is w b v)
 
 -- ---- 17 of what is written
-none-fits : (m : Bool) (n : ℕ) (b : Ty) → n ≡ 0 → kind_of (text m (some n)) ≡ kind_of b → fits (text m (some n)) b ≡ true
+none-fits : (m : Bool) (n : ℕ) (b : Ty) → n ≡ 0 → kind_of (text m (some n)) ≡ kind_of b
+    → fits (text m (some n)) b ≡ true
 none-fits m n (text k none) z e = rw (same_kind m k e)
 none-fits m n (text k (some l)) z e = rw (same_kind m k e, le-leb n l (omega arith))
 none-fits m n (numeric r u) z e = no_text m 3 (omega arith) e

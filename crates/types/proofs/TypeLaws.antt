@@ -99,7 +99,8 @@ laid-book o o₁ o₂ B h l u b e f g p q =
     let n : length (take (u + head_size) o) ≡ u + head_size = length-take-le (u + head_size) o (omega arith) in
     let p' : o₁ ≡ take (u + head_size) o ++ (l ++ d) = p ∙ append_assoc (take (u + head_size) o) l d in
     let front : take u o₁ ≡ B =
-    rw p' (take-append-le u (take (u + head_size) o) (l ++ d) (omega arith) ∙ take-take u (u + head_size) o (omega arith))
+    rw p'
+    (take-append-le u (take (u + head_size) o) (l ++ d) (omega arith) ∙ take-take u (u + head_size) o (omega arith))
     ∙ b in
     let back : drop (u + length h) o₁
     ≡ l ++ d = rw (g, p') (drop_at (take (u + head_size) o) (l ++ d) (u + head_size) n) in

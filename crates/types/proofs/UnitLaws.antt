@@ -41,7 +41,8 @@ module _ (ks : List Def) (p : ℕ) where
       → ¬ (b ≡ 0) → is_among (b - 1) (bases_of (entry ks p)) ≡ unit_fits (measure_in (entry ks p)) (unit_of y)
   unit-some x c r b y h e z = go (unit_of y) h e
     where
-      go : (u : Option Measure) → AnyIs (λ (m : Measure). (d : Def) × In d ks × (measure_of d ≡ m)) u → b ≡ unit_number u
+      go : (u : Option Measure) → AnyIs (λ (m : Measure). (d : Def) × In d ks × (measure_of d ≡ m)) u
+          → b ≡ unit_number u
           → is_among (b - 1) (bases_of (entry ks p)) ≡ unit_fits (measure_in (entry ks p)) u
       go none h e = absurd (z e)
       go (some m) (d, i, k) e =

@@ -4,8 +4,10 @@
 
 ghost use Rattle.std.specs.Prelude.{◌≡◌, true, cond, not, ◌&&◌, ◌||◌, List, ℕ, ◌*◌, ◌≤◌, length, eqb};
 ghost use Rattle.rules.specs.Names.{sort_number};
-ghost use Rattle.rules.specs.Units.{header_unit, model_unit, topic_unit, class_sort, class_unit, domain_unit, unit_unit};
-ghost use Rattle.rules.specs.Units.{attribute_unit, end_unit, of_domains, of_units, body_end, body_unit, member_unit, unit_at};
+ghost use Rattle.rules.specs.Units.{header_unit, model_unit, topic_unit, class_sort, class_unit, domain_unit};
+ghost use Rattle.rules.specs.Units.{unit_unit};
+ghost use Rattle.rules.specs.Units.{attribute_unit, end_unit, of_domains, of_units, body_end, body_unit, member_unit};
+ghost use Rattle.rules.specs.Units.{unit_at};
 ghost use Rattle.readers.specs.Reads.{Held, Reads};
 ghost use Rattle.units.specs.Steps.{around_of, run_of, behind_of, place_of, end_mark, language, anything};
 ghost use Rattle.units.specs.Steps.{run_unit, Steps, ended_of};

@@ -15,16 +15,19 @@ use Rattle.rules.specs.Numbers.{Range}
 use Rattle.rules.specs.Enumerations.{Enum}
 use Rattle.rules.specs.Types.{Ty, text, numeric, structure, enum, unit_of}
 use Rattle.rules.specs.Declarations as D
-use Rattle.rules.specs.Declarations.{Link, Use, inline, of_domain, of_structure, ty_of, Attribute, Sort, domain, is_sort}
+use Rattle.rules.specs.Declarations.{Link, Use, inline, of_domain, of_structure, ty_of, Attribute, Sort, domain}
+use Rattle.rules.specs.Declarations.{is_sort}
 use Rattle.rules.specs.Declarations.{Def}
 use Rattle.rules.specs.Declarations.{link_of, measure_in, attributes_of, is_found, Decl, def, State, known, topic_name}
 use Rattle.rules.specs.Book.{records}
-use Rattle.rules.specs.Judge.{ok, or_no_def, or_no_attribute, has_extended, resolved, bases_of, merged_into, range_in, meant}
+use Rattle.rules.specs.Judge.{ok, or_no_def, or_no_attribute, has_extended, resolved, bases_of, merged_into, range_in}
+use Rattle.rules.specs.Judge.{meant}
 use Rattle.rules.specs.Judge.{domain_type, naming}
 use Rattle.rules.specs.Judge.{attribute_use, reference_in, is_naming, element_rule, type_rules, may_type, may_stand_in}
 use Rattle.rules.specs.Judge.{is_domain, is_numeric, has_twice}
 use Rattle.rules.specs.Judge.{declare, opened, in_topic, new_topic, after_topic, new_class, new_domain}
-use Rattle.rules.specs.Judge.{domain_to_16, domain_rules, new_attribute, with_attribute, attribute_to_16, attribute_rules}
+use Rattle.rules.specs.Judge.{domain_to_16, domain_rules, new_attribute, with_attribute, attribute_to_16}
+use Rattle.rules.specs.Judge.{attribute_rules}
 use Rattle.rules.specs.Judge.{inherited_as, member_rules, after_member, after_close, rules_of, next_state, judge}
 use Rattle.rules.specs.All.{All, AnyIs, In, Unbroken}
 use Rattle.rules.proofs.Tests.{never, not-fails, or-fails}

@@ -19,12 +19,14 @@ use Rattle.rules.specs.Numbers.{digits}
 use Rattle.rules.specs.Enumerations.{Enum}
 use Rattle.rules.specs.Grammar.{enough, properties_from, properties, reference, extends, close_final, deepest}
 use Rattle.rules.specs.Grammar.{opening_bracket, enumeration, elements, element, WrittenType, is_length, text_length}
-use Rattle.rules.specs.Grammar.{text_type, unit_reference, optional_unit, range_type, numeric_type, type_of, type_or_reference}
+use Rattle.rules.specs.Grammar.{text_type, unit_reference, optional_unit, range_type, numeric_type, type_of}
+use Rattle.rules.specs.Grammar.{type_or_reference}
 use Rattle.rules.specs.Grammar.{place_of_next, written}
 use Rattle.rules.specs.Units as U
 use Rattle.rules.specs.Units.{Around, is_model, of_domains, of_units, is_head, Where, start, after_header, over, body}
 use Rattle.rules.specs.Units.{members, Step}
-use Rattle.rules.specs.Units.{is_given, header_unit, model_unit, topic_unit, class_unit, domain_unit, attribute_unit, end_unit}
+use Rattle.rules.specs.Units.{is_given, header_unit, model_unit, topic_unit, class_unit, domain_unit, attribute_unit}
+use Rattle.rules.specs.Units.{end_unit}
 use Rattle.rules.specs.Units.{unit_unit, word_step, body_end, body_unit, member_unit, last_step, unit_at}
 use Rattle.rules.specs.Judge.{is_naming}
 use Rattle.readers.specs.Reads.{Stands}

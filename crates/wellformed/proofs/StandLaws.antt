@@ -13,8 +13,10 @@ use Rattle.rules.specs.Grammar.{Reference, Written, properties, extends, written
 use Rattle.rules.specs.Units as U
 use Rattle.rules.specs.Units.{Strings, Around, is_model, Run, of_domains, of_units, Behind, is_head, Where, start}
 use Rattle.rules.specs.Units.{after_header, over}
-use Rattle.rules.specs.Units.{body, members, Step, is_given, header_unit, model_unit, topic_unit, class_unit, domain_unit}
-use Rattle.rules.specs.Units.{unit_unit, attribute_unit, end_unit, word_step, body_end, body_unit, member_unit, last_step}
+use Rattle.rules.specs.Units.{body, members, Step, is_given, header_unit, model_unit, topic_unit, class_unit}
+use Rattle.rules.specs.Units.{domain_unit}
+use Rattle.rules.specs.Units.{unit_unit, attribute_unit, end_unit, word_step, body_end, body_unit, member_unit}
+use Rattle.rules.specs.Units.{last_step}
 use Rattle.rules.specs.Units.{unit_at}
 use Rattle.rules.specs.Declarations.{Def, is_found, State}
 use Rattle.rules.specs.Judge.{Rule, ok, first_broken_or, after_member, after_close, rules_of, next_state, judge}

@@ -8,7 +8,8 @@ use lib.ListN.{length}
 use lib.Dec.{eqb}
 use borrow.Author.Tests.{eqb-true}
 use Rattle.rules.specs.Names.{name_of}
-use Rattle.rules.specs.Symbols.{Kind, word, name, number, quoted, dots, stop, mark, fault, Symbol, end_of, symbol_at, tag}
+use Rattle.rules.specs.Symbols.{Kind, word, name, number, quoted, dots, stop, mark, fault, Symbol, end_of, symbol_at}
+use Rattle.rules.specs.Symbols.{tag}
 use Rattle.rules.specs.Symbols.{is_kind, is_name_text}
 use Rattle.rules.proofs.Tests.{never}
 use Rattle.numbers.proofs.SymbolLaws.{Sized, number-sized}

@@ -16,7 +16,8 @@ use Rattle.rules.specs.Types.{Ty, text, numeric, structure, enum}
 use Rattle.rules.specs.Declarations as D
 use Rattle.rules.specs.Declarations.{Use, inline, of_domain, of_structure, ty_of, Sort, domain, is_sort, Def, link_of}
 use Rattle.rules.specs.Declarations.{is_found}
-use Rattle.rules.specs.Judge.{or_no_def, merged_into, meant, naming, attribute_use, reference_in, is_naming, element_rule}
+use Rattle.rules.specs.Judge.{or_no_def, merged_into, meant, naming, attribute_use, reference_in, is_naming}
+use Rattle.rules.specs.Judge.{element_rule}
 use Rattle.rules.specs.Judge.{type_rules}
 use Rattle.rules.proofs.Tests.{never}
 use Rattle.rules.proofs.NumberLaws.{in_order_lem}

@@ -99,7 +99,8 @@ pub no_last : (t : List ℕ) (at n : ℕ) → 0 < n → at + n ≤ length t
 no_last t at n z h l =
     let m : at + (n - 1) ≡ at + n - 1 = omega arith in
     let e : get_or (part t at n) (n - 1) 0
-    ≡ get_or t (at + n - 1) 0 = get_or-take n (drop at t) (n - 1) 0 (omega arith) ∙ rw m at (get_or-drop at t (n - 1) 0) in
+    ≡ get_or t (at + n - 1) 0 =
+    get_or-take n (drop at t) (n - 1) 0 (omega arith) ∙ rw m at (get_or-drop at t (n - 1) 0) in
     no_word (part t at n) (λ w. leb (get_or w (length w - 1) 0) 90) refl (rw (length_part t at n h, e) (lt-leb _ _ l))
 
 -- a length below hi, from lo on, that no reserved word has
@@ -120,7 +121,8 @@ pub word-found : (t list : List ℕ) (at len n r : ℕ) → at + len ≤ length 
     → ((l : List (List ℕ)) → list ≡ rows l → are_long len l ≡ true → r ≡ code_among (part t at len) l)
     → r ≡ word_code (part t at len)
 word-found t list at len n r h e q f =
-    let g : are_long len (words_of n forms table) ≡ true = subst⁻¹ (λ (x : ℕ). are_long x (words_of n forms table) ≡ true) e
+    let g : are_long len (words_of n forms table)
+    ≡ true = subst⁻¹ (λ (x : ℕ). are_long x (words_of n forms table) ≡ true) e
     (those-long n (forms ++ those (λ w. not (is_one_of w forms)) table)) in
     f (words_of n forms table) q g ∙ code_of (part t at len) n (length_part t at len h ∙ e)
 

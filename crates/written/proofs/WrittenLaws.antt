@@ -120,7 +120,8 @@ misfit-units (some (G.named r)) x b h = never (sym h)
 
 module _ (t : List ℕ) (based : Bool) (p : ℕ) (w : Option WrittenType) (x : Option Def) (b : Ty)
     (fair : FairOrNone t b) (r : is_naming w ≡ false) where
-  pub written-split : ruling_of (written_rules based p w x b) ≡ cond (ltb 0 (ruling_of (plain_rules based p w x b)).number)
+  pub written-split : ruling_of (written_rules based p w x b)
+      ≡ cond (ltb 0 (ruling_of (plain_rules based p w x b)).number)
       (ruling_of (plain_rules based p w x b)) (ruling_of (rule 17 p (based && not (merge_fits w b)) ∷ []))
   unfolding last
   written-split =

@@ -11,6 +11,7 @@ use Rattle.answers.proofs.finish.Goals as goal
 pub returns : goal.returns
 returns c =
     let b = c.args.book.now in
-    subst (λ (n : ℕ). put_mid c.kept-n.result (length b - c.kept-n.result) b c.clear.new.out ≡ padded (take n b) (length b))
+    subst
+    (λ (n : ℕ). put_mid c.kept-n.result (length b - c.kept-n.result) b c.clear.new.out ≡ padded (take n b) (length b))
     c.kept-n.ensures
     (cleared-behind c.kept-n.result b _ (omega (arith, c.kept-n.ensures, c.requires)) c.clear.ensures)

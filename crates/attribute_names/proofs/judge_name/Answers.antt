@@ -11,32 +11,38 @@ slot_of-first-requires c =
     (c.requires.inside.1, c.requires.inside.2, c.requires.in_hand_bound.0, c.requires.in_hand_bound.1)
 
 pub returns-then-r-gt0 : goal.returns-then-r-gt0
-returns-then-r-gt0 c =
-    (
-      stopped-within c.args.st _ c.if-r-gt0.true _ c.stopped.ensures,
-      λ q d n p w o k ec g. stopped-name q d n (has_extended p) w.type c.args.hand.now
-          c.args.st.context.in_hand _
-          (c.slot_of-first.ensures.2 q d n p w o c.args.scratch.now k ec g).ruling c.if-r-gt0.true _ c.stopped.ensures,
-    )
+returns-then-r-gt0 c = (
+  stopped-within c.args.st _ c.if-r-gt0.true _ c.stopped.ensures,
+  λ q d n p w o k ec g. stopped-name q d n (has_extended p) w.type c.args.hand.now
+      c.args.st.context.in_hand _
+      (c.slot_of-first.ensures.2 q d n p w o c.args.scratch.now k ec g).ruling c.if-r-gt0.true _ c.stopped.ensures,
+)
 
 pub element_ruling-e-requires : goal.element_ruling-e-requires
 element_ruling-e-requires c =
     (c.requires.scratch_len_bound.0, c.requires.scratch_len_bound.1)
 
 pub returns-then-e-gt0 : goal.returns-then-e-gt0
-returns-then-e-gt0 c =
-    (
-      stopped-within c.args.st _ c.if-e-gt0.true _ c.stopped-then-e-gt0.ensures,
-      λ q d n p w o k ec g. stopped-element q d n (has_extended p) w.type c.args.hand.now
-          c.args.st.context.in_hand _
-          (c.slot_of-first.ensures.2 q d n p w o c.args.scratch.now k ec g).ruling c.if-r-gt0.false _
-          (c.element_ruling-e.ensures w.type
-          (is-meant c.args.text.now n p w c.args.scratch.now c.args.a g) g.scratched)
-          c.if-e-gt0.true _ c.stopped-then-e-gt0.ensures,
-    )
+returns-then-e-gt0 c = (
+  stopped-within c.args.st _ c.if-e-gt0.true _ c.stopped-then-e-gt0.ensures,
+  λ q d n p w o k ec g. stopped-element q d n (has_extended p) w.type c.args.hand.now
+      c.args.st.context.in_hand _
+      (c.slot_of-first.ensures.2 q d n p w o c.args.scratch.now k ec g).ruling c.if-r-gt0.false _
+      (c.element_ruling-e.ensures w.type
+      (is-meant c.args.text.now n p w c.args.scratch.now c.args.a g) g.scratched)
+      c.if-e-gt0.true _ c.stopped-then-e-gt0.ensures,
+)
 
 pub reach-requires : goal.reach-requires
-reach-requires c = record { inside = (c.requires.inside.0, c.requires.inside.2, omega (arith, c.slot_of-first.ensures.0, c.requires.in_hand_bound.0), c.requires.in_hand_bound.1); reference_value = c.requires.reference_value }
+reach-requires c = record {
+  inside = (
+    c.requires.inside.0,
+    c.requires.inside.2,
+    omega (arith, c.slot_of-first.ensures.0, c.requires.in_hand_bound.0),
+    c.requires.in_hand_bound.1,
+  );
+  reference_value = c.requires.reference_value;
+}
 
 pub returns : goal.returns
 returns c = (

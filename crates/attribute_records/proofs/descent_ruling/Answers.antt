@@ -40,7 +40,8 @@ returns-then-is_descendant c =
     let ej = c.is_descendant.ensures c.args.text.now c.args.front.now ks ms y total d
     (or_no_attribute o).use_of r e eu h in
     c.fine-then-is_descendant.ensures
-    ∙ descent-fine c.args.place (is_found o) (naming d) (or_no_attribute o).use_of f1 c.differ.result ei c.if-differ.false
+    ∙ descent-fine c.args.place (is_found o) (naming d)
+    (or_no_attribute o).use_of f1 c.differ.result ei c.if-differ.false
     c.is_descendant.result ej c.if-is_descendant.true
 
 pub returns-then-fits_in_book : goal.returns-then-fits_in_book
@@ -57,7 +58,8 @@ returns-then-fits_in_book c =
     let el = c.fits_in_book.ensures (ty_of (naming d)) (ty_of (or_no_attribute o).use_of)
     (fair-naming c.args.text.now d (r.types c.args.u.named d e))
     (any-fair c.args.text.now o f) to tv h in
-    descent-other c.args.place (is_found o) (naming d) (or_no_attribute o).use_of f1 c.differ.result ei c.if-differ.false
+    descent-other c.args.place (is_found o) (naming d)
+    (or_no_attribute o).use_of f1 c.differ.result ei c.if-differ.false
     c.is_descendant.result ej c.if-is_descendant.false c.fits_in_book.result el c.if-fits_in_book.true
 
 pub returns : goal.returns
@@ -74,5 +76,6 @@ returns c =
     let el = c.fits_in_book.ensures (ty_of (naming d)) (ty_of (or_no_attribute o).use_of)
     (fair-naming c.args.text.now d (r.types c.args.u.named d e))
     (any-fair c.args.text.now o f) to tv h in
-    descent-unfit c.args.place (is_found o) (naming d) (or_no_attribute o).use_of f1 c.differ.result ei c.if-differ.false
+    descent-unfit c.args.place (is_found o) (naming d)
+    (or_no_attribute o).use_of f1 c.differ.result ei c.if-differ.false
     c.is_descendant.result ej c.if-is_descendant.false c.fits_in_book.result el c.if-fits_in_book.false

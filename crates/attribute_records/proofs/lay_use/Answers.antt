@@ -87,7 +87,11 @@ returns-then-k-gt0 c =
 
 pub lay_written-requires : goal.lay_written-requires
 lay_written-requires c =
-    record { sized = (c.requires.sized.0, c.requires.sized.1); used_in_bounds = (c.requires.used_in_bounds.0, c.requires.used_in_bounds.1, c.requires.used_in_bounds.2); tables_for = c.requires.used_in_bounds.3 }
+    record {
+      sized = (c.requires.sized.0, c.requires.sized.1);
+      used_in_bounds = (c.requires.used_in_bounds.0, c.requires.used_in_bounds.1, c.requires.used_in_bounds.2);
+      tables_for = c.requires.used_in_bounds.3;
+    }
 
 pub returns : goal.returns
 returns c =

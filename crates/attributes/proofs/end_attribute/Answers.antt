@@ -25,33 +25,37 @@ put_head-f-requires c =
     )
 
 pub enter_member-requires : goal.enter_member-requires
-enter_member-requires c =
-    (
-      c.requires.used_in_bounds.3,
-      record {
-        offset = omega (arith, c.requires.len_bound.0);
-        size = omega (arith, c.requires.len_bound.0);
-        number = omega (arith, c.requires.used_in_bounds.0, c.requires.used_in_bounds.1, c.requires.used_in_bounds.2.fewer);
-        place = omega (arith, c.requires.used_in_bounds.0, c.requires.used_in_bounds.1);
-        flags = omega (arith, c.wide.ensures.1);
-        used = omega (arith, c.requires.used_in_bounds.0, c.requires.used_in_bounds.1, c.requires.within.3, c.requires.used_in_bounds.2.rows);
-      },
-    )
+enter_member-requires c = (
+  c.requires.used_in_bounds.3,
+  record {
+    offset = omega (arith, c.requires.len_bound.0);
+    size = omega (arith, c.requires.len_bound.0);
+    number = omega (arith, c.requires.used_in_bounds.0, c.requires.used_in_bounds.1, c.requires.used_in_bounds.2.fewer);
+    place = omega (arith, c.requires.used_in_bounds.0, c.requires.used_in_bounds.1);
+    flags = omega (arith, c.wide.ensures.1);
+    used = omega (
+      arith,
+      c.requires.used_in_bounds.0,
+      c.requires.used_in_bounds.1,
+      c.requires.within.3,
+      c.requires.used_in_bounds.2.rows,
+    );
+  },
+)
 
 pub overflow_add-q : goal.overflow_add-q
 overflow_add-q c =
     omega (arith, c.requires.used_in_bounds.0, c.requires.used_in_bounds.1, c.requires.used_in_bounds.2.rows)
 
 pub hold-n-requires : goal.hold-n-requires
-hold-n-requires c =
-    (
-      c.requires.within.0.slot,
-      c.requires.within.2,
-      c.requires.within.0.few c.requires.within.1,
-      omega (arith, c.requires.used_in_bounds.0, c.requires.used_in_bounds.1, c.requires.used_in_bounds.2.fewer),
-      omega (arith, c.requires.used_in_bounds.0, c.requires.used_in_bounds.1, c.requires.used_in_bounds.2.rows),
-      c.requires.used_in_bounds.4,
-    )
+hold-n-requires c = (
+  c.requires.within.0.slot,
+  c.requires.within.2,
+  c.requires.within.0.few c.requires.within.1,
+  omega (arith, c.requires.used_in_bounds.0, c.requires.used_in_bounds.1, c.requires.used_in_bounds.2.fewer),
+  omega (arith, c.requires.used_in_bounds.0, c.requires.used_in_bounds.1, c.requires.used_in_bounds.2.rows),
+  c.requires.used_in_bounds.4,
+)
 
 pub overflow_add-size : goal.overflow_add-size
 overflow_add-size c =
@@ -72,9 +76,16 @@ with_member-requires c =
       bytes_bound = (
         omega (arith, c.requires.used_in_bounds.1, r),
         omega (arith, c.requires.used_in_bounds.1, c.requires.len_bound.1, c.requires.used_in_bounds.2.fewer, r),
-        omega (arith, c.requires.used_in_bounds.1, c.requires.used_in_bounds.2.fewer, c.requires.used_in_bounds.2.defined, r),
+        omega (
+          arith,
+          c.requires.used_in_bounds.1,
+          c.requires.used_in_bounds.2.fewer,
+          c.requires.used_in_bounds.2.defined,
+          r,
+        ),
       );
-      total_bound = omega (arith, c.requires.used_in_bounds.0, c.requires.used_in_bounds.1, c.requires.used_in_bounds.2.rows);
+      total_bound =
+          omega (arith, c.requires.used_in_bounds.0, c.requires.used_in_bounds.1, c.requires.used_in_bounds.2.rows);
     }
 
 pub shape_of-book-then-has_room : goal.shape_of-book-then-has_room
@@ -88,7 +99,8 @@ returns-then-has_room c =
     let v = c.put_head-f.ensures.1 t (book q) (known q.decls) (attributes_in q) x.hand
     c.args.st.context.in_hand n ps w rs (held-front h el c.requires.used_in_bounds.1) h.given x.filled
     (h.at_slot x) in
-    end-fine h el c.requires.used_in_bounds.1 (sym c.has_room.ensures ∙ c.if-has_room.true) c.wide.result (c.wide.ensures.0 ∙ v.0) _
+    end-fine h el c.requires.used_in_bounds.1
+    (sym c.has_room.ensures ∙ c.if-has_room.true) c.wide.result (c.wide.ensures.0 ∙ v.0) _
     v.1 _ refl _ _ _ c.enter_member.ensures.0 c.enter_member.ensures.2 c.enter_member.ensures.1 _
     c.hold-n.result c.hold-n.ensures.0 c.hold-n.ensures.1 c.requires.within.3
     (attribute_rows c.args.st c.args.work.now c.requires.used_in_bounds.3 (c.args.st.listing.total + 1) (omega arith)) _
@@ -96,5 +108,6 @@ returns-then-has_room c =
 
 pub returns : goal.returns
 returns c =
-    λ t q o rs d n p w el h. end-over h el c.requires.used_in_bounds.1 (sym c.has_room.ensures ∙ c.if-has_room.false) _ refl
+    λ t q o rs d n p w el h.
+    end-over h el c.requires.used_in_bounds.1 (sym c.has_room.ensures ∙ c.if-has_room.false) _ refl
     c.refused.result c.refused.ensures _ _ _ _ _

@@ -18,7 +18,11 @@ pub judge_name-b-requires : goal.judge_name-b-requires
 judge_name-b-requires c =
     let (q, n, p, w, k, m) = c.requires.by_index in
     let g = unit-is k m in record {
-      inside = (k.model.inside, name-inside c.args.text.now n p w c.args.scratch.now c.args.a g, c.requires.text_len_bound.3);
+      inside = (
+        k.model.inside,
+        name-inside c.args.text.now n p w c.args.scratch.now c.args.a g,
+        c.requires.text_len_bound.3,
+      );
       in_hand_bound = (k.hand, c.requires.text_len_bound.4);
       scratch_len_bound = (c.requires.text_len_bound.2, omega (arith, c.requires.tables_for));
       reference_value = (
@@ -55,7 +59,8 @@ returns-then-k-gt0 c =
     (ready c.args.text.now q c.args.st c.args.book.now _ _ _ c.args.hand.now c.requires.text_len_bound.1 k) me
     g.fair.type rt in
     judged-refused c.args.text.now q (U.attribute n p w) c.args.book.now c.args.st
-    c.refused-then-k-gt0.result _ _ _ _ _ _ _ (judged-second k m ei z c.judge_types-k.ensures.0 ri c.if-k-gt0.true) c.refused-then-k-gt0.ensures
+    c.refused-then-k-gt0.result _ _ _ _ _ _ _
+    (judged-second k m ei z c.judge_types-k.ensures.0 ri c.if-k-gt0.true) c.refused-then-k-gt0.ensures
 
 pub lay_use-l-requires : goal.lay_use-l-requires
 lay_use-l-requires c =
@@ -69,7 +74,21 @@ lay_use-l-requires c =
     let ri = c.judge_types-k.ensures.1 c.args.text.now (known q.decls) (attributes_in q) w.type
     (ready c.args.text.now q c.args.st c.args.book.now _ _ _ c.args.hand.now c.requires.text_len_bound.1 k) me
     g.fair.type rt in
-    let same = c.judge_name-b.auto.tables in record { sized = (ri.sized_own, ri.sized_base, omega (arith, c.judge_types-k.ensures.0.named, c.judge_name-b.ensures.0.target), c.judge_types-k.ensures.0.kept, c.requires.text_len_bound.3); used_in_bounds = (k.within, c.requires.text_len_bound.1, c.requires.text_len_bound.2, omega (arith, c.requires.tables_for, same)) }
+    let same = c.judge_name-b.auto.tables in record {
+      sized = (
+        ri.sized_own,
+        ri.sized_base,
+        omega (arith, c.judge_types-k.ensures.0.named, c.judge_name-b.ensures.0.target),
+        c.judge_types-k.ensures.0.kept,
+        c.requires.text_len_bound.3,
+      );
+      used_in_bounds = (
+        k.within,
+        c.requires.text_len_bound.1,
+        c.requires.text_len_bound.2,
+        omega (arith, c.requires.tables_for, same),
+      );
+    }
 
 pub end_attribute-requires : goal.end_attribute-requires
 end_attribute-requires c =
@@ -99,7 +118,10 @@ end_attribute-requires c =
         c.requires.text_len_bound.4,
       );
       within = (c.judge_name-b.ensures.0, omega (arith, z), k.hand, u);
-      len_bound = (omega (arith, c.requires.text_len_bound.0, i), size-solid k m ei z c.judge_types-k.ensures.0 ri y c.lay_use-l.result _ li _ c.in-Whole.is);
+      len_bound = (
+        omega (arith, c.requires.text_len_bound.0, i),
+        size-solid k m ei z c.judge_types-k.ensures.0 ri y c.lay_use-l.result _ li _ c.in-Whole.is,
+      );
     }
 
 pub returns-in-Broken : goal.returns-in-Broken
@@ -120,7 +142,8 @@ returns-in-Broken c =
     c.judge_name-b.result.target w.type ls in
     judged-refused c.args.text.now q (U.attribute n p w) c.args.book.now c.args.st
     c.refused-in-Broken.result _ _ _ _ _ _ _
-    (judged-third k m ei z c.judge_types-k.ensures.0 ri y c.lay_use-l.result _ li _ c.in-Broken.is) c.refused-in-Broken.ensures
+    (judged-third k m ei z c.judge_types-k.ensures.0 ri y c.lay_use-l.result _ li _ c.in-Broken.is)
+    c.refused-in-Broken.ensures
 
 pub shape_of-tables-in-Whole : goal.shape_of-tables-in-Whole
 shape_of-tables-in-Whole c =
@@ -145,6 +168,8 @@ returns-in-Whole c =
     let u = c.use_at-d.ensures.v_value (known q.decls) w.type
     (or_no_attribute (entry (attributes_in q) c.judge_name-b.result.base)).use_of c.judge_name-b.result.target me
     ri.named rt ri.kept in
-    judged-end k m ei z c.judge_types-k.ensures.0 ri y c.lay_use-l.result _ li _ c.in-Whole.is c.end_attribute.result _ _ _ _ _
+    judged-end k m ei z c.judge_types-k.ensures.0 ri y c.lay_use-l.result _ li _ c.in-Whole.is
+    c.end_attribute.result _ _ _ _ _
     (c.end_attribute.ensures c.args.text.now q c.args.book.now c.args.scratch.now d n p w
-    (sym c.lay_use-l.auto.book) (passes k m ei z c.judge_types-k.ensures.0 ri y c.lay_use-l.result _ li _ c.in-Whole.is c.use_at-d.result u))
+    (sym c.lay_use-l.auto.book)
+    (passes k m ei z c.judge_types-k.ensures.0 ri y c.lay_use-l.result _ li _ c.in-Whole.is c.use_at-d.result u))

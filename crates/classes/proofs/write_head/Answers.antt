@@ -16,7 +16,8 @@ base_number-number-requires c =
 pub enter-requires : goal.enter-requires
 enter-requires c = (
   c.requires.head_size_in_bounds.2,
-  class-narrow c.args.st c.args.head c.args.base _ _ c.requires.len_bound.0 c.requires.head_size_in_bounds.0 c.requires.len_bound.1
+  class-narrow c.args.st c.args.head c.args.base _ _ c.requires.len_bound.0
+      c.requires.head_size_in_bounds.0 c.requires.len_bound.1
       c.requires.head_size_in_bounds.1 c.requires.base_le_count.0 c.requires.base_le_count.1 c.wide.ensures.1,
 )
 

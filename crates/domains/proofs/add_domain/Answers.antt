@@ -20,7 +20,10 @@ pub enter_domain-requires : goal.enter_domain-requires
 enter_domain-requires c =
     let (s, n, p, b, w, o, hs, rs, h, l, z) = c.requires.some_sized in
     let v = numbers h c.args.book.now l c.requires.text_len_bound.1 c.args.size z
-    (sym c.has_room.ensures ∙ c.if-has_room.true) in record { inside = (v.inside, c.requires.text_len_bound.0, c.requires.ample); home_bound = (v.home, v.numbered, v.place, v.count, v.total, c.requires.text_len_bound.2) }
+    (sym c.has_room.ensures ∙ c.if-has_room.true) in record {
+      inside = (v.inside, c.requires.text_len_bound.0, c.requires.ample);
+      home_bound = (v.home, v.numbered, v.place, v.count, v.total, c.requires.text_len_bound.2);
+    }
 
 pub overflow_add-size : goal.overflow_add-size
 overflow_add-size c =

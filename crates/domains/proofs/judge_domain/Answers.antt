@@ -11,7 +11,10 @@ use Rattle.domains.proofs.judge_domain.Goals as goal
 pub name_ruling-q-requires : goal.name_ruling-q-requires
 name_ruling-q-requires c =
     let (s, n, p, b, w, hs, k, h) = c.requires.by_index in
-    record { inside = (unit-inside h, c.requires.ample); scratch_len_bound = (c.requires.loan.scratch_short, omega (arith, c.requires.loan.tables_wide)) }
+    record {
+      inside = (unit-inside h, c.requires.ample);
+      scratch_len_bound = (c.requires.loan.scratch_short, omega (arith, c.requires.loan.tables_wide));
+    }
 
 pub returns-then-q-gt0 : goal.returns-then-q-gt0
 returns-then-q-gt0 c =

@@ -36,14 +36,19 @@ pub lay_written-l-requires : goal.lay_written-l-requires
 lay_written-l-requires c =
     let (s, n, p, b, w, hs, h) = c.requires.some_extending in
     let v = c.over_base-over.ensures c.args.text.now s n p b w hs c.args.scratch.now c.args.d refl
-    h in record { sized = own-sized h c.over_base-over.result v; used_in_bounds = (h.keeps.within, c.requires.loan.book_short, c.requires.loan.scratch_short); tables_for = c.requires.loan.tables_wide }
+    h in record {
+      sized = own-sized h c.over_base-over.result v;
+      used_in_bounds = (h.keeps.within, c.requires.loan.book_short, c.requires.loan.scratch_short);
+      tables_for = c.requires.loan.tables_wide;
+    }
 
 pub add_domain-requires : goal.add_domain-requires
 add_domain-requires c =
     let (s, n, p, b, w, hs, h) = c.requires.some_extending in
     let v = c.over_base-over.ensures c.args.text.now s n p b w hs c.args.scratch.now c.args.d refl
     h in
-    let q = laid h c.over_base-over.result v c.lay_written-l.new.book c.lay_written-l.result c.lay_written-l.ensures in record {
+    let q = laid h c.over_base-over.result v c.lay_written-l.new.book c.lay_written-l.result c.lay_written-l.ensures in
+    record {
       text_len_bound = (
         c.requires.loan.text_short,
         still-below c.lay_written-l.auto.book c.requires.loan.book_short,

@@ -19,8 +19,10 @@ loop-at-preserved-then-k-eq-ELEMENT c =
       omega arith,
       omega arith,
       omega arith,
-      λ r q. c.loop-at.invariant.4 r (more s c.loop-at.at (c.loop-at.at + element_size) (λ f. end_from f s c.loop-at.at c.loop-at.inner c.loop-at.records)
-          (λ f. end_from f s (c.loop-at.at + element_size) c.loop-at.inner (c.loop-at.records + 1)) (omega arith) (omega arith)
+      λ r q. c.loop-at.invariant.4 r (more s c.loop-at.at (c.loop-at.at + element_size)
+          (λ f. end_from f s c.loop-at.at c.loop-at.inner c.loop-at.records)
+          (λ f. end_from f s (c.loop-at.at + element_size) c.loop-at.inner (c.loop-at.records + 1)) (omega arith)
+          (omega arith)
           (λ f. end-element f s c.loop-at.at c.loop-at.inner c.loop-at.records (omega arith) c.if-k-eq-ELEMENT.true) q),
     )
 
@@ -31,8 +33,10 @@ loop-at-preserved-then-k-eq-LIST c =
       omega arith,
       omega arith,
       omega arith,
-      λ r q. c.loop-at.invariant.4 r (more s c.loop-at.at (c.loop-at.at + list_size) (λ f. end_from f s c.loop-at.at c.loop-at.inner c.loop-at.records)
-          (λ f. end_from f s (c.loop-at.at + list_size) (c.loop-at.inner + 1) (c.loop-at.records + 1)) (omega arith) (omega arith)
+      λ r q. c.loop-at.invariant.4 r (more s c.loop-at.at (c.loop-at.at + list_size)
+          (λ f. end_from f s c.loop-at.at c.loop-at.inner c.loop-at.records)
+          (λ f. end_from f s (c.loop-at.at + list_size) (c.loop-at.inner + 1) (c.loop-at.records + 1)) (omega arith)
+          (omega arith)
           (λ f. end-opening f s c.loop-at.at c.loop-at.inner c.loop-at.records (omega arith) c.if-k-eq-LIST.true) q),
     )
 
@@ -40,8 +44,10 @@ pub returns-then-inner-eq0 : goal.returns-then-inner-eq0
 returns-then-inner-eq0 c =
     let s = c.args.s.now in
     let e : End = record { at = c.loop-at.at + 1; records = c.loop-at.records + 1 } in (
-      c.loop-at.invariant.4 e (more s c.loop-at.at (c.loop-at.at + 1) (λ f. end_from f s c.loop-at.at c.loop-at.inner c.loop-at.records) (λ f. e) (omega arith)
-          (omega arith) (λ f. end-last f s c.loop-at.at c.loop-at.inner c.loop-at.records (omega arith) c.if-k-eq-ELEMENT.false
+      c.loop-at.invariant.4 e (more s c.loop-at.at (c.loop-at.at + 1)
+          (λ f. end_from f s c.loop-at.at c.loop-at.inner c.loop-at.records) (λ f. e) (omega arith)
+          (omega arith)
+          (λ f. end-last f s c.loop-at.at c.loop-at.inner c.loop-at.records (omega arith) c.if-k-eq-ELEMENT.false
           c.if-k-eq-LIST.false c.if-inner-eq0.true) (λ g h. refl)),
       omega arith,
       omega arith,
@@ -54,13 +60,18 @@ loop-at-preserved c =
       omega arith,
       omega arith,
       omega arith,
-      λ r q. c.loop-at.invariant.4 r (more s c.loop-at.at (c.loop-at.at + 1) (λ f. end_from f s c.loop-at.at c.loop-at.inner c.loop-at.records)
-          (λ f. end_from f s (c.loop-at.at + 1) (c.loop-at.inner - 1) (c.loop-at.records + 1)) (omega arith) (omega arith)
+      λ r q. c.loop-at.invariant.4 r
+          (more s c.loop-at.at (c.loop-at.at + 1) (λ f. end_from f s c.loop-at.at c.loop-at.inner c.loop-at.records)
+          (λ f. end_from f s (c.loop-at.at + 1) (c.loop-at.inner - 1) (c.loop-at.records + 1)) (omega arith)
+          (omega arith)
           (λ f. end-close f s c.loop-at.at c.loop-at.inner c.loop-at.records (omega arith) c.if-k-eq-ELEMENT.false
           c.if-k-eq-LIST.false c.if-inner-eq0.false) q),
     )
 
 pub returns : goal.returns
 returns c =
-    let s = c.args.s.now in
-    (c.loop-at.invariant.4 _ (λ g h. sym (end-out g s c.loop-at.at c.loop-at.inner c.loop-at.records (omega arith))), omega arith, omega arith)
+    let s = c.args.s.now in (
+      c.loop-at.invariant.4 _ (λ g h. sym (end-out g s c.loop-at.at c.loop-at.inner c.loop-at.records (omega arith))),
+      omega arith,
+      omega arith,
+    )

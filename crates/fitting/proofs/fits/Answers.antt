@@ -7,7 +7,10 @@ use Rattle.fitting.proofs.fits.Goals as goal
 
 pub range_fits-requires : goal.range_fits-requires
 range_fits-requires c = let s = sized_range _ _ _ _ c.requires.0 c.in-Range.is in
-    record { own_decimals_le_most_decimals = (s.0, rw (held_small _ s.1) s.1, rw (held_small _ s.2) s.2); sized = c.requires.1 }
+    record {
+      own_decimals_le_most_decimals = (s.0, rw (held_small _ s.1) s.1, rw (held_small _ s.2) s.2);
+      sized = c.requires.1;
+    }
 
 pub returns-in-Text : goal.returns-in-Text
 returns-in-Text c =

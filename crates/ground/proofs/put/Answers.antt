@@ -14,8 +14,11 @@ loop-i-init c = (omega arith, paste-zero c.args.out.now c.args.at c.args.src.now
 pub bounds-out-at : goal.bounds-out-at
 bounds-out-at c =
     let a = c.args in
-    omega
-    (arith, ap length c.loop-i.invariant.1, length-paste a.out.now a.at a.src.now c.loop-i.i (omega arith) (omega arith))
+    omega (
+      arith,
+      ap length c.loop-i.invariant.1,
+      length-paste a.out.now a.at a.src.now c.loop-i.i (omega arith) (omega arith),
+    )
 
 pub loop-i-preserved : goal.loop-i-preserved
 loop-i-preserved c =

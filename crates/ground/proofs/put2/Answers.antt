@@ -14,8 +14,11 @@ loop-k-init c = (omega arith, paste-zero c.args.out.now c.args.at c.args.src.now
 pub bounds-out-at : goal.bounds-out-at
 bounds-out-at c =
     let a = c.args in
-    omega
-    (arith, ap length c.loop-k.invariant.1, length-paste a.out.now a.at a.src.now c.loop-k.k (omega arith) (omega arith))
+    omega (
+      arith,
+      ap length c.loop-k.invariant.1,
+      length-paste a.out.now a.at a.src.now c.loop-k.k (omega arith) (omega arith),
+    )
 
 pub loop-k-preserved : goal.loop-k-preserved
 loop-k-preserved c =

@@ -24,8 +24,11 @@ grown-requires c =
     let (s, n, w, hs, rs, k, q) = c.requires.by_index in
     let a = small c.args.text.now s c.args.st c.args.book.now _ _ _ hs k in
     let u = k.within in
-    let i = c.if-used-book.true in
-    (omega (arith, c.requires.book_len_bound.0, i), omega (arith, c.requires.book_len_bound.0, i, a.fewer), omega (arith, c.requires.book_len_bound.0, i, a.fewer, a.defined))
+    let i = c.if-used-book.true in (
+      omega (arith, c.requires.book_len_bound.0, i),
+      omega (arith, c.requires.book_len_bound.0, i, a.fewer),
+      omega (arith, c.requires.book_len_bound.0, i, a.fewer, a.defined),
+    )
 
 pub returns-then-used-book : goal.returns-then-used-book
 returns-then-used-book c =

@@ -14,7 +14,8 @@ use Rattle.heads.proofs.declare_topic.Goals as goal
 pub declare-requires : goal.declare-requires
 declare-requires c = (
   c.requires.topic_size_in_bounds.2,
-  topic-narrow c.args.text.now c.args.st c.args.name _ c.requires.inside.0 c.requires.inside.1 c.requires.topic_size_in_bounds.0
+  topic-narrow c.args.text.now c.args.st c.args.name _ c.requires.inside.0 c.requires.inside.1
+      c.requires.topic_size_in_bounds.0
       c.requires.inside.2 c.requires.topic_size_in_bounds.1,
   c.requires.inside.0,
   omega (arith, c.requires.topic_size_in_bounds.0, c.requires.inside.2, c.requires.topic_size_in_bounds.1.rows),
@@ -29,9 +30,16 @@ declared-requires c = record {
   bytes_bound = (
     omega (arith, c.requires.topic_size_in_bounds.0, c.requires.inside.2),
     omega (arith, c.requires.topic_size_in_bounds.0, c.requires.inside.2, c.requires.topic_size_in_bounds.1.fewer),
-    omega (arith, c.requires.topic_size_in_bounds.0, c.requires.inside.2, c.requires.topic_size_in_bounds.1.fewer, c.requires.topic_size_in_bounds.1.defined),
+    omega (
+      arith,
+      c.requires.topic_size_in_bounds.0,
+      c.requires.inside.2,
+      c.requires.topic_size_in_bounds.1.fewer,
+      c.requires.topic_size_in_bounds.1.defined,
+    ),
   );
-  count_bound = omega (arith, c.requires.topic_size_in_bounds.0, c.requires.inside.2, c.requires.topic_size_in_bounds.1.rows);
+  count_bound =
+      omega (arith, c.requires.topic_size_in_bounds.0, c.requires.inside.2, c.requires.topic_size_in_bounds.1.rows);
 }
 
 pub shape_of-book : goal.shape_of-book

@@ -6,7 +6,10 @@ use Rattle.heads.proofs.judge_close.Goals as goal
 
 pub close_topic-requires : goal.close_topic-requires
 close_topic-requires c =
-    let (s, n, hs, rs, k, q) = c.requires.by_index in record { book_len_bound = (c.requires.text_len_bound.1, omega (arith, c.if-st-gt0.false), c.if-st-gt0-2.true); by_index = (s, n, c.args.work.now, hs, rs, k, q) }
+    let (s, n, hs, rs, k, q) = c.requires.by_index in record {
+      book_len_bound = (c.requires.text_len_bound.1, omega (arith, c.if-st-gt0.false), c.if-st-gt0-2.true);
+      by_index = (s, n, c.args.work.now, hs, rs, k, q);
+    }
 
 pub returns-then-st-gt0-2 : goal.returns-then-st-gt0-2
 returns-then-st-gt0-2 c =

@@ -16,19 +16,29 @@ pub judge_model-requires : goal.judge_model-requires
 judge_model-requires c =
     let (i, v, k, m) = c.requires.kept in
     let (n, q, h) = a-model v m c.in-Model.is in
-    record { text_len_bound = (c.requires.loan.text_short, c.requires.loan.book_short); by_index = (i, n, q, _, _, _, k, h) }
+    record {
+      text_len_bound = (c.requires.loan.text_short, c.requires.loan.book_short);
+      by_index = (i, n, q, _, _, _, k, h);
+    }
 
 pub judge_topic-requires : goal.judge_topic-requires
 judge_topic-requires c =
     let (i, v, k, m) = c.requires.kept in
     let (n, h) = a-topic v m c.in-Topic.is in
-    record { text_len_bound = (c.requires.loan.text_short, c.requires.loan.book_short, c.requires.ample.0); by_index = (i, n, _, _, k, h) }
+    record {
+      text_len_bound = (c.requires.loan.text_short, c.requires.loan.book_short, c.requires.ample.0);
+      by_index = (i, n, _, _, k, h);
+    }
 
 pub judge_class-requires : goal.judge_class-requires
 judge_class-requires c =
     let (i, v, k, m) = c.requires.kept in
     let (q, n, p, b, h) = a-class v m c.in-Class.is in
-    record { text_len_bound = (c.requires.loan.text_short, c.requires.loan.book_short); ample = c.requires.ample; by_index = (i, q, n, p, b, _, k, h) }
+    record {
+      text_len_bound = (c.requires.loan.text_short, c.requires.loan.book_short);
+      ample = c.requires.ample;
+      by_index = (i, q, n, p, b, _, k, h);
+    }
 
 pub judge_domain-requires : goal.judge_domain-requires
 judge_domain-requires c =
@@ -39,19 +49,35 @@ judge_domain-requires c =
 pub judge_attribute-requires : goal.judge_attribute-requires
 judge_attribute-requires c =
     let (i, v, k, m) = c.requires.kept in
-    let (n, p, w, h) = an-attribute v m c.in-Attribute.is in record { text_len_bound = (c.requires.loan.text_short, c.requires.loan.book_short, c.requires.loan.scratch_short, c.requires.ample.0, c.requires.ample.1); tables_for = c.requires.loan.tables_wide; by_index = (i, n, p, w, k, h) }
+    let (n, p, w, h) = an-attribute v m c.in-Attribute.is in record {
+      text_len_bound = (
+        c.requires.loan.text_short,
+        c.requires.loan.book_short,
+        c.requires.loan.scratch_short,
+        c.requires.ample.0,
+        c.requires.ample.1,
+      );
+      tables_for = c.requires.loan.tables_wide;
+      by_index = (i, n, p, w, k, h);
+    }
 
 pub judge_unit-requires : goal.judge_unit-requires
 judge_unit-requires c =
     let (i, v, k, m) = c.requires.kept in
     let (n, p, b, h) = a-measure v m c.in-Measure.is in
-    record { text_len_bound = (c.requires.loan.text_short, c.requires.loan.book_short, c.requires.ample.0); by_index = (i, n, p, b, _, _, k, h) }
+    record {
+      text_len_bound = (c.requires.loan.text_short, c.requires.loan.book_short, c.requires.ample.0);
+      by_index = (i, n, p, b, _, _, k, h);
+    }
 
 pub judge_close-requires : goal.judge_close-requires
 judge_close-requires c =
     let (i, v, k, m) = c.requires.kept in
     let (n, h) = a-close v m c.in-Close.is in
-    record { text_len_bound = (c.requires.loan.text_short, c.requires.loan.book_short, c.requires.ample.0); by_index = (i, n, _, _, k, h) }
+    record {
+      text_len_bound = (c.requires.loan.text_short, c.requires.loan.book_short, c.requires.ample.0);
+      by_index = (i, n, _, _, k, h);
+    }
 
 pub returns-in-Header : goal.returns-in-Header
 returns-in-Header c =

@@ -14,7 +14,8 @@ use Rattle.names.proofs.find.Given as goal
 
 abbrev pub invariant-loop-p : goal.invariant-loop-p
 invariant-loop-p l =
-    (ks : List Def) → Known l.text ks l.index l.count → Chains ks l.chains → Behind ks (bytes_of l.text l.name) l.low l.high l.p
+    (ks : List Def) → Known l.text ks l.index l.count → Chains ks l.chains
+    → Behind ks (bytes_of l.text l.name) l.low l.high l.p
 
 abbrev pub decreases-loop-p : goal.decreases-loop-p
 decreases-loop-p l = l.count + 1 - l.p

@@ -10,7 +10,8 @@ returns-then-own-text c =
     let a = c.args in
     c.same_name.ensures
     ∙ hit a.text.now d _ (part a.text.now a.name.offset a.name.len) s a.low a.high _
-    c.field.ensures.0 _ _ c.field-then-is_home.ensures.0 c.field-then-is_home-2.ensures.0 (sym c.is_home.ensures ∙ c.if-is_home.true)
+    c.field.ensures.0 _ _ c.field-then-is_home.ensures.0 c.field-then-is_home-2.ensures.0
+    (sym c.is_home.ensures ∙ c.if-is_home.true)
 
 pub returns-else-own-text : goal.returns-else-own-text
 returns-else-own-text c =

@@ -10,7 +10,8 @@ use Rattle.names.proofs.key_of.Given as goal
 
 abbrev pub invariant-loop-i : goal.invariant-loop-i
 invariant-loop-i l =
-    (l.i ≤ l.len) × (l.k < keys) × (key_of (part l.text l.offset l.len) ≡ key_from l.k (part l.text (l.offset + l.i) (l.len - l.i)))
+    (l.i ≤ l.len) × (l.k < keys)
+    × (key_of (part l.text l.offset l.len) ≡ key_from l.k (part l.text (l.offset + l.i) (l.len - l.i)))
 
 abbrev pub decreases-loop-i : goal.decreases-loop-i
 decreases-loop-i l = l.len - l.i

@@ -11,7 +11,10 @@ floor_div-requires c = ten-range _ (omega arith) c.ten_to-p.ensures
 
 pub rounded-requires : goal.rounded-requires
 rounded-requires c =
-    record { v_bound = rw (to_z-of_z c.ranges.v) c.requires.v_bound.0; m_nonzero = ten-range _ (omega arith) c.ten_to.ensures }
+    record {
+      v_bound = rw (to_z-of_z c.ranges.v) c.requires.v_bound.0;
+      m_nonzero = ten-range _ (omega arith) c.ten_to.ensures;
+    }
 
 pub returns-then-base_decimals-decimals : goal.returns-then-base_decimals-decimals
 returns-then-base_decimals-decimals c =

@@ -14,7 +14,10 @@ overflow_sub-below c = (lowered c.args.bound c.ranges.bound c.requires.v_bound.1
 
 pub rounded-requires : goal.rounded-requires
 rounded-requires c =
-    record { v_bound = rw (to_z-of_z c.ranges.v) c.requires.v_bound.0; m_nonzero = ten-range _ (omega arith) c.ten_to.ensures }
+    record {
+      v_bound = rw (to_z-of_z c.ranges.v) c.requires.v_bound.0;
+      m_nonzero = ten-range _ (omega arith) c.ten_to.ensures;
+    }
 
 pub returns-then-base_decimals-decimals : goal.returns-then-base_decimals-decimals
 returns-then-base_decimals-decimals c =

@@ -15,10 +15,14 @@ overflow_sub-result c =
 
 pub returns-then-has_minus : goal.returns-then-has_minus
 returns-then-has_minus c =
-    let e = (negated c.scan-f.result.value (omega (arith, written_small c.args.part.now c.requires))).1 in
-    (e ∙ rw c.if-has_minus.true at (value-is c.args.part.now c.has_minus.ensures c.scan-f.ensures.0), c.scan-f.ensures.1)
+    let e = (negated c.scan-f.result.value (omega (arith, written_small c.args.part.now c.requires))).1 in (
+      e ∙ rw c.if-has_minus.true at (value-is c.args.part.now c.has_minus.ensures c.scan-f.ensures.0),
+      c.scan-f.ensures.1,
+    )
 
 pub returns : goal.returns
 returns c =
-    let e = plain c.scan-f.result.value (omega (arith, written_small c.args.part.now c.requires)) in
-    (e ∙ rw c.if-has_minus.false at (value-is c.args.part.now c.has_minus.ensures c.scan-f.ensures.0), c.scan-f.ensures.1)
+    let e = plain c.scan-f.result.value (omega (arith, written_small c.args.part.now c.requires)) in (
+      e ∙ rw c.if-has_minus.false at (value-is c.args.part.now c.has_minus.ensures c.scan-f.ensures.0),
+      c.scan-f.ensures.1,
+    )

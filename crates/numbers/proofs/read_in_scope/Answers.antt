@@ -12,18 +12,23 @@ nonzero_div-magnitude_limit c = (ten-range _ (omega arith) c.ten_to-p.ensures).0
 
 pub rounded-requires : goal.rounded-requires
 rounded-requires c =
-    record { v_bound = rw (to_z-of_z c.ranges.value) c.requires.2; m_nonzero = ten-range _ (omega arith) c.ten_to.ensures }
+    record {
+      v_bound = rw (to_z-of_z c.ranges.value) c.requires.2;
+      m_nonzero = ten-range _ (omega arith) c.ten_to.ensures;
+    }
 
 pub returns-then-base_decimals-decimals : goal.returns-then-base_decimals-decimals
 returns-then-base_decimals-decimals c =
     let e = rw (to_z-of_z c.ranges.value) at c.rounded.ensures in
-    rw (kept c.rounded.result c.rounded.type_inv) (rounds c.args.value _ _ c.requires c.if-base_decimals-decimals.true c.ten_to.ensures e)
+    rw (kept c.rounded.result c.rounded.type_inv)
+    (rounds c.args.value _ _ c.requires c.if-base_decimals-decimals.true c.ten_to.ensures e)
 
 pub returns-then-magnitude_limit-p : goal.returns-then-magnitude_limit-p
 returns-then-magnitude_limit-p c =
     let k = (div-lt_iff_lt-mul (ten-range _ (omega arith) c.ten_to-p.ensures).0).0 c.if-magnitude_limit-p.true in
     let e = rw (to_z-of_z c.ranges.value) at c.size.ensures in
-    is_too_great c.args.value _ _ c.requires c.if-base_decimals-decimals.false c.ten_to-p.ensures (rw (← e) (omega arith))
+    is_too_great c.args.value _ _ c.requires c.if-base_decimals-decimals.false
+    c.ten_to-p.ensures (rw (← e) (omega arith))
 
 pub times-requires : goal.times-requires
 times-requires c =

@@ -16,7 +16,11 @@ run-a-requires c =
     let l = length-take-le c.least-m.result c.args.book.now c.least-m.ensures.1 in
     let few : length (take c.least-m.result c.args.book.now)
     ≤ c.args.most = omega (arith, l, c.least-m.ensures.2) in
-    record { loan = loan-less few c.requires.loan; suffice = (suffice-less few c.requires.suffice.0, c.requires.suffice.1); by_index = c.requires.by_index }
+    record {
+      loan = loan-less few c.requires.loan;
+      suffice = (suffice-less few c.requires.suffice.0, c.requires.suffice.1);
+      by_index = c.requires.by_index;
+    }
 
 pub finish-requires : goal.finish-requires
 finish-requires c =

@@ -27,7 +27,11 @@ loop-a-init c =
 pub step-t-requires : goal.step-t-requires
 step-t-requires c =
     let (a, b, d, e, f, g, R) = c.loop-a.invariant in
-    record { loan = loaned a e f c.requires.loan; suffice = (suffices a b refl g, d ∙ c.requires.suffice.1); runs = runs-sized a R }
+    record {
+      loan = loaned a e f c.requires.loan;
+      suffice = (suffices a b refl g, d ∙ c.requires.suffice.1);
+      runs = runs-sized a R;
+    }
 
 pub shape_of-book-in-End : goal.shape_of-book-in-End
 shape_of-book-in-End c =

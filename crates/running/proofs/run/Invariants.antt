@@ -12,7 +12,8 @@ use Rattle.running.proofs.run.Given as goal
 
 abbrev pub invariant-loop-a : goal.invariant-loop-a
 invariant-loop-a l =
-    (length l.book ≡ length l.initial.book) × (length l.work ≡ length l.initial.work) × (length l.hand ≡ length l.initial.hand)
+    (length l.book ≡ length l.initial.book) × (length l.work ≡ length l.initial.work)
+    × (length l.hand ≡ length l.initial.hand)
     × (length l.scratch ≡ length l.initial.scratch) × (length l.tables ≡ length l.initial.tables)
     × Suffice (length l.initial.book) l.stage.state.listing.layout (length l.initial.work)
     × Runs l.text (length l.initial.book) l.stage l.book l.work l.hand

@@ -17,8 +17,13 @@ returns-then-is_over c =
 
 pub judge-j-requires : goal.judge-j-requires
 judge-j-requires c =
-    let G = given c.requires.runs c.read_unit-s.ensures c.requires.loan.text_short c.in-Read.is (sym c.is_over.ensures ∙ c.if-is_over.false) in
-    let ample = c.requires.suffice.0 c.args.g.state refl (few-records c.requires.runs) in record { loan = loaned refl c.read_unit-s.auto.scratch refl c.requires.loan; ample = (ample, c.requires.suffice.1); kept = (c.requires.runs.state, G.unit, c.requires.runs.keeps, G.comes) }
+    let G = given c.requires.runs c.read_unit-s.ensures c.requires.loan.text_short c.in-Read.is
+    (sym c.is_over.ensures ∙ c.if-is_over.false) in
+    let ample = c.requires.suffice.0 c.args.g.state refl (few-records c.requires.runs) in record {
+      loan = loaned refl c.read_unit-s.auto.scratch refl c.requires.loan;
+      ample = (ample, c.requires.suffice.1);
+      kept = (c.requires.runs.state, G.unit, c.requires.runs.keeps, G.comes);
+    }
 
 pub returns-in-Unread : goal.returns-in-Unread
 returns-in-Unread c =
@@ -31,5 +36,7 @@ after-requires c =
 
 pub returns-else-is_over : goal.returns-else-is_over
 returns-else-is_over c =
-    let G = given c.requires.runs c.read_unit-s.ensures c.requires.loan.text_short c.in-Read.is (sym c.is_over.ensures ∙ c.if-is_over.false) in
-    turned c.requires.runs G c.after.ensures (c.judge-j.ensures c.requires.runs.state G.unit c.requires.runs.keeps G.comes)
+    let G = given c.requires.runs c.read_unit-s.ensures c.requires.loan.text_short c.in-Read.is
+    (sym c.is_over.ensures ∙ c.if-is_over.false) in
+    turned c.requires.runs G c.after.ensures
+    (c.judge-j.ensures c.requires.runs.state G.unit c.requires.runs.keeps G.comes)

@@ -69,7 +69,8 @@ returns-in_default-4 c =
 
 pub returns-in-40-to-42 : goal.returns-in-40-to-42
 unfolding class_of
-returns-in-40-to-42 c = class-key Punctuation (44 ∷ 46 ∷ 61 ∷ 91 ∷ 93 ∷ []) c.args.b refl c.in-40-to-42.in-40-to-42-own.keys4
+returns-in-40-to-42 c =
+    class-key Punctuation (44 ∷ 46 ∷ 61 ∷ 91 ∷ 93 ∷ []) c.args.b refl c.in-40-to-42.in-40-to-42-own.keys4
 
 pub returns-in-40-to-42-2 : goal.returns-in-40-to-42-2
 unfolding class_of keys

@@ -24,7 +24,8 @@ pub returns-then-n-eq0 : goal.returns-then-n-eq0
 returns-then-n-eq0 c =
     let a = c.args in
     c.fault.ensures
-    ∙ sym (string-bad a.text.now a.at c.loop-i.i a.line (omega arith) c.loop-i.invariant.2 (omega arith) c.if-text-i-eq34.false
+    ∙ sym (string-bad a.text.now a.at c.loop-i.i a.line (omega arith) c.loop-i.invariant.2
+    (omega arith) c.if-text-i-eq34.false
     (sym c.step-n.ensures ∙ c.if-n-eq0.true))
 
 pub overflow_add-i-in-loop-i : goal.overflow_add-i-in-loop-i
@@ -42,7 +43,8 @@ loop-i-preserved c =
     let z : 0 < step_at a.text.now c.loop-i.i = omega arith in (
       omega arith,
       omega (arith, step_in a.text.now c.loop-i.i (omega arith)),
-      rw e (string-on a.text.now a.at c.loop-i.i a.line (omega arith) c.loop-i.invariant.2 (omega arith) c.if-text-i-eq34.false z),
+      rw e (string-on a.text.now a.at c.loop-i.i a.line (omega arith) c.loop-i.invariant.2
+          (omega arith) c.if-text-i-eq34.false z),
     )
 
 pub returns : goal.returns

@@ -28,7 +28,8 @@ returns-then-code-eq46 c =
     let l : a.at + (c.word_end.result - a.at)
     ≤ length a.text.now = omega (arith, c.word_end.ensures, run-le is_word_byte a.text.now (a.at + 1) (omega arith)) in
     rw (← c.word_end.ensures)
-    (c.make-then-code-eq46.ensures ∙ sym (word-reserved a.text.now a.at (c.word_end.result - a.at) a.line l c.if-len-gt255.false
+    (c.make-then-code-eq46.ensures
+    ∙ sym (word-reserved a.text.now a.at (c.word_end.result - a.at) a.line l c.if-len-gt255.false
     (sym c.word_code-code.ensures ∙ c.if-code-eq46.true)))
 
 pub returns : goal.returns

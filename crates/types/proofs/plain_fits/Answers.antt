@@ -8,7 +8,8 @@ pub returns-then-length-eq0 : goal.returns-then-length-eq0
 returns-then-length-eq0 c =
     let args = c.args in
     λ t w x b e o g v u k.
-    rw (eq-eqb _ 0 c.if-length-eq0.true) at (plain-valued args.own args.base t w x b (sym c.in-Limited.is ∙ e) o g v u k)
+    rw (eq-eqb _ 0 c.if-length-eq0.true) at
+    (plain-valued args.own args.base t w x b (sym c.in-Limited.is ∙ e) o g v u k)
 
 pub returns-in-Alone : goal.returns-in-Alone
 returns-in-Alone c = let args = c.args in

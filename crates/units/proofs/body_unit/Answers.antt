@@ -29,7 +29,8 @@ pub returns-then-y-eq-UNIT : goal.returns-then-y-eq-UNIT
 returns-then-y-eq-UNIT c =
     body-units c.args.in_topic c.args.run (sym c.opens_topic.ensures ∙ c.if-opens_topic.false)
     (sym c.is_class.ensures ∙ c.if-is_class.false) c.if-y-eq-DOMAIN.false c.if-y-eq-UNIT.true
-    (mark-steps _ (ascii "UNIT") 82 _ (where-place (Body c.args.in_topic Units)) unit-word c.ended-then-y-eq-UNIT.ensures)
+    (mark-steps _ (ascii "UNIT") 82 _
+    (where-place (Body c.args.in_topic Units)) unit-word c.ended-then-y-eq-UNIT.ensures)
 
 pub returns : goal.returns
 returns c =

@@ -17,7 +17,8 @@ returns-then-r-gt0 c =
 pub returns-then-differ : goal.returns-then-differ
 returns-then-differ c =
     let a = c.args in
-    λ t v z b m g f x y l. plain-16 a.over.based a.w.place v z b c.type_ruling-r.result (c.type_ruling-r.ensures v m g) (omega arith)
+    λ t v z b m g f x y l.
+    plain-16 a.over.based a.w.place v z b c.type_ruling-r.result (c.type_ruling-r.ensures v m g) (omega arith)
     c.if-over.true c.differ.result (c.differ.ensures (domain_type v z b) b x y) c.if-differ.true
 
 pub returns-then-over-2 : goal.returns-then-over-2
@@ -25,7 +26,8 @@ returns-then-over-2 c =
     let j = c.if-differ.false in
     λ t v z b m g f x y l.
     let k =
-    same_kind c.differ.result (kind_of (domain_type v z b)) (kind_of b) (c.differ.ensures (domain_type v z b) b x y) j in
+    same_kind c.differ.result (kind_of (domain_type v z b)) (kind_of b)
+    (c.differ.ensures (domain_type v z b) b x y) j in
     let o = ordered_of c.args.over.based c.args.w.place v c.type_ruling-r.result (c.type_ruling-r.ensures v m g)
     (omega arith) in
     c.fine.ensures
@@ -40,9 +42,11 @@ returns-then-plain_fits c =
     let a = c.args in
     let j = c.if-differ.false in
     λ t v z b m g f x y l.
-    let k = same_kind c.differ.result (kind_of (domain_type v z b)) (kind_of b) (c.differ.ensures (domain_type v z b) b x y) j in
+    let k = same_kind c.differ.result (kind_of (domain_type v z b)) (kind_of b)
+    (c.differ.ensures (domain_type v z b) b x y) j in
     let o = ordered_of a.over.based a.w.place v c.type_ruling-r.result (c.type_ruling-r.ensures v m g) (omega arith) in
-    plain-22 a.over.based a.w.place v z b c.type_ruling-r.result (c.type_ruling-r.ensures v m g) (omega arith) c.if-over.true c.differ.result
+    plain-22 a.over.based a.w.place v z b c.type_ruling-r.result (c.type_ruling-r.ensures v m g)
+    (omega arith) c.if-over.true c.differ.result
     (c.differ.ensures (domain_type v z b) b x y) j c.plain_fits.result (c.plain_fits.ensures t v z b m o f x y k)
     c.if-plain_fits.true a.over.keeps
     l c.if-over-2.false
@@ -52,10 +56,13 @@ returns-then-over c =
     let a = c.args in
     let j = c.if-differ.false in
     λ t v z b m g f x y l.
-    let k = same_kind c.differ.result (kind_of (domain_type v z b)) (kind_of b) (c.differ.ensures (domain_type v z b) b x y) j in
+    let k = same_kind c.differ.result (kind_of (domain_type v z b)) (kind_of b)
+    (c.differ.ensures (domain_type v z b) b x y) j in
     let o = ordered_of a.over.based a.w.place v c.type_ruling-r.result (c.type_ruling-r.ensures v m g) (omega arith) in
-    plain-17 a.over.based a.w.place v z b c.type_ruling-r.result (c.type_ruling-r.ensures v m g) (omega arith) c.if-over.true c.differ.result
-    (c.differ.ensures (domain_type v z b) b x y) j c.plain_fits.result (c.plain_fits.ensures t v z b m o f x y k) c.if-plain_fits.false
+    plain-17 a.over.based a.w.place v z b c.type_ruling-r.result (c.type_ruling-r.ensures v m g)
+    (omega arith) c.if-over.true c.differ.result
+    (c.differ.ensures (domain_type v z b) b x y) j c.plain_fits.result
+    (c.plain_fits.ensures t v z b m o f x y k) c.if-plain_fits.false
 
 pub returns : goal.returns
 returns c =

@@ -15,7 +15,8 @@ returns-then-book-at-eq-UNIT_OF_NUMBER c =
 
 pub returns-else-book-at-eq-UNIT_OF_NUMBER : goal.returns-else-book-at-eq-UNIT_OF_NUMBER
 unfolding unit_at
-returns-else-book-at-eq-UNIT_OF_NUMBER c = rw (le-leb _ _ c.if-at-book.true, ne_eqb _ 19 c.if-book-at-eq-UNIT_OF_NUMBER.false)
+returns-else-book-at-eq-UNIT_OF_NUMBER c =
+    rw (le-leb _ _ c.if-at-book.true, ne_eqb _ 19 c.if-book-at-eq-UNIT_OF_NUMBER.false)
 
 pub returns-else-at-book : goal.returns-else-at-book
 unfolding unit_at

@@ -4,7 +4,8 @@ use Rattle.parts.proofs.types.number.Goals as goal
 
 pub number_at-requires : goal.number_at-requires
 number_at-requires c =
-    let h = number-stands c.requires c.if-y-eq-NUMBER.true in rw c.length_of.ensures record { len_in_bounds = h.0; text_bound = h.2 }
+    let h = number-stands c.requires c.if-y-eq-NUMBER.true in
+    rw c.length_of.ensures record { len_in_bounds = h.0; text_bound = h.2 }
 
 pub returns-then-y-eq-NUMBER : goal.returns-then-y-eq-NUMBER
 returns-then-y-eq-NUMBER c =

@@ -8,7 +8,8 @@ pub returns-then-y-eq-TEXT : goal.returns-then-y-eq-TEXT
 returns-then-y-eq-TEXT c = λ n. type-text false c.if-y-eq-TEXT.true (c.text_type.ensures false c.if-y-eq-TEXT.true refl)
 
 pub returns-then-y-eq-MTEXT : goal.returns-then-y-eq-MTEXT
-returns-then-y-eq-MTEXT c = λ n. type-text true c.if-y-eq-MTEXT.true (c.text_type-then-y-eq-MTEXT.ensures true c.if-y-eq-MTEXT.true refl)
+returns-then-y-eq-MTEXT c =
+    λ n. type-text true c.if-y-eq-MTEXT.true (c.text_type-then-y-eq-MTEXT.ensures true c.if-y-eq-MTEXT.true refl)
 
 pub returns-then-y-eq-NUMERIC : goal.returns-then-y-eq-NUMERIC
 returns-then-y-eq-NUMERIC c = λ n. type-numeric c.if-y-eq-NUMERIC.true c.numeric_type.ensures

@@ -8,12 +8,16 @@ use Rattle.parts.proofs.types.read_written.Goals as goal
 
 pub after_mandatory-m-requires : goal.after_mandatory-m-requires
 after_mandatory-m-requires c =
-    record { held = held (expected (is_word_lem (ascii "MANDATORY") 78 refl) c.expect-z.ensures) c.requires.held; text_in_bounds = c.requires.text_in_bounds }
+    record {
+      held = held (expected (is_word_lem (ascii "MANDATORY") 78 refl) c.expect-z.ensures) c.requires.held;
+      text_in_bounds = c.requires.text_in_bounds;
+    }
 
 pub returns-then-y-eq-MANDATORY : goal.returns-then-y-eq-MANDATORY
 returns-then-y-eq-MANDATORY c =
     rw c.with_place.ensures
-    (with-mandatory c.args.scratch.now c.args.based c.args.or_reference c.if-y-eq-MANDATORY.true c.expect-z.ensures c.after_mandatory-m.ensures)
+    (with-mandatory c.args.scratch.now c.args.based c.args.or_reference c.if-y-eq-MANDATORY.true
+    c.expect-z.ensures c.after_mandatory-m.ensures)
 
 pub returns : goal.returns
 returns c =

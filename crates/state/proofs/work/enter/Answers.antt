@@ -12,11 +12,14 @@ returns c =
     let w = c.args.work.now in
     let l = c.args.st.listing.layout in (
       part-back l.index (l.rows - l.index) w c.enter.new.index
-          (omega (arith, c.requires.0.definitions, c.requires.0.attributes, c.requires.0.links, c.requires.0.within)) c.enter.auto.index ∙ c.enter.ensures,
+          (omega (arith, c.requires.0.definitions, c.requires.0.attributes, c.requires.0.links, c.requires.0.within))
+          c.enter.auto.index ∙ c.enter.ensures,
       after-back l.index (l.rows - l.index) w c.enter.new.index
-          (omega (arith, c.requires.0.definitions, c.requires.0.attributes, c.requires.0.links, c.requires.0.within)) c.enter.auto.index l.rows
+          (omega (arith, c.requires.0.definitions, c.requires.0.attributes, c.requires.0.links, c.requires.0.within))
+          c.enter.auto.index l.rows
           (l.chains - l.rows) (omega (arith, c.requires.0.definitions)),
       after-back l.index (l.rows - l.index) w c.enter.new.index
-          (omega (arith, c.requires.0.definitions, c.requires.0.attributes, c.requires.0.links, c.requires.0.within)) c.enter.auto.index l.chains
+          (omega (arith, c.requires.0.definitions, c.requires.0.attributes, c.requires.0.links, c.requires.0.within))
+          c.enter.auto.index l.chains
           (l.end - l.chains) (omega (arith, c.requires.0.definitions, c.requires.0.attributes)),
     )

@@ -12,11 +12,14 @@ returns c =
     let w = c.args.work.now in
     let l = c.args.st.listing.layout in (
       before_back l.rows (l.chains - l.rows) w c.enter_member.new.rows
-          (omega (arith, c.requires.0.definitions, c.requires.0.attributes, c.requires.0.links, c.requires.0.within)) c.enter_member.auto.rows l.index
+          (omega (arith, c.requires.0.definitions, c.requires.0.attributes, c.requires.0.links, c.requires.0.within))
+          c.enter_member.auto.rows l.index
           (l.rows - l.index) (omega (arith, c.requires.0.definitions)),
       part-back l.rows (l.chains - l.rows) w c.enter_member.new.rows
-          (omega (arith, c.requires.0.definitions, c.requires.0.attributes, c.requires.0.links, c.requires.0.within)) c.enter_member.auto.rows ∙ c.enter_member.ensures,
+          (omega (arith, c.requires.0.definitions, c.requires.0.attributes, c.requires.0.links, c.requires.0.within))
+          c.enter_member.auto.rows ∙ c.enter_member.ensures,
       after-back l.rows (l.chains - l.rows) w c.enter_member.new.rows
-          (omega (arith, c.requires.0.definitions, c.requires.0.attributes, c.requires.0.links, c.requires.0.within)) c.enter_member.auto.rows l.chains
+          (omega (arith, c.requires.0.definitions, c.requires.0.attributes, c.requires.0.links, c.requires.0.within))
+          c.enter_member.auto.rows l.chains
           (l.end - l.chains) (omega (arith, c.requires.0.attributes)),
     )

@@ -36,7 +36,8 @@ returns-in-Digit c =
     let h = c.loop-at-test.true in
     let l : get_or t c.loop-at.at 0 < 256 = omega (arith, c.shared_slice_known-in-loop-at-1.given c.loop-at.at) in
     let e = sym c.class_of-k.ensures ∙ c.in-Digit.is in
-    rw (add-zero, zero-add) at c.number.ensures ∙ sym (c.loop-at.invariant ∙ next-digit t c.loop-at.at c.loop-at.line h l e)
+    rw (add-zero, zero-add) at c.number.ensures
+    ∙ sym (c.loop-at.invariant ∙ next-digit t c.loop-at.at c.loop-at.line h l e)
 
 pub returns-in-Sign : goal.returns-in-Sign
 returns-in-Sign c =

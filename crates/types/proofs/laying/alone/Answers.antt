@@ -15,4 +15,5 @@ returns-then-is_enumeration c =
 
 pub returns : goal.returns
 returns c =
-    λ t b v u. rw (plain-records b c.args.own v (sym c.is_enumeration.ensures ∙ c.if-is_enumeration.false)) at c.plain.ensures
+    λ t b v u.
+    rw (plain-records b c.args.own v (sym c.is_enumeration.ensures ∙ c.if-is_enumeration.false)) at c.plain.ensures
