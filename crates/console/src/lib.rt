@@ -78,7 +78,7 @@ pub fn read_text(from: &mut impl Read, text: &mut [u8]) -> Input
 // ---- output
 
 // Where the next byte goes; a full page is written, and filled anew.
-fn room(to: &impl Print, page: &[u8], filled: usize) -> Out
+fn room(rt: &impl Print, page: &[u8], filled: usize) -> Out
     ensures { RoomIn (length page.now) result }
 {
     if filled < page.len() {
@@ -87,18 +87,18 @@ fn room(to: &impl Print, page: &[u8], filled: usize) -> Out
     if page.len() == 0 {
         return Out::Failed(Error::from(ErrorKind::WriteZero));
     }
-    match to.write_all(page) {
+    match rt.write_all(page) {
         Err(e) => Out::Failed(e),
         Ok(()) => Out::Filled(0),
     }
 }
 
-fn fill(to: &impl Print, page: &mut [u8], filled: usize, bytes: &[u8]) -> Out {
+fn fill(rt: &impl Print, page: &mut [u8], filled: usize, bytes: &[u8]) -> Out {
     let mut at = filled;
     let mut i = 0;
     while i < bytes.len() {
         let b = bytes[i];
-        let o = room(to, page, at);
+        let o = room(rt, page, at);
         match o {
             Out::Failed(_) => {
                 return o;
@@ -114,24 +114,24 @@ fn fill(to: &impl Print, page: &mut [u8], filled: usize, bytes: &[u8]) -> Out {
 }
 
 // The bytes behind what is filled.
-pub fn put(to: &impl Print, page: &mut [u8], out: Out, bytes: &[u8]) -> Out {
+pub fn put(rt: &impl Print, page: &mut [u8], out: Out, bytes: &[u8]) -> Out {
     match out {
         Out::Failed(_) => out,
-        Out::Filled(n) => fill(to, page, n, bytes),
+        Out::Filled(n) => fill(rt, page, n, bytes),
     }
 }
 
-pub fn put_if(to: &impl Print, page: &mut [u8], out: Out, wanted: bool, bytes: &[u8]) -> Out {
+pub fn put_if(rt: &impl Print, page: &mut [u8], out: Out, wanted: bool, bytes: &[u8]) -> Out {
     if wanted {
-        return put(to, page, out, bytes);
+        return put(rt, page, out, bytes);
     }
     out
 }
 
-pub fn put_number(to: &impl Print, page: &mut [u8], out: Out, n: u64) -> Out {
+pub fn put_number(rt: &impl Print, page: &mut [u8], out: Out, n: u64) -> Out {
     let mut digits = [0u8; 20];
     let k = io::decimal(n, &mut digits);
-    put(to, page, out, &digits[..k])
+    put(rt, page, out, &digits[..k])
 }
 
 // How much of the page is filled.
@@ -144,40 +144,40 @@ pub fn filled(page: &[u8], out: Out) -> usize
     }
 }
 
-fn write_filled(to: &impl Print, page: &[u8], n: usize) -> Out {
+fn write_filled(rt: &impl Print, page: &[u8], n: usize) -> Out {
     let m = within(n, page);
-    match to.write_all(&page[..m]) {
+    match rt.write_all(&page[..m]) {
         Err(e) => Out::Failed(e),
         Ok(()) => Out::Filled(0),
     }
 }
 
 // What is filled is written, and the page is empty again.
-pub fn flush(to: &impl Print, page: &[u8], out: Out) -> Out {
+pub fn flush(rt: &impl Print, page: &[u8], out: Out) -> Out {
     match out {
         Out::Failed(_) => out,
-        Out::Filled(n) => write_filled(to, page, n),
+        Out::Filled(n) => write_filled(rt, page, n),
     }
 }
 
 // ---- an answer
 
 // A number behind a blank.
-fn put_next(to: &impl Print, page: &mut [u8], out: Out, n: usize) -> Out {
-    let out = put(to, page, out, b" ");
-    put_number(to, page, out, n as u64)
+fn put_next(rt: &impl Print, page: &mut [u8], out: Out, n: usize) -> Out {
+    let out = put(rt, page, out, b" ");
+    put_number(rt, page, out, n as u64)
 }
 
 // In one line, whose end is left to the caller.
-pub fn put_answer(to: &impl Print, page: &mut [u8], out: Out, a: Answer) -> Out {
+pub fn put_answer(rt: &impl Print, page: &mut [u8], out: Out, a: Answer) -> Out {
     match a {
         Answer::Accepted {
             length,
             definitions,
         } => {
-            let out = put(to, page, out, b"ok");
-            let out = put_next(to, page, out, length);
-            put_next(to, page, out, definitions)
+            let out = put(rt, page, out, b"ok");
+            let out = put_next(rt, page, out, length);
+            put_next(rt, page, out, definitions)
         }
         Answer::Refused {
             number,
@@ -185,18 +185,18 @@ pub fn put_answer(to: &impl Print, page: &mut [u8], out: Out, a: Answer) -> Out 
             line,
             column,
         } => {
-            let out = put(to, page, out, b"refused");
-            let out = put_next(to, page, out, number as usize);
-            let out = put_next(to, page, out, place);
-            let out = put_next(to, page, out, line);
-            put_next(to, page, out, column)
+            let out = put(rt, page, out, b"refused");
+            let out = put_next(rt, page, out, number as usize);
+            let out = put_next(rt, page, out, place);
+            let out = put_next(rt, page, out, line);
+            put_next(rt, page, out, column)
         }
     }
 }
 
 // An answer by itself, at once.
-pub fn say_answer(to: &impl Print, a: Answer) -> Out {
+pub fn say_answer(rt: &impl Print, a: Answer) -> Out {
     let mut page = [0u8; 128];
-    let out = put_answer(to, &mut page, Out::Filled(0), a);
-    flush(to, &page, out)
+    let out = put_answer(rt, &mut page, Out::Filled(0), a);
+    flush(rt, &page, out)
 }

@@ -14,5 +14,5 @@ line-in : (t : List ℕ) (i e : ℕ) → e ≡ run_end not_line_end t i → i �
 line-in t i e p h = rw p (run-le not_line_end t i h)
 
 pub slice_bounds-put_line-end : goal.slice_bounds-put_line-end
-slice_bounds-put_line-end c =
+slice_bounds-put_line-end g c =
     omega (arith, line-in _ _ _ c.line_end-end.ensures c.least-at.ensures.upper_bound_2)
