@@ -45,7 +45,7 @@ struct Flags {
 }
 
 // The word if its bit is set, behind a comma if another was put.
-fn put_flag(page: &mut [u8], f: Flags, set: u8, bit: u8, word: &[u8]) -> Flags {
+fn put_flag(rt: &impl Print, page: &mut [u8], f: Flags, set: u8, bit: u8, word: &[u8]) -> Flags {
     if set & bit == 0 {
         return f;
     }
@@ -62,10 +62,10 @@ fn put_flags(rt: &impl Print, page: &mut [u8], out: Out, set: u8) -> Out {
         out: out,
         any: false,
     };
-    let f = put_flag(page, f, set, flags::ABSTRACT, b"ABSTRACT");
-    let f = put_flag(page, f, set, flags::FINAL, b"FINAL");
-    let f = put_flag(page, f, set, flags::EXTENDED, b"EXTENDED");
-    let f = put_flag(page, f, set, flags::MANDATORY, b"MANDATORY");
+    let f = put_flag(rt, page, f, set, flags::ABSTRACT, b"ABSTRACT");
+    let f = put_flag(rt, page, f, set, flags::FINAL, b"FINAL");
+    let f = put_flag(rt, page, f, set, flags::EXTENDED, b"EXTENDED");
+    let f = put_flag(rt, page, f, set, flags::MANDATORY, b"MANDATORY");
     if f.any {
         return f.out;
     }
