@@ -35,5 +35,5 @@ pub loop-out-preserved : goal.loop-out-preserved
 loop-out-preserved g c =
     let e = ends _ _ _ _ c.in-At.is c.end_from-f.ensures in
     let w = end-inside _ _ _ e in
-    let k = c.put_record-out.auto.0 in
+    let k = c.put_record-out.auto.page in
     (k ∙ c.loop-out.invariant.0, w.1, omega (arith, w), listed_next _ _ _ e _ c.loop-out.invariant.3)
