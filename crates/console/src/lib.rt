@@ -7,7 +7,8 @@ ghost use Rattle.console.specs.Input.{Within};
 ghost use Rattle.console.specs.Out.{RoomIn};
 
 use answers::Answer;
-use std::io::{Error, ErrorKind, Read};
+use std::fmt::Display;
+use std::io::{Error, ErrorKind, Read, Write};
 
 // One byte more than the longest text has.
 pub const ROOM: usize = 65536;
@@ -158,6 +159,17 @@ pub fn flush(rt: &impl Print, page: &[u8], out: Out) -> Out {
         Out::Failed(_) => out,
         Out::Filled(n) => write_filled(rt, page, n),
     }
+}
+
+// A value as it is printed, at the front of what is lent, as far as there is room; how many bytes it has there.
+pub fn text_of(value: impl Display + Drop, text: &mut [u8]) -> usize
+    ensures { IsPrefixLen result text.new }
+{
+    let whole = text.len();
+    let mut rest: &mut [u8] = text;
+    let _ = write!(rest, "{value}");
+    let left = rest.len();
+    within(whole.saturating_sub(left), text)
 }
 
 // ---- an answer

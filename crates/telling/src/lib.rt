@@ -1,12 +1,10 @@
 // What `check` tells: of a text, on standard output; of trouble, on standard error, in one line each.
 #![tactic(auto)]
 
-ghost use Rattle.io.specs.Counts.{IsPrefixLen};
-
 use answers::Answer;
 use arguments::Asked;
 use console::Out;
-use std::io::{Error, ErrorKind, Write};
+use std::io::{Error, ErrorKind};
 
 // A name of a file fits whole, also where it is shown: a line of trouble is written at once.
 const PAGE: usize = 8192;
@@ -24,21 +22,10 @@ pub enum Told {
 
 // ---- trouble
 
-// An error's text, at the front of what is lent; how many bytes it has.
-fn text_of(e: Error, text: &mut [u8]) -> usize
-    ensures { IsPrefixLen result text.new }
-{
-    let whole = text.len();
-    let mut rest: &mut [u8] = text;
-    let _ = write!(rest, "{e}");
-    let left = rest.len();
-    console::within(whole.saturating_sub(left), text)
-}
-
 // What the system says, without its number, which the library puts behind in brackets.
 fn put_reason(rt: &impl Print, page: &mut [u8], out: Out, e: Error) -> Out {
     let mut text = [0u8; REASON];
-    let n = text_of(e, &mut text);
+    let n = console::text_of(e, &mut text);
     match str::from_utf8(&text[..n]) {
         Err(_) => out,
         Ok(all) => match all.split_once(" (os error ") {
