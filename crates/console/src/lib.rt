@@ -207,8 +207,11 @@ pub fn put_answer(rt: &impl Print, page: &mut [u8], out: Out, a: Answer) -> Out 
 }
 
 // An answer by itself, at once.
-pub fn say_answer(rt: &impl Print, a: Answer) -> Out {
+pub fn say_answer(rt: &impl Print, a: Answer) -> Result<(), Error> {
     let mut page = [0u8; 128];
     let out = put_answer(rt, &mut page, Out::Filled(0), a);
-    flush(rt, &page, out)
+    match flush(rt, &page, out) {
+        Out::Failed(e) => Err(e),
+        Out::Filled(_) => Ok(()),
+    }
 }
