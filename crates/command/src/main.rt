@@ -81,21 +81,22 @@ fn check_opened(rt: &HostRuntime, path: &str, name: &[u8], asked: Asked) -> u8 {
 // The argument i whose name is no UTF-8, which the library can't open: by its link in the folder that `check` names.
 fn check_linked(rt: &HostRuntime, i: usize, name: &[u8], asked: Asked) -> u8 {
     let mut folder = [0u8; arguments::ROOM];
-    let mut path = [0u8; console::ROOM];
-    match rt.var("AUZUPLENS_LINKS", &mut folder) {
-        Err(_) => trouble(rt, name, Error::from_raw_os_error(EILSEQ)),
-        Ok(n) => {
-            let folder = text_or_nothing(&folder[..n]);
-            let m = console::text_of(format_args!("{folder}/{i}"), &mut path);
-            check_opened(rt, text_or_nothing(&path[..m]), name, asked)
-        }
+    let n = match rt.var("AUZUPLENS_LINKS", &mut folder) {
+        Err(_) => 0,
+        Ok(n) => n,
+    };
+    match str::from_utf8(&folder[..n]) {
+        Ok(folder) if 0 < n => check_link(rt, folder, i, name, asked),
+        _ => trouble(rt, name, Error::from_raw_os_error(EILSEQ)),
     }
 }
 
-fn text_or_nothing(bytes: &[u8]) -> &str {
-    match str::from_utf8(bytes) {
-        Err(_) => "",
-        Ok(text) => text,
+fn check_link(rt: &HostRuntime, folder: &str, i: usize, name: &[u8], asked: Asked) -> u8 {
+    let mut path = [0u8; arguments::ROOM];
+    let n = console::text_of(format_args!("{folder}/{i}"), &mut path);
+    match str::from_utf8(&path[..n]) {
+        Err(_) => trouble(rt, name, Error::from_raw_os_error(ENAMETOOLONG)),
+        Ok(path) => check_opened(rt, path, name, asked),
     }
 }
 

@@ -98,6 +98,12 @@ fn put_of_types(rt: &impl Print, page: &mut [u8], out: Out, number: u8) -> Out {
             out,
             b"a legal value has an illegal reading at the base",
         ),
+        _ => out,
+    }
+}
+
+fn put_of_others(rt: &impl Print, page: &mut [u8], out: Out, number: u8) -> Out {
+    match number {
         18 => put(
             rt,
             page,
@@ -124,6 +130,7 @@ pub fn put_sentence(rt: &impl Print, page: &mut [u8], out: Out, number: u8) -> O
     match number {
         1..=6 => put_of_text(rt, page, out, number),
         7..=13 => put_of_names(rt, page, out, number),
-        _ => put_of_types(rt, page, out, number),
+        14..=17 => put_of_types(rt, page, out, number),
+        _ => put_of_others(rt, page, out, number),
     }
 }

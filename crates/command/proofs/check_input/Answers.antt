@@ -2,7 +2,6 @@ use mathlib.Core.Path.{sym}
 use lib.Seq.{length-take-le}
 use Rattle.console.proofs.InputLaws.{within-read}
 use native.Mathlib.Omega.{arith}
-use borrow.Author.Rules.{rules}
 use Rattle.command.proofs.check_input.Goals as goal
 
 pub slice_bounds-text-end : goal.slice_bounds-text-end
@@ -11,4 +10,5 @@ slice_bounds-text-end g c =
 
 pub slice_bounds-check-end : goal.slice_bounds-check-end
 slice_bounds-check-end g c =
-    sym (length-take-le _ _ (omega (arith, within-read 0 65536 c.in-Read.is c.read_text-i.ensures, c.read_text-i.auto.text)))
+    let w = within-read 0 65536 c.in-Read.is c.read_text-i.ensures in
+    sym (length-take-le _ _ (omega (arith, w, c.read_text-i.auto.text)))

@@ -1,5 +1,4 @@
 use Prim.Native.Nat.{◌-◌, ◌≤◌}
-use borrow.Author.Rules.{rules}
 use Rattle.cutting.proofs.cut.Given as goal
 
 abbrev pub invariant-loop-turns : goal.invariant-loop-turns

@@ -1,14 +1,12 @@
 use mathlib.Core.Path.{◌≡◌, refl, sym, ap, ◌∙◌}
 use mathlib.Core.Option.{some}
 use mathlib.Core.List.{List}
-use Prim.Native.Nat.{ℕ, ◌-◌, ◌≤◌}
-use lib.ListN.{length}
+use Prim.Native.Nat.{ℕ}
 use Rattle.book.specs.declared.Found.{Found}
 use Rattle.book.specs.declared.Found.TheVariants.{At}
-use Rattle.records.specs.Finding.{found_at, record_end, Listed}
+use Rattle.records.specs.Finding.{found_at, record_end}
 use Rattle.records.proofs.ListLaws.{listed-first, end-inside, listed_here, listed_next}
 use native.Mathlib.Omega.{arith}
-use borrow.Author.Rules.{rules}
 use Rattle.lines.proofs.list.Goals as goal
 
 pub loop-out-init : goal.loop-out-init

@@ -1,6 +1,5 @@
 use Rattle.records.proofs.ListLaws.{end-inside}
 use native.Mathlib.Omega.{arith}
-use borrow.Author.Rules.{rules}
 use Rattle.lines.proofs.put_record.Goals as goal
 
 pub bounds-book-beginning : goal.bounds-book-beginning

@@ -6,7 +6,6 @@ use Rattle.ground.specs.Parts.{run_end}
 use Rattle.scans.specs.Scans.{not_line_end}
 use Rattle.ground.proofs.ScanLaws.{run-le}
 use native.Mathlib.Omega.{arith}
-use borrow.Author.Rules.{rules}
 use Rattle.report.proofs.put_excerpt.Goals as goal
 
 -- a line ends within the text

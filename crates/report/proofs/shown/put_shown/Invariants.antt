@@ -1,7 +1,6 @@
 use mathlib.Core.Path.{◌≡◌}
 use Prim.Native.Nat.{◌-◌, ◌≤◌}
 use lib.ListN.{length}
-use borrow.Author.Rules.{rules}
 use Rattle.report.proofs.shown.put_shown.Given as goal
 
 abbrev pub invariant-loop-at : goal.invariant-loop-at
