@@ -184,11 +184,15 @@ fn run(rt: &HostRuntime, asked: Asked) -> u8 {
     check_input(rt, &mut rt.stdin(), b"standard input", asked)
 }
 
-fn main(rt: HostRuntime) -> ExitCode {
-    let status = run(&rt, arguments::all(&rt));
+// The status that `check` is to have.
+fn hand_on(status: u8) -> ExitCode {
     match status {
         ACCEPTED | REFUSED => ExitCode::from(status),
         UNREAD => ExitCode::from(PIPE),
         _ => ExitCode::from(TROUBLE),
     }
+}
+
+fn main(rt: HostRuntime) -> ExitCode {
+    hand_on(run(&rt, arguments::all(&rt)))
 }
