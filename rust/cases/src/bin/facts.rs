@@ -33,8 +33,8 @@ const OPENED: [(&str, &str); 8] = [
     ),
     (
         "Judge",
-        "new_topic new_class new_domain new_attribute with_attribute extends_rules class_rules domain_to_16 domain_rules \
-         attribute_to_16 attribute_rules judge",
+        "new_topic new_class new_domain new_attribute with_attribute extends_rules class_rules domain_to_16 \
+         domain_rules attribute_to_16 attribute_rules judge",
     ),
     ("Check", "run"),
     ("Numbers", "read_number"),
