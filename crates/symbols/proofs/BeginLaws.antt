@@ -10,7 +10,6 @@ use lib.ListN.{length, take, drop, get_or, drop_of_length-le}
 use lib.Seq.{drop-cons}
 use borrow.Author.Tests.{eqb-true}
 use Rattle.rules.specs.Bytes.{part, is, is_letter, is_digit, is_word_byte, is_separator, span}
-use Rattle.rules.specs.Symbols as rules
 use Rattle.rules.specs.Symbols.{Symbol, no_symbol, unclosed, fault, mark, dots, stop, symbol, is_mark_byte}
 use Rattle.rules.specs.Symbols.{unsigned_length}
 use Rattle.rules.specs.Symbols.{quote, aWord, a_number, aString, symbol_of, beyond, symbol_at}
