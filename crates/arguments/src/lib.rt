@@ -1,6 +1,12 @@
 // The words behind `check`: options, and names of files.
 #![tactic(auto)]
 
+use std::env::FillError;
+use std::rt::Env;
+
+// As many bytes as any name of a file has.
+pub const ROOM: usize = 4096;
+
 // What an argument is where options may stand. `-` is a name, that of standard input.
 #[derive(Clone, Copy)]
 pub enum Word {
@@ -50,11 +56,27 @@ pub fn meaning(word: &[u8]) -> Word {
     Word::Unknown
 }
 
-// With the argument i.
-fn with_word(asked: Asked, i: usize) -> Asked {
+// How many arguments there are, the program's own name among them.
+fn count_of(rt: &impl Env) -> usize {
+    let mut byte = [0u8; 1];
+    let mut count = 0;
+    for i in 0..usize::MAX {
+        if let Err(FillError::NotPresent) = rt.arg(i, &mut byte) {
+            break;
+        }
+        count = i + 1;
+    }
+    count
+}
+
+// With the argument i. One that is longer than any name is a name.
+fn with_word(rt: &impl Env, asked: Asked, i: usize) -> Asked {
     let mut asked = asked;
-    let mut word = io::buffer();
-    let n = os::arg(i, &mut word);
+    let mut word = [0u8; ROOM];
+    let n = match rt.arg(i, &mut word) {
+        Err(_) => 0,
+        Ok(n) => n,
+    };
     let w = meaning(&word[..n]);
     match w {
         Word::Name => {
@@ -77,8 +99,8 @@ fn with_word(asked: Asked, i: usize) -> Asked {
 }
 
 // All arguments, up to `--` or the first unknown option.
-pub fn all() -> Asked {
-    let count = os::arg_count();
+pub fn all(rt: &impl Env) -> Asked {
+    let count = count_of(rt);
     let mut asked = Asked {
         list: false,
         quiet: false,
@@ -89,7 +111,7 @@ pub fn all() -> Asked {
     };
     let mut i = 1;
     while i < count {
-        asked = with_word(asked, i);
+        asked = with_word(rt, asked, i);
         i += 1;
         if asked.end < count {
             asked.named = ground::either(asked.named, i < count);

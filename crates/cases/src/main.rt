@@ -7,8 +7,8 @@
 ghost use Rattle.std.specs.Prelude.{◌+◌, ◌*◌, ◌^◌, ◌≤◌, ◌<◌};
 
 use answers::Answer;
-use console::{least, within};
-use libc::{STDIN_FILENO, STDOUT_FILENO};
+use console::{Input, least, within};
+use std::io::{Read, Result};
 
 // What the digit counts; any other byte counts nothing.
 fn digit(b: u8) -> usize
@@ -64,69 +64,85 @@ fn is_clear(buffer: &[u8], from: usize) -> bool {
 }
 
 // Two digits for each byte of the book, which stands at the front of the buffer.
-fn say_book(buffer: &[u8], count: usize) {
+fn say_book(rt: &impl Print, buffer: &[u8], count: usize) -> Result<()> {
     let n = least(count, buffer.len());
-    io::write_all(STDOUT_FILENO, b" ");
+    rt.write_all(b" ")?;
     let mut i = 0;
     while i < n {
         let b = buffer[i];
         let two = [hex(b / 16), hex(b % 16)];
-        io::write_all(STDOUT_FILENO, &two);
+        rt.write_all(&two)?;
         i += 1;
     }
+    Ok(())
 }
 
 // The answer, with the book if there is one; how many bytes of the buffer it takes.
-fn say_case(a: Answer, buffer: &[u8]) -> usize {
-    console::say_answer(a);
+fn say_case(rt: &impl Print, a: Answer, buffer: &[u8]) -> Result<usize> {
+    console::say_answer(rt, a)?;
     match a {
         Answer::Accepted { length, .. } => {
-            say_book(buffer, length);
-            length
+            say_book(rt, buffer, length)?;
+            Ok(length)
         }
-        Answer::Refused { .. } => 0,
+        Answer::Refused { .. } => Ok(0),
     }
 }
 
-fn check_case(text: &[u8], buffer: &mut [u8]) {
+fn check_case(rt: &impl Print, text: &[u8], buffer: &mut [u8]) -> Result<()> {
     spoil(buffer);
     let a = auzuplens::check_text(text, buffer);
-    let used = say_case(a, buffer);
+    let used = say_case(rt, a, buffer)?;
     if is_clear(buffer, used) {
-        io::write_all(STDOUT_FILENO, b"\n");
+        rt.write_all(b"\n")
     } else {
-        io::write_all(STDOUT_FILENO, b" dirty\n");
+        rt.write_all(b" dirty\n")
+    }
+}
+
+// As much as there is room for, or all that is left.
+fn read_full(from: &mut impl Read, bytes: &mut [u8]) -> Result<usize> {
+    match console::read_text(from, bytes) {
+        Input::Failed(e) => Err(e),
+        Input::Read(n) => Ok(n),
     }
 }
 
 // The next case, if there is one.
-fn next_case(text: &mut [u8], buffer: &mut [u8]) -> bool {
+fn next_case(
+    rt: &impl Print,
+    from: &mut impl Read,
+    text: &mut [u8],
+    buffer: &mut [u8],
+) -> Result<bool> {
     let mut h = [0u8; 14];
-    if io::read_full(STDIN_FILENO, &mut h) < 14 {
-        return false;
+    if read_full(from, &mut h)? < 14 {
+        return Ok(false);
     }
     let of_text = with_three(with_three(0, h[0], h[1], h[2]), h[3], h[4], h[5]);
     let of_buffer = with_three(with_three(0, h[7], h[8], h[9]), h[10], h[11], h[12]);
     let t = within(of_text, text);
     let m = within(of_buffer, buffer);
-    let got = io::read_full(STDIN_FILENO, &mut text[..t]);
+    let got = read_full(from, &mut text[..t])?;
     let n = within(got, text);
-    check_case(&text[..n], &mut buffer[..m]);
+    check_case(rt, &text[..n], &mut buffer[..m])?;
     let mut last = [0u8; 1];
-    io::read_full(STDIN_FILENO, &mut last);
-    true
+    read_full(from, &mut last)?;
+    Ok(true)
 }
 
-fn main() {
+fn main(rt: HostRuntime) -> Result<()> {
     let mut text = [0u8; 65536];
     let mut buffer = [0u8; 131072];
+    let mut input = rt.stdin();
     // At most so many cases, so that the loop ends.
     let mut left: usize = 1048576;
     while 0 < left {
         left -= 1;
-        if next_case(&mut text, &mut buffer) {
+        if next_case(&rt, &mut input, &mut text, &mut buffer)? {
             continue;
         }
-        return;
+        break;
     }
+    Ok(())
 }

@@ -5,4 +5,4 @@ use Rattle.console.specs.declared.Input.TheVariants.{Read, Failed}
 
 abbrev pub Within : ℕ → ℕ → code.Input → Type 0
 Within d m (Read n) = d + n ≤ m
-Within d m Failed = Unit {0}
+Within d m (Failed _) = Unit {0}

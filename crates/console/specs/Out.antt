@@ -5,4 +5,4 @@ use Rattle.console.specs.declared.Out.TheVariants.{Filled, Failed}
 
 abbrev pub RoomIn : ℕ → code.Out → Type 0
 RoomIn m (Filled n) = (n < m) × (n + 1 < 18446744073709551616)
-RoomIn m Failed = Unit {0}
+RoomIn m (Failed _) = Unit {0}

@@ -1,4 +1,4 @@
-// What the programs share: a text read from a descriptor, output by way of a page, an answer in the documents' form.
+// What the programs share: a text read from a reader, output by way of a page, an answer in the documents' form.
 #![tactic(auto)]
 
 ghost use Rattle.std.specs.Prelude.{◌+◌, ◌≤◌, length};
@@ -7,23 +7,24 @@ ghost use Rattle.console.specs.Input.{Within};
 ghost use Rattle.console.specs.Out.{RoomIn};
 
 use answers::Answer;
-use libc::STDOUT_FILENO;
+use std::fmt::Display;
+use std::io::{Error, ErrorKind, Read, Write};
 
 // One byte more than the longest text has.
 pub const ROOM: usize = 65536;
 
-// How many bytes were read, or that reading failed.
+// How many bytes were read, or why reading failed.
 #[derive(Clone, Copy)]
 pub enum Input {
     Read(usize),
-    Failed,
+    Failed(Error),
 }
 
-// How much of the page is filled; or that a write failed, which stays so.
+// How much of the page is filled; or why a write failed, which stays so.
 #[derive(Clone, Copy)]
 pub enum Out {
     Filled(usize),
-    Failed,
+    Failed(Error),
 }
 
 pub fn least(a: usize, b: usize) -> usize
@@ -43,26 +44,25 @@ pub fn within(n: usize, s: &[u8]) -> usize
 // ---- input
 
 // One read, behind the first `done` bytes.
-fn read_more(fd: i32, text: &mut [u8], done: usize) -> Input
+fn read_more(from: &mut impl Read, text: &mut [u8], done: usize) -> Input
     requires { done ≤ length text.old }
     ensures { Within done (length text.old) result }
 {
-    let got = libc::read(fd, &mut text[done..]);
-    if got < 0 {
-        return Input::Failed;
+    match from.read(&mut text[done..]) {
+        Err(e) => Input::Failed(e),
+        Ok(n) => Input::Read(n),
     }
-    Input::Read(io::count(got, &text[done..]))
 }
 
-// The text behind a descriptor: until there is no room or nothing more comes.
-pub fn read_text(fd: i32, text: &mut [u8]) -> Input
+// The text that a reader has: until there is no room or nothing more comes.
+pub fn read_text(from: &mut impl Read, text: &mut [u8]) -> Input
     ensures { Within 0 (length text.old) result }
 {
     let mut done = 0;
     while done < text.len() {
-        let i = read_more(fd, text, done);
+        let i = read_more(from, text, done);
         match i {
-            Input::Failed => {
+            Input::Failed(_) => {
                 return i;
             }
             Input::Read(n) => {
@@ -79,29 +79,29 @@ pub fn read_text(fd: i32, text: &mut [u8]) -> Input
 // ---- output
 
 // Where the next byte goes; a full page is written, and filled anew.
-fn room(page: &[u8], filled: usize) -> Out
+fn room(rt: &impl Print, page: &[u8], filled: usize) -> Out
     ensures { RoomIn (length page.now) result }
 {
     if filled < page.len() {
         return Out::Filled(filled);
     }
     if page.len() == 0 {
-        return Out::Failed;
+        return Out::Failed(Error::from(ErrorKind::WriteZero));
     }
-    if io::write_all(STDOUT_FILENO, page) {
-        return Out::Filled(0);
+    match rt.write_all(page) {
+        Err(e) => Out::Failed(e),
+        Ok(()) => Out::Filled(0),
     }
-    Out::Failed
 }
 
-fn fill(page: &mut [u8], filled: usize, bytes: &[u8]) -> Out {
+fn fill(rt: &impl Print, page: &mut [u8], filled: usize, bytes: &[u8]) -> Out {
     let mut at = filled;
     let mut i = 0;
     while i < bytes.len() {
         let b = bytes[i];
-        let o = room(page, at);
+        let o = room(rt, page, at);
         match o {
-            Out::Failed => {
+            Out::Failed(_) => {
                 return o;
             }
             Out::Filled(n) => {
@@ -115,24 +115,24 @@ fn fill(page: &mut [u8], filled: usize, bytes: &[u8]) -> Out {
 }
 
 // The bytes behind what is filled.
-pub fn put(page: &mut [u8], out: Out, bytes: &[u8]) -> Out {
+pub fn put(rt: &impl Print, page: &mut [u8], out: Out, bytes: &[u8]) -> Out {
     match out {
-        Out::Failed => out,
-        Out::Filled(n) => fill(page, n, bytes),
+        Out::Failed(_) => out,
+        Out::Filled(n) => fill(rt, page, n, bytes),
     }
 }
 
-pub fn put_if(page: &mut [u8], out: Out, wanted: bool, bytes: &[u8]) -> Out {
+pub fn put_if(rt: &impl Print, page: &mut [u8], out: Out, wanted: bool, bytes: &[u8]) -> Out {
     if wanted {
-        return put(page, out, bytes);
+        return put(rt, page, out, bytes);
     }
     out
 }
 
-pub fn put_number(page: &mut [u8], out: Out, n: u64) -> Out {
+pub fn put_number(rt: &impl Print, page: &mut [u8], out: Out, n: u64) -> Out {
     let mut digits = [0u8; 20];
     let k = io::decimal(n, &mut digits);
-    put(page, out, &digits[..k])
+    put(rt, page, out, &digits[..k])
 }
 
 // How much of the page is filled.
@@ -140,45 +140,56 @@ pub fn filled(page: &[u8], out: Out) -> usize
     ensures { IsPrefixLen result page.now }
 {
     match out {
-        Out::Failed => 0,
+        Out::Failed(_) => 0,
         Out::Filled(n) => within(n, page),
     }
 }
 
-fn write_filled(page: &[u8], n: usize) -> Out {
+fn write_filled(rt: &impl Print, page: &[u8], n: usize) -> Out {
     let m = within(n, page);
-    if io::write_all(STDOUT_FILENO, &page[..m]) {
-        return Out::Filled(0);
+    match rt.write_all(&page[..m]) {
+        Err(e) => Out::Failed(e),
+        Ok(()) => Out::Filled(0),
     }
-    Out::Failed
 }
 
 // What is filled is written, and the page is empty again.
-pub fn flush(page: &[u8], out: Out) -> Out {
+pub fn flush(rt: &impl Print, page: &[u8], out: Out) -> Out {
     match out {
-        Out::Failed => out,
-        Out::Filled(n) => write_filled(page, n),
+        Out::Failed(_) => out,
+        Out::Filled(n) => write_filled(rt, page, n),
     }
+}
+
+// A value as it is printed, at the front of what is lent, as far as there is room; how many bytes it has there.
+pub fn text_of(value: impl Display + Drop, text: &mut [u8]) -> usize
+    ensures { IsPrefixLen result text.new }
+{
+    let whole = text.len();
+    let mut rest: &mut [u8] = text;
+    let _ = write!(rest, "{value}");
+    let left = rest.len();
+    within(whole.saturating_sub(left), text)
 }
 
 // ---- an answer
 
 // A number behind a blank.
-fn put_next(page: &mut [u8], out: Out, n: usize) -> Out {
-    let out = put(page, out, b" ");
-    put_number(page, out, n as u64)
+fn put_next(rt: &impl Print, page: &mut [u8], out: Out, n: usize) -> Out {
+    let out = put(rt, page, out, b" ");
+    put_number(rt, page, out, n as u64)
 }
 
 // In one line, whose end is left to the caller.
-pub fn put_answer(page: &mut [u8], out: Out, a: Answer) -> Out {
+pub fn put_answer(rt: &impl Print, page: &mut [u8], out: Out, a: Answer) -> Out {
     match a {
         Answer::Accepted {
             length,
             definitions,
         } => {
-            let out = put(page, out, b"ok");
-            let out = put_next(page, out, length);
-            put_next(page, out, definitions)
+            let out = put(rt, page, out, b"ok");
+            let out = put_next(rt, page, out, length);
+            put_next(rt, page, out, definitions)
         }
         Answer::Refused {
             number,
@@ -186,18 +197,21 @@ pub fn put_answer(page: &mut [u8], out: Out, a: Answer) -> Out {
             line,
             column,
         } => {
-            let out = put(page, out, b"refused");
-            let out = put_next(page, out, number as usize);
-            let out = put_next(page, out, place);
-            let out = put_next(page, out, line);
-            put_next(page, out, column)
+            let out = put(rt, page, out, b"refused");
+            let out = put_next(rt, page, out, number as usize);
+            let out = put_next(rt, page, out, place);
+            let out = put_next(rt, page, out, line);
+            put_next(rt, page, out, column)
         }
     }
 }
 
 // An answer by itself, at once.
-pub fn say_answer(a: Answer) {
+pub fn say_answer(rt: &impl Print, a: Answer) -> Result<(), Error> {
     let mut page = [0u8; 128];
-    let out = put_answer(&mut page, Out::Filled(0), a);
-    flush(&page, out);
+    let out = put_answer(rt, &mut page, Out::Filled(0), a);
+    match flush(rt, &page, out) {
+        Out::Failed(e) => Err(e),
+        Out::Filled(_) => Ok(()),
+    }
 }

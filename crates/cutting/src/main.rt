@@ -2,103 +2,113 @@
 // has one.
 #![tactic(auto)]
 
-use libc::STDOUT_FILENO;
+use std::io::Result;
 use symbols::{Cursor, Symbol};
 
-fn end_line() {
-    io::write_all(STDOUT_FILENO, b"\n");
+fn end_line(rt: &impl Print) -> Result<()> {
+    println!(rt; "")
 }
 
-fn put_behind(n: usize) {
-    io::write_all(STDOUT_FILENO, b" ");
-    io::print_decimal(STDOUT_FILENO, n as u64);
+fn put_behind(rt: &impl Print, n: usize) -> Result<()> {
+    print!(rt; " {n}")
 }
 
-fn show(y: Symbol) {
+fn show(rt: &impl Print, y: Symbol) -> Result<()> {
     let position = symbols::position_of(y);
-    io::print_decimal(STDOUT_FILENO, y.code as u64);
-    put_behind(y.place);
-    put_behind(symbols::length_of(y));
-    put_behind(position.line);
-    put_behind(position.column);
+    let code = y.code;
+    print!(rt; "{code}")?;
+    put_behind(rt, y.place)?;
+    put_behind(rt, symbols::length_of(y))?;
+    put_behind(rt, position.line)?;
+    put_behind(rt, position.column)?;
     if y.refusal != 5 {
-        io::write_all(STDOUT_FILENO, b" fault");
-        put_behind(y.refusal as usize);
+        print!(rt; " fault")?;
+        put_behind(rt, y.refusal as usize)?;
     }
-    end_line();
+    end_line(rt)
 }
 
 // Up to the first symbol of no bytes; a blank line ends the text.
-fn cut(text: &[u8]) {
+fn cut(rt: &impl Print, text: &[u8]) -> Result<()> {
     let mut c = Cursor::start();
     let mut turns: u32 = 0;
     while turns < 40 {
         turns += 1;
         let y = c.next(text);
-        show(y);
+        show(rt, y)?;
         if symbols::length_of(y) == 0 {
             break;
         }
         c = y.next;
     }
-    end_line();
+    end_line(rt)
 }
 
-fn numbers() {
-    cut(b"1...2");
-    cut(b"40a 1-5 2.4MODEL 1E5 +.5");
-    cut(b"123456789012345678 -1234567890.12345678 1234567890123456789 0.000000000000000000");
-    cut(b"END M..");
-    cut(b"END M.5");
-}
-
-fn gaps() {
-    cut(b"");
-    cut(b" \t\r\n ");
-    cut(b"a/*/ b");
-    cut(b"a/**/b/***/c/* d");
-    cut(b"!! a \r b !! c \n d !");
-    cut(b"!!");
-}
-
-fn lines() {
-    cut(b"a\nb\rc\r\nd\n\re\n\n\tf\r\rg");
-    cut(b"a /* \r\n \n*/ b /*\r*/\nc !! d\re !!\r\nf");
-    cut(b"\n\"a\nb\"");
-    cut(b"\r\n /* \n");
-    cut(b"a\r\n");
-}
-
-fn strings() {
-    cut(b"\"\" \"\x7F\xFF\" \"\\\"\\\\\\u00eF\" \"open");
-    cut(b"\"a\\");
-    cut(b"\"\\u12G4\"");
-    cut(b"\"\\x\"");
-    cut(b"\"tab\tand no end");
-}
-
-fn words() {
-    cut(b"OTHERS BAG SYMBOLGY SYMBOLOGY GENERICS END ENDS End END_ COORD2 COORD4");
+fn numbers(rt: &impl Print) -> Result<()> {
+    cut(rt, b"1...2")?;
+    cut(rt, b"40a 1-5 2.4MODEL 1E5 +.5")?;
     cut(
+        rt,
+        b"123456789012345678 -1234567890.12345678 1234567890123456789 0.000000000000000000",
+    )?;
+    cut(rt, b"END M..")?;
+    cut(rt, b"END M.5")
+}
+
+fn gaps(rt: &impl Print) -> Result<()> {
+    cut(rt, b"")?;
+    cut(rt, b" \t\r\n ")?;
+    cut(rt, b"a/*/ b")?;
+    cut(rt, b"a/**/b/***/c/* d")?;
+    cut(rt, b"!! a \r b !! c \n d !")?;
+    cut(rt, b"!!")
+}
+
+fn lines(rt: &impl Print) -> Result<()> {
+    cut(rt, b"a\nb\rc\r\nd\n\re\n\n\tf\r\rg")?;
+    cut(rt, b"a /* \r\n \n*/ b /*\r*/\nc !! d\re !!\r\nf")?;
+    cut(rt, b"\n\"a\nb\"")?;
+    cut(rt, b"\r\n /* \n")?;
+    cut(rt, b"a\r\n")
+}
+
+fn strings(rt: &impl Print) -> Result<()> {
+    cut(rt, b"\"\" \"\x7F\xFF\" \"\\\"\\\\\\u00eF\" \"open")?;
+    cut(rt, b"\"a\\")?;
+    cut(rt, b"\"\\u12G4\"")?;
+    cut(rt, b"\"\\x\"")?;
+    cut(rt, b"\"tab\tand no end")
+}
+
+fn words(rt: &impl Print) -> Result<()> {
+    cut(
+        rt,
+        b"OTHERS BAG SYMBOLGY SYMBOLOGY GENERICS END ENDS End END_ COORD2 COORD4",
+    )?;
+    cut(
+        rt,
         b"INTERLIS MODEL AT VERSION TOPIC CLASS STRUCTURE ABSTRACT FINAL EXTENDS DOMAIN ATTRIBUTE EXTENDED END \
             MANDATORY TEXT MTEXT NUMERIC UNIT",
-    );
-    cut(b"NOINCREMENTALTRANSFER NOINCREMENTALTRANSFERS _a");
+    )?;
+    cut(rt, b"NOINCREMENTALTRANSFER NOINCREMENTALTRANSFERS _a")
 }
 
-fn marks() {
-    cut(b"(),;:=*[]... .");
-    cut(b"a+b");
-    cut(b"/a");
-    cut(b"\x7F");
+fn marks(rt: &impl Print) -> Result<()> {
+    cut(rt, b"(),;:=*[]... .")?;
+    cut(rt, b"a+b")?;
+    cut(rt, b"/a")?;
+    cut(rt, b"\x7F")
 }
 
-fn main() {
-    cut(b"INTERLIS 2.4;MODEL M AT \"u\" VERSION \"1\"=DOMAIN T=-10..40;END M.");
-    numbers();
-    gaps();
-    lines();
-    strings();
-    words();
-    marks();
+fn main(rt: HostRuntime) -> Result<()> {
+    cut(
+        &rt,
+        b"INTERLIS 2.4;MODEL M AT \"u\" VERSION \"1\"=DOMAIN T=-10..40;END M.",
+    )?;
+    numbers(&rt)?;
+    gaps(&rt)?;
+    lines(&rt)?;
+    strings(&rt)?;
+    words(&rt)?;
+    marks(&rt)
 }

@@ -4,21 +4,21 @@
 ghost use Rattle.std.specs.Prelude.{◌≤◌};
 ghost use Rattle.rules.specs.Numbers.{magnitude_limit};
 
-use libc::STDOUT_FILENO;
+use std::io::Result;
 
-fn print_value(v: i64) {
+fn print_value(rt: &impl Print, v: i64) -> Result<()> {
     if v < 0 {
-        io::write_all(STDOUT_FILENO, b"-");
+        print!(rt; "-")?;
     }
-    io::print_decimal(STDOUT_FILENO, numbers::size(v));
+    let size = numbers::size(v);
+    println!(rt; "{size}")
 }
 
-fn show(value: i64, decimals: u64, base_decimals: u64) {
+fn show(rt: &impl Print, value: i64, decimals: u64, base_decimals: u64) -> Result<()> {
     let r = numbers::read_number(value, decimals, base_decimals);
-    io::print_decimal(STDOUT_FILENO, r.number());
-    io::write_all(STDOUT_FILENO, b" ");
-    print_value(r.value());
-    io::write_all(STDOUT_FILENO, b"\n");
+    let number = r.number();
+    print!(rt; "{number} ")?;
+    print_value(rt, r.value())
 }
 
 // The negative of a magnitude.
@@ -30,73 +30,73 @@ fn below_zero(size: u64) -> i64
 }
 
 // 10^17 and 10^17 - 1 at one decimal more.
-fn at_the_limit() {
+fn at_the_limit(rt: &impl Print) -> Result<()> {
     let power = numbers::ten_to(17);
-    show(power as i64, 0, 1);
-    show((power - 1) as i64, 0, 1);
-    show(below_zero(power), 0, 1);
-    show(below_zero(power - 1), 0, 1);
+    show(rt, power as i64, 0, 1)?;
+    show(rt, (power - 1) as i64, 0, 1)?;
+    show(rt, below_zero(power), 0, 1)?;
+    show(rt, below_zero(power - 1), 0, 1)
 }
 
 // Halves, and their neighbours, above and below zero.
-fn halves() {
-    show(5, 1, 0);
-    show(15, 1, 0);
-    show(14, 1, 0);
-    show(-5, 1, 0);
-    show(-15, 1, 0);
-    show(-14, 1, 0);
-    show(-16, 1, 0);
+fn halves(rt: &impl Print) -> Result<()> {
+    show(rt, 5, 1, 0)?;
+    show(rt, 15, 1, 0)?;
+    show(rt, 14, 1, 0)?;
+    show(rt, -5, 1, 0)?;
+    show(rt, -15, 1, 0)?;
+    show(rt, -14, 1, 0)?;
+    show(rt, -16, 1, 0)
 }
 
 // 0.45 reads 0.5, then 1; straight to the ancestor it would read 0.
-fn twice() {
-    show(45, 2, 1);
-    show(5, 1, 0);
-    show(45, 2, 0);
+fn twice(rt: &impl Print) -> Result<()> {
+    show(rt, 45, 2, 1)?;
+    show(rt, 5, 1, 0)?;
+    show(rt, 45, 2, 0)
 }
 
 // 17 and 18 decimals, of the number and of the base.
-fn decimals() {
-    show(1, 17, 17);
-    show(1, 18, 17);
-    show(1, 17, 18);
+fn decimals(rt: &impl Print) -> Result<()> {
+    show(rt, 1, 17, 17)?;
+    show(rt, 1, 18, 17)?;
+    show(rt, 1, 17, 18)?;
     let half = numbers::ten_to(17) / 2;
-    show(half as i64, 17, 0);
-    show((half - 1) as i64, 17, 0);
-    show(9, 0, 17);
-    show(10, 0, 17);
+    show(rt, half as i64, 17, 0)?;
+    show(rt, (half - 1) as i64, 17, 0)?;
+    show(rt, 9, 0, 17)?;
+    show(rt, 10, 0, 17)
 }
 
 // Magnitudes of 10^18 - 1 and 10^18.
-fn magnitudes() {
+fn magnitudes(rt: &impl Print) -> Result<()> {
     let limit = numbers::magnitude_limit();
-    show((limit - 1) as i64, 0, 0);
-    show(limit as i64, 0, 0);
-    show(below_zero(limit - 1), 0, 0);
-    show(below_zero(limit), 0, 0);
-    show((limit - 1) as i64, 17, 0);
-    show(below_zero(limit - 1), 1, 0);
+    show(rt, (limit - 1) as i64, 0, 0)?;
+    show(rt, limit as i64, 0, 0)?;
+    show(rt, below_zero(limit - 1), 0, 0)?;
+    show(rt, below_zero(limit), 0, 0)?;
+    show(rt, (limit - 1) as i64, 17, 0)?;
+    show(rt, below_zero(limit - 1), 1, 0)
 }
 
 // The least and the greatest i64.
-fn ends() {
-    show(-9223372036854775808, 0, 0);
-    show(9223372036854775807, 17, 17);
+fn ends(rt: &impl Print) -> Result<()> {
+    show(rt, -9223372036854775808, 0, 0)?;
+    show(rt, 9223372036854775807, 17, 17)
 }
 
 // Zeros added.
-fn zeros() {
-    show(-7, 1, 3);
-    show(0, 0, 17);
+fn zeros(rt: &impl Print) -> Result<()> {
+    show(rt, -7, 1, 3)?;
+    show(rt, 0, 0, 17)
 }
 
-fn main() {
-    at_the_limit();
-    halves();
-    twice();
-    decimals();
-    magnitudes();
-    ends();
-    zeros();
+fn main(rt: HostRuntime) -> Result<()> {
+    at_the_limit(&rt)?;
+    halves(&rt)?;
+    twice(&rt)?;
+    decimals(&rt)?;
+    magnitudes(&rt)?;
+    ends(&rt)?;
+    zeros(&rt)
 }

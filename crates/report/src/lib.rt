@@ -70,65 +70,86 @@ fn around(begin: usize, place: usize, end: usize) -> Excerpt
     }
 }
 
-fn put_line(page: &mut [u8], out: Out, line: &[u8], begun: bool, goes_on: bool) -> Out {
-    let out = put_if(page, out, begun, b"...");
-    let out = put_shown(page, out, line, false);
-    let out = put_if(page, out, goes_on, b"...");
-    put(page, out, b"\n")
+fn put_line(
+    rt: &impl Print,
+    page: &mut [u8],
+    out: Out,
+    line: &[u8],
+    begun: bool,
+    goes_on: bool,
+) -> Out {
+    let out = put_if(rt, page, out, begun, b"...");
+    let out = put_shown(rt, page, out, line, false);
+    let out = put_if(rt, page, out, goes_on, b"...");
+    put(rt, page, out, b"\n")
 }
 
 // Behind what stands before the caret's column.
-fn put_caret(page: &mut [u8], out: Out, before: &[u8], begun: bool) -> Out {
-    let out = put_if(page, out, begun, b"   ");
-    let out = put_shown(page, out, before, true);
-    put(page, out, b"^\n")
+fn put_caret(rt: &impl Print, page: &mut [u8], out: Out, before: &[u8], begun: bool) -> Out {
+    let out = put_if(rt, page, out, begun, b"   ");
+    let out = put_shown(rt, page, out, before, true);
+    put(rt, page, out, b"^\n")
 }
 
 // The line of a place, cut around it where it is long, and a caret under it.
-fn put_excerpt(page: &mut [u8], out: Out, text: &[u8], place: usize, column: usize) -> Out {
+fn put_excerpt(
+    rt: &impl Print,
+    page: &mut [u8],
+    out: Out,
+    text: &[u8],
+    place: usize,
+    column: usize,
+) -> Out {
     let at = least(place, text.len());
     let begin = line_begin(at, column);
     let end = scans::line_end(text, at);
     let s = around(begin, at, end);
     let from = s.from;
     let to = s.to;
-    let out = put_line(page, out, &text[from..to], begin < from, to < end);
-    put_caret(page, out, &text[from..at], begin < from)
+    let out = put_line(rt, page, out, &text[from..to], begin < from, to < end);
+    put_caret(rt, page, out, &text[from..at], begin < from)
 }
 
 // Behind the name, as editors look for it.
-fn put_position(page: &mut [u8], out: Out, line: usize, column: usize) -> Out {
-    let out = put(page, out, b":");
-    let out = put_number(page, out, line as u64);
-    let out = put(page, out, b":");
-    put_number(page, out, column as u64)
+fn put_position(rt: &impl Print, page: &mut [u8], out: Out, line: usize, column: usize) -> Out {
+    let out = put(rt, page, out, b":");
+    let out = put_number(rt, page, out, line as u64);
+    let out = put(rt, page, out, b":");
+    put_number(rt, page, out, column as u64)
 }
 
 // What is refused, and why.
-fn put_refusal(page: &mut [u8], out: Out, number: u8) -> Out {
-    let out = put(page, out, b": refused ");
-    let out = put_number(page, out, number as u64);
-    let out = put(page, out, b": ");
-    let out = sentences::put_sentence(page, out, number);
-    put(page, out, b"\n")
+fn put_refusal(rt: &impl Print, page: &mut [u8], out: Out, number: u8) -> Out {
+    let out = put(rt, page, out, b": refused ");
+    let out = put_number(rt, page, out, number as u64);
+    let out = put(rt, page, out, b": ");
+    let out = sentences::put_sentence(rt, page, out, number);
+    put(rt, page, out, b"\n")
 }
 
 // The name of a file, of which an empty one is to be seen too.
-pub fn put_name(page: &mut [u8], out: Out, name: &[u8]) -> Out {
+pub fn put_name(rt: &impl Print, page: &mut [u8], out: Out, name: &[u8]) -> Out {
     if name.len() == 0 {
-        return put(page, out, b"''");
+        return put(rt, page, out, b"''");
     }
-    put_shown(page, out, name, false)
+    put_shown(rt, page, out, name, false)
 }
 
 // The name of what was checked, and its answer.
-pub fn put_report(page: &mut [u8], out: Out, name: &[u8], text: &[u8], a: Answer) -> Out {
-    let out = put_name(page, out, name);
+pub fn put_report(
+    rt: &impl Print,
+    page: &mut [u8],
+    out: Out,
+    name: &[u8],
+    text: &[u8],
+    a: Answer,
+) -> Out {
+    let out = put_name(rt, page, out, name);
     match a {
         Answer::Accepted { definitions, .. } => {
-            let out = put(page, out, b": ok, ");
-            let out = put_number(page, out, definitions as u64);
-            put(page, out, b" definitions\n")
+            let out = put(rt, page, out, b": ok, ");
+            let out = put_number(rt, page, out, definitions as u64);
+            put(rt, page, out, b" definitions\n")
         }
         Answer::Refused {
             number,
@@ -136,9 +157,9 @@ pub fn put_report(page: &mut [u8], out: Out, name: &[u8], text: &[u8], a: Answer
             line,
             column,
         } => {
-            let out = put_position(page, out, line, column);
-            let out = put_refusal(page, out, number);
-            put_excerpt(page, out, text, place, column)
+            let out = put_position(rt, page, out, line, column);
+            let out = put_refusal(rt, page, out, number);
+            put_excerpt(rt, page, out, text, place, column)
         }
     }
 }

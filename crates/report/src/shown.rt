@@ -74,27 +74,27 @@ fn visible(bytes: &[u8], at: usize) -> usize
 }
 
 // A character, or none for a byte that is not visible. Of what stands under it, a tab or a blank.
-fn put_character(page: &mut [u8], out: Out, character: &[u8], under: bool) -> Out {
+fn put_character(rt: &impl Print, page: &mut [u8], out: Out, character: &[u8], under: bool) -> Out {
     if ground::byte_at(character, 0) == b'\t' {
-        return put(page, out, b"\t");
+        return put(rt, page, out, b"\t");
     }
     if under {
-        return put(page, out, b" ");
+        return put(rt, page, out, b" ");
     }
     if character.len() == 0 {
-        return put(page, out, b"?");
+        return put(rt, page, out, b"?");
     }
-    put(page, out, character)
+    put(rt, page, out, character)
 }
 
 // The bytes as they are shown; or as many blanks, with the tabs, as put under them what is put next.
-pub fn put_shown(page: &mut [u8], out: Out, bytes: &[u8], under: bool) -> Out {
+pub fn put_shown(rt: &impl Print, page: &mut [u8], out: Out, bytes: &[u8], under: bool) -> Out {
     let mut out = out;
     let mut at = 0;
     while at < bytes.len() {
         let n = visible(bytes, at);
         let end = at + n;
-        out = put_character(page, out, &bytes[at..end], under);
+        out = put_character(rt, page, out, &bytes[at..end], under);
         if n == 0 {
             at += 1;
         } else {

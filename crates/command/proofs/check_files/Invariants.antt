@@ -1,5 +1,4 @@
 use Prim.Native.Nat.{◌-◌}
-use borrow.Author.Rules.{rules}
 use Rattle.command.proofs.check_files.Given as goal
 
 abbrev pub invariant-loop-i : goal.invariant-loop-i

@@ -1,23 +1,17 @@
-use mathlib.Core.Path.{◌≡◌, ◌∙◌}
-use Prim.Native.Nat.{◌-◌, ◌≤◌}
-use lib.ListN.{length}
-use Rattle.console.proofs.InputLaws.{within-read, within-failed}
+use mathlib.Core.Path.{◌∙◌}
+use Rattle.console.proofs.InputLaws.{within-read}
 use native.Mathlib.Omega.{arith}
-use borrow.Author.Rules.{rules}
 use Rattle.console.proofs.read_text.Goals as goal
 
-pub returns-in-Failed : goal.returns-in-Failed
-returns-in-Failed c = within-failed _ _ c.in-Failed.is
-
 pub overflow_add-done : goal.overflow_add-done
-overflow_add-done c =
+overflow_add-done g c =
     omega (arith, within-read _ _ c.in-Read.is c.read_more-i.ensures)
 
 pub loop-done-smaller : goal.loop-done-smaller
-loop-done-smaller c = omega (arith, c.if-n-eq0.false)
+loop-done-smaller g c = omega (arith, c.if-n-eq0.false)
 
 pub loop-done-preserved : goal.loop-done-preserved
-loop-done-preserved c =
+loop-done-preserved g c =
     let v = c.loop-done.invariant in
-    let e = c.read_more-i.auto.1.0 in
+    let e = c.read_more-i.auto.text in
     (e ∙ v.0, omega (arith, within-read _ _ c.in-Read.is c.read_more-i.ensures, v.0))

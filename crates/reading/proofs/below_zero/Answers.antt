@@ -1,4 +1,3 @@
-use borrow.Author.Rules.{rules}
 use Rattle.numbers.proofs.SignedLaws.{negated}
 use Rattle.reading.proofs.below_zero.Goals as goal
 

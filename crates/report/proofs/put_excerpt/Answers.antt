@@ -6,7 +6,6 @@ use Rattle.ground.specs.Parts.{run_end}
 use Rattle.scans.specs.Scans.{not_line_end}
 use Rattle.ground.proofs.ScanLaws.{run-le}
 use native.Mathlib.Omega.{arith}
-use borrow.Author.Rules.{rules}
 use Rattle.report.proofs.put_excerpt.Goals as goal
 
 -- a line ends within the text
@@ -14,5 +13,5 @@ line-in : (t : List ℕ) (i e : ℕ) → e ≡ run_end not_line_end t i → i �
 line-in t i e p h = rw p (run-le not_line_end t i h)
 
 pub slice_bounds-put_line-end : goal.slice_bounds-put_line-end
-slice_bounds-put_line-end c =
+slice_bounds-put_line-end g c =
     omega (arith, line-in _ _ _ c.line_end-end.ensures c.least-at.ensures.upper_bound_2)
