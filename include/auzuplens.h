@@ -1,4 +1,4 @@
-/* Auzuplens for C: the functions of the archive that rust/archive makes.
+/* Auzuplens for C: the functions of libauzuplens.a (rust/archive makes it).
  *
  * No function asks anything of its arguments beyond what C itself does: each
  * pointer to bytes leads to as many as the length behind it says, a pointer is not
