@@ -16,7 +16,8 @@ use Rattle.rules.specs.Symbols.{Fault, Kind, word, name, number, quoted, dots, s
 use Rattle.rules.specs.Symbols.{end_of}
 use Rattle.rules.specs.Symbols.{tag}
 use Rattle.rules.specs.Symbols.{Gap, up_to, open_at, apart, gap, Quote, closed, bad, endless, quote, unsigned_length}
-use Rattle.rules.specs.Symbols.{digit_count, word_kind, number_kind, a_word, a_number, a_string, is_mark_byte, symbol_of}
+use Rattle.rules.specs.Symbols.{digit_count, word_kind, number_kind, a_word, a_number, a_string}
+use Rattle.rules.specs.Symbols.{is_mark_byte, symbol_of}
 use Rattle.rules.specs.Symbols.{beyond}
 use Rattle.rules.specs.Symbols.{symbol_at, most_digits}
 use Rattle.rules.proofs.Tests.{never, alike, or_split, split}

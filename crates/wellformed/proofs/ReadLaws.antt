@@ -13,7 +13,8 @@ use Rattle.rules.specs.Bytes.{ascii, same, is_one_of}
 use Rattle.rules.specs.Names.{name_of}
 use Rattle.rules.specs.Symbols.{impossible, Kind, Symbol, symbol, name, number, quoted, dots, stop, is_kind, is_mark}
 use Rattle.rules.specs.Symbols.{is_word, is_one_word}
-use Rattle.rules.specs.Readers.{done, refused, Reader, ret, ◌>>=◌, expect, a_name, a_number, a_string, the_mark, the_word}
+use Rattle.rules.specs.Readers.{done, refused, Reader, ret, ◌>>=◌, expect, a_name, a_number, a_string}
+use Rattle.rules.specs.Readers.{the_mark, the_word}
 use Rattle.rules.specs.Readers.{if_next}
 use Rattle.rules.specs.Numbers.{digits}
 use Rattle.rules.specs.Enumerations.{Enum}
