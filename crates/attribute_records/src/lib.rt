@@ -97,7 +97,8 @@ pub fn use_at(a: AttributeUnit, named: usize, kept: usize) -> usize
     ensures v_value { (ks : List Def) (w : Option WrittenType) (v : Use) (target : ℕ) → a.written.meant ≡ any_of w
         → named ≡ cond (is_naming w) target 0
         → Refers w (entry ks target) → use_for (entry ks kept) (ty_of v) ≡ v
-        → use_for (entry ks result) (ty_of (attribute_use w (entry ks target) v)) ≡ attribute_use w (entry ks target) v }
+        → use_for (entry ks result) (ty_of (attribute_use w (entry ks target) v))
+        ≡ attribute_use w (entry ks target) v }
     ensures by_index { (count : ℕ) → named ≤ count → kept ≤ count → result ≤ count }
 {
     let w = a.written;

@@ -49,7 +49,8 @@ fn kept_by(rows: &[u16], count: usize, q: usize) -> usize
     requires { AttributeRows rows.now q }
     ensures { (result ≤ count) × ((t b : List ℕ) (ks : List Def) (ms : List Attribute) (x : List ℕ) (total : ℕ)
         → Held t b ks ms x count rows.now total → q ≤ total
-        → (use_for (entry ks result) (ty_of (or_no_attribute (entry ms q)).use_of) ≡ (or_no_attribute (entry ms q)).use_of)
+        → (use_for (entry ks result) (ty_of (or_no_attribute (entry ms q)).use_of)
+        ≡ (or_no_attribute (entry ms q)).use_of)
         × (0 < q → result ≡ get_or (row attribute_width rows.now q) 5 0)) }
 {
     if q == 0 {

@@ -16,7 +16,6 @@ use Rattle.rules.specs.Declarations.{known}
 use Rattle.rules.specs.Book.{bytes, flags, number_or, head_record, use_records, attribute_records, records, book}
 use Rattle.rules.specs.Judge.{ok, base_of_attribute, has_extended, reference_in, resolved, new_attribute}
 use Rattle.rules.specs.Judge.{with_attribute}
-use Rattle.rules.specs.Judge.{opened}
 use Rattle.rules.specs.Check.{lent, room}
 use Rattle.ground.specs.Parts.{splice}
 use Rattle.ground.proofs.BufferLaws.{length-splice}

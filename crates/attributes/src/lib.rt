@@ -59,7 +59,8 @@ fn is_mandatory(index: &[u16], rows: &[u16], written: bool, base: usize, target:
     requires { AttributeRows rows.now base × Rows index.now target }
     ensures { (t b : List ℕ) (ks : List Def) (ms : List Attribute) (count total : ℕ)
         → Held t b ks ms index.now count rows.now total → base ≤ total → target ≤ count
-        → result ≡ (written || ((or_no_def (entry ks target)).mandatory || (or_no_attribute (entry ms base)).mandatory)) }
+        → result ≡ (written
+        || ((or_no_def (entry ks target)).mandatory || (or_no_attribute (entry ms base)).mandatory)) }
 {
     if written {
         return true;

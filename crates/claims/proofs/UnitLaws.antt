@@ -16,7 +16,7 @@ use Rattle.rules.specs.Symbols.{Fault, number_of, Symbol, end_of, name, number, 
 use Rattle.rules.specs.Symbols.{is_mark, is_word, is_one_word}
 use Rattle.rules.specs.Numbers.{digits}
 use Rattle.rules.specs.Enumerations.{Enum, end, elem}
-use Rattle.rules.specs.Readers.{Result, done, refused, Reader, and_then, ◌>>=◌, ◌>>◌, ret, refuse, expect, aName}
+use Rattle.rules.specs.Readers.{Result, done, refused, Reader, and_then, ◌>>=◌, ◌>>◌, ret, refuse, expect, a_name}
 use Rattle.rules.specs.Readers.{fault_of, the_mark, if_next, optional}
 use Rattle.rules.specs.Grammar as G
 use Rattle.rules.specs.Grammar.{enough, properties_from, properties, Reference, reference, extends, close_final}
@@ -201,7 +201,7 @@ module _ (t : List ℕ) where
   abbrev Any : {A : Type 0} → A → Type 0
   Any a = Unit
 
-  a-name : {i : ℕ} → Reads i (NameIn i) aName
+  a-name : {i : ℕ} → Reads i (NameIn i) a_name
   a-name = bind (passes (is_kind name)) (λ y h. gives _ h)
 
   -- ---- the parts of units
@@ -222,7 +222,7 @@ module _ (t : List ℕ) where
   -- behind its first name
   abbrev behind_name : Name → Reader Reference
   behind_name a = if_next (is_mark ".")
-      (the_mark "." >> (aName >>= λ b. if_next (is_mark ".") (the_mark "." >> (aName >>= λ c. ret (G.in_topic a b c)))
+      (the_mark "." >> (a_name >>= λ b. if_next (is_mark ".") (the_mark "." >> (a_name >>= λ c. ret (G.in_topic a b c)))
       (ret (G.in_model a b)))) (ret (G.bare a))
 
   reference-from : {i : ℕ} {P : Reference → Type 0} (a : Name)
@@ -371,7 +371,7 @@ module _ (t : List ℕ) where
   -- ---- units
   -- a name, and from it on what stands behind it
   named : {A : Type 0} {P : A → Type 0} {k : Name → Reader A}
-      → ((n : Name) → NameIn 0 n → Reads n.offset P (k n)) → Reads 0 P (aName >>= k)
+      → ((n : Name) → NameIn 0 n → Reads n.offset P (k n)) → Reads 0 P (a_name >>= k)
   named {P} {k} f =
       record {
         reads = λ y l. either (λ m. Ends 0 P (and_then t (and_then t m (λ x. ret (name_of x))) k)) (is_kind name y)

@@ -12,7 +12,7 @@ use Rattle.rules.specs.Names.{Name}
 use Rattle.rules.specs.Grammar.{Reference, Written}
 use Rattle.rules.specs.Types.{Ty}
 use Rattle.rules.specs.Declarations.{domain, Def, State, attributes_of, known, def}
-use Rattle.rules.specs.Book.{Record, bytes, type_records, decl_records, records, book, flags, base_number}
+use Rattle.rules.specs.Book.{Record, bytes, type_records, decl_records, book, flags, base_number}
 use Rattle.rules.specs.Judge.{ok, or_no_def, resolved, target_in, bases_of, has_abstract, has_final, domain_type}
 use Rattle.rules.specs.Judge.{new_domain}
 use Rattle.rules.specs.Judge.{declare}

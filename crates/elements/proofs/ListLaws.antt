@@ -10,7 +10,7 @@ use Rattle.rules.specs.Bytes.{ascii}
 use Rattle.rules.specs.Names.{Name}
 use Rattle.rules.specs.Symbols as rules
 use Rattle.rules.specs.Symbols.{Fault, too_large, symbol_at, end_of, is_mark, is_word}
-use Rattle.rules.specs.Readers.{Result, done, refused, Reader, and_then, ◌>>=◌, ◌>>◌, ret, aName, the_mark, the_word}
+use Rattle.rules.specs.Readers.{Result, done, refused, Reader, and_then, ◌>>=◌, ◌>>◌, ret, a_name, the_mark, the_word}
 use Rattle.rules.specs.Readers.{if_next}
 use Rattle.rules.specs.Enumerations.{Enum, end, elem, final}
 use Rattle.rules.specs.Grammar.{enough, close_final, opening_bracket, enumeration, elements, Element, element}
@@ -46,7 +46,7 @@ module _ (t : List ℕ) (d : ℕ) where
       }
 
   pub element-reads : {P : Element → Type 0} {y n : Symbol} →
-      Reads t (aName >>= λ a. if_next (is_mark "(") (enumeration (enough t) d) (ret (end false))
+      Reads t (a_name >>= λ a. if_next (is_mark "(") (enumeration (enough t) d) (ret (end false))
       >>= λ i. ret (record { name = a; inner = i })) P y n
       → Reads t (element (enough t) d) P y n
   unfolding enumeration

@@ -8,7 +8,7 @@ use native.Mathlib.Omega.{arith}
 use lib.ListN.{length, length-append}
 use Rattle.rules.specs.Bytes.{ascii}
 use Rattle.rules.specs.Symbols.{Symbol, is_mark, is_word}
-use Rattle.rules.specs.Readers.{Result, done, refused, Reader, and_then, ◌>>=◌, ◌>>◌, ret, aName, the_mark, the_word}
+use Rattle.rules.specs.Readers.{Result, done, refused, Reader, and_then, ◌>>=◌, ◌>>◌, ret, a_name, the_mark, the_word}
 use Rattle.rules.specs.Readers.{if_next}
 use Rattle.rules.specs.Enumerations.{Enum, end, elem}
 use Rattle.rules.specs.Grammar.{enough, close_final, deepest, opening_bracket, enumeration, elements, element}
@@ -112,7 +112,7 @@ module _ (t : List ℕ) where
     element-spent (suc f) d i z l s =
         let inner = if_next (is_mark "(") (enumeration f d) (ret (end false)) in
         let size : Enum → ℕ = λ x. length (bytes (inner_records x (open_record x ∷ element_records x))) in
-        then_spent (λ _. 3) 0 i (λ e. length (element_bytes e)) 3 i t (aName t z)
+        then_spent (λ _. 3) 0 i (λ e. length (element_bytes e)) 3 i t (a_name t z)
         (λ n. inner >>= λ x. ret (record { name = n; inner = x })) (paid t i z a-name l s)
         (λ a w h k. then_spent size 0 w.place (λ e. length (element_bytes e)) 3 i t (inner t w)
         (λ x. ret (record { name = a; inner = x }))

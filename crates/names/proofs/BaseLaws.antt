@@ -9,8 +9,6 @@ use lib.ListN.{length, get_or}
 use lib.Dec.{eqb}
 use borrow.Author.Tests.{eq-eqb, ne_eqb}
 use Rattle.rules.specs.Bytes.{same}
-use Rattle.rules.specs.Grammar as G
-use Rattle.rules.specs.Declarations as D
 use Rattle.rules.specs.Declarations.{Def, State, known, lookup, at_home, at_hand, in_topic_of, resolve, sort_number}
 use Rattle.rules.specs.Book.{flags}
 use Rattle.rules.specs.Judge.{bases_of, is_among}

@@ -6,7 +6,7 @@ use Rattle.std.proofs.Math.Option.{Option, none, some}
 use Rattle.rules.specs.Bytes.{same}
 use Rattle.rules.specs.Names.{Name}
 use Rattle.rules.specs.Declarations.{sort_number, Def, attributes_of}
-use Rattle.rules.specs.Book.{bytes, flags}
+use Rattle.rules.specs.Book.{flags}
 use Rattle.rules.specs.Judge.{or_no_def, bases_of}
 use Rattle.ground.specs.Parts.{part}
 

@@ -14,7 +14,7 @@ use Rattle.rules.specs.Bytes.{is, is_letter, is_digit, is_word_byte, is_one_of, 
 use Rattle.rules.specs.Symbols.{Kind, Symbol, Quote, Gap, number, symbol, tag, closed, bad, endless, up_to, open_at}
 use Rattle.rules.specs.Symbols.{gap}
 use Rattle.rules.specs.Symbols.{apart, quote}
-use Rattle.rules.specs.Symbols.{digit_count, unsigned_length, word_kind, number_kind, aString, is_mark_byte, symbol_of}
+use Rattle.rules.specs.Symbols.{digit_count, unsigned_length, word_kind, number_kind, a_string, is_mark_byte, symbol_of}
 use Rattle.rules.specs.Symbols.{beyond}
 use Rattle.rules.specs.Symbols.{symbol_at, most_digits}
 use Rattle.rules.specs.Reserved.{forms, table}
@@ -134,7 +134,7 @@ counted {p} b h =
     (λ e. let l = ltb-false most_digits (digit_count b) e in
     record { sized = λ _. record { digits = l; decimals = omega (arith, l) } })
 
-string-sized : (k : ℕ) (s : List ℕ) (q : Quote) → SizedNumber (aString k s q)
+string-sized : (k : ℕ) (s : List ℕ) (q : Quote) → SizedNumber (a_string k s q)
 string-sized k s (closed n) = other (λ q. omega arith)
 string-sized k s (bad n) = other (λ q. omega arith)
 string-sized k s endless = other (λ q. omega arith)

@@ -6,7 +6,6 @@ use Prim.Native.Nat.{ℕ}
 use native.Mathlib.Omega.{arith}
 use Rattle.rules.specs.Bytes.{ascii}
 use Rattle.rules.specs.Symbols.{is_mark, is_word}
-use Rattle.rules.specs.Grammar as G
 use Rattle.rules.specs.Grammar.{bare, in_model, in_topic, reference, extends, unit_reference, optional_unit}
 use Rattle.symbols.specs.declared.Symbol.{Symbol}
 use Rattle.ground.specs.declared.Name.{Name}

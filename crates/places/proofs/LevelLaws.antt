@@ -1,5 +1,5 @@
 -- Bytes among which no line ends.
-use Rattle.std.proofs.Common.{◌≡◌, ℕ, zero, suc, ◌+◌, ◌-◌, ◌<◌, ◌≤◌, Bool, true, false, ltb, ◌⊎◌, List, [], ◌∷◌, length}
+use Rattle.std.proofs.Common.{◌≡◌, ℕ, zero, suc, ◌+◌, ◌-◌, ◌≤◌, Bool, true, false, ltb, ◌⊎◌, List, [], ◌∷◌, length}
 use Rattle.std.proofs.Common.{get_or, take, drop, refl, ap, ◌∙◌, subst, inl, inr, arith, drop_of_length-le, drop-cons}
 use Rattle.std.proofs.Common.{ltb-false, ltb-true, eqb-true}
 use lib.ListN.{get_or-eq_default}

@@ -5,7 +5,6 @@ use Rattle.rules.specs.Lines as rules
 use Rattle.rules.specs.Lines.{ends_at, position_of}
 use Rattle.rules.proofs.LineLaws.{behind, position_first, position-next, position-end, line-bound}
 use Rattle.places.specs.declared.Line.{Line}
-use Rattle.places.specs.declared.Position.{Position}
 use Rattle.places.specs.Standing.{on_line, position_in, first_line, behind_byte, lines_on, line_to, line_at}
 
 -- ---- from one place to another

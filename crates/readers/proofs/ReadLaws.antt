@@ -9,7 +9,7 @@ use borrow.Author.Tests.{eq-eqb, ne_eqb, eqb-true}
 use Rattle.rules.specs.Names.{name_of}
 use Rattle.rules.specs.Symbols as rules
 use Rattle.rules.specs.Symbols.{Fault, symbol_at, end_of}
-use Rattle.rules.specs.Readers.{Result, done, refused, Reader, and_then, ◌>>=◌, ret, expect, aName, if_next}
+use Rattle.rules.specs.Readers.{Result, done, refused, Reader, and_then, ◌>>=◌, ret, expect, a_name, if_next}
 use Rattle.symbols.specs.declared.Symbol.{Symbol}
 use Rattle.symbols.specs.Cut.{code_of, faulty_as, cut, next_of}
 use Rattle.symbols.proofs.CutLaws.{its-length, next-cut}
@@ -119,7 +119,7 @@ module _ {t : List ℕ} {p : rules.Symbol → Bool} {k : ℕ} (q : Test p k) whe
 pub named-cut : (t : List ℕ) {y : Symbol} (z : rules.Symbol) → y ≡ cut t z → named y ≡ name_cut (name_of z)
 named-cut t z h = ap named h ∙ ap (λ n. record { offset = z.place; len = n }) (its-length t z)
 
-pub a-name : {t : List ℕ} {y n : Symbol} → n ≡ passed t y 1 → Reads t aName (λ a. named y ≡ name_cut a) y n
+pub a-name : {t : List ℕ} {y n : Symbol} → n ≡ passed t y 1 → Reads t a_name (λ a. named y ≡ name_cut a) y n
 a-name {t} e = mapped name_of (expected is_name e) (named-cut t)
 
 -- the same, and what is known of the symbol that is passed

@@ -10,10 +10,9 @@ use lib.ListN.{length, take, drop, get_or, drop_of_length-le}
 use lib.Seq.{drop-cons}
 use borrow.Author.Tests.{eqb-true}
 use Rattle.rules.specs.Bytes.{part, is, is_letter, is_digit, is_word_byte, is_separator, span}
-use Rattle.rules.specs.Symbols as rules
 use Rattle.rules.specs.Symbols.{Symbol, no_symbol, unclosed, fault, mark, dots, stop, symbol, is_mark_byte}
 use Rattle.rules.specs.Symbols.{unsigned_length}
-use Rattle.rules.specs.Symbols.{quote, aWord, a_number, aString, symbol_of, beyond, symbol_at}
+use Rattle.rules.specs.Symbols.{quote, a_word, a_number, a_string, symbol_of, beyond, symbol_at}
 use Rattle.rules.proofs.Tests.{split, or_split, or_r, or-fails, not_is, is_false, not-both}
 use Rattle.rules.proofs.SymbolLaws.{next-lies}
 use Rattle.places.specs.declared.Line.{Line}
@@ -110,9 +109,9 @@ module _ (k : ℕ) (s : List ℕ) where
   of-sign b (inl p) = subst⁻¹ (λ (x : ℕ). symbol_of k (x ∷ s) ≡ signed x) p refl
   of-sign b (inr p) = subst⁻¹ (λ (x : ℕ). symbol_of k (x ∷ s) ≡ signed x) p refl
 
-  of-quote : (b : ℕ) → b ≡ 34 → symbol_of k (b ∷ s) ≡ aString k (b ∷ s) (quote s 0 0)
+  of-quote : (b : ℕ) → b ≡ 34 → symbol_of k (b ∷ s) ≡ a_string k (b ∷ s) (quote s 0 0)
   unfolding symbol_of
-  of-quote b p = subst⁻¹ (λ (x : ℕ). symbol_of k (x ∷ s) ≡ aString k (x ∷ s) (quote s 0 0)) p refl
+  of-quote b p = subst⁻¹ (λ (x : ℕ). symbol_of k (x ∷ s) ≡ a_string k (x ∷ s) (quote s 0 0)) p refl
 
   abbrev dotted : ℕ → Symbol
   dotted b = cond (is "." (get_or s 0 0)) (symbol dots k (take 2 (b ∷ s))) (symbol (mark b) k (b ∷ []))
@@ -136,7 +135,7 @@ module _ (t : List ℕ) (i : ℕ) (x : Line) (h : i < length t) (l : get_or t i 
   unfolding symbol_of
   next-letter c = begins-here t i x _ at refl
     where
-      at : symbol_at t i ≡ aWord i (part t i (run_end is_word_byte t (i + 1) - i))
+      at : symbol_at t i ≡ a_word i (part t i (run_end is_word_byte t (i + 1) - i))
       at =
           let n : suc i + span is_word_byte (drop (suc i) t) - i
           ≡ suc (span is_word_byte (drop (suc i) t)) = omega arith in
@@ -172,7 +171,7 @@ module _ (t : List ℕ) (i : ℕ) (x : Line) (h : i < length t) (l : get_or t i 
   pub next-quote : class_of b ≡ Quote → next t i x ≡ string_cut t i x
   next-quote c =
       let q : b ≡ 34 = eqb-true b 34 (class-first b Quote l c) in
-      let f : symbol_at t i ≡ aString i (drop i t) (quote (drop (i + 1) t) 0 0) = here Quote c refl
+      let f : symbol_at t i ≡ a_string i (drop i t) (quote (drop (i + 1) t) 0 0) = here Quote c refl
       ∙ rw (add-one i, drop-cons t i 0 h) (of-quote i (drop (suc i) t) b q) in
       begins-on t i x _ f (string-level t i x h q)
 

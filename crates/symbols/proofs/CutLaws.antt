@@ -16,7 +16,8 @@ use Rattle.rules.specs.Symbols.{Fault, Kind, word, name, number, quoted, dots, s
 use Rattle.rules.specs.Symbols.{end_of}
 use Rattle.rules.specs.Symbols.{tag}
 use Rattle.rules.specs.Symbols.{Gap, up_to, open_at, apart, gap, Quote, closed, bad, endless, quote, unsigned_length}
-use Rattle.rules.specs.Symbols.{digit_count, word_kind, number_kind, aWord, a_number, aString, is_mark_byte, symbol_of}
+use Rattle.rules.specs.Symbols.{digit_count, word_kind, number_kind, a_word, a_number, a_string}
+use Rattle.rules.specs.Symbols.{is_mark_byte, symbol_of}
 use Rattle.rules.specs.Symbols.{beyond}
 use Rattle.rules.specs.Symbols.{symbol_at, most_digits}
 use Rattle.rules.proofs.Tests.{never, alike, or_split, split}
@@ -109,7 +110,7 @@ module _ (t : List ℕ) (k : ℕ) where
   number_cut_lem n l = first-cut (number_kind (take n (drop k t))) n (number-sound (take n (drop k t))) l
 
   module _ (b : ℕ) (s : List ℕ) (e : drop k t ≡ b ∷ s) where
-    word_cut_lem : is_letter b ≡ true → Cut t (aWord k (take (suc (span is_word_byte s)) (b ∷ s)))
+    word_cut_lem : is_letter b ≡ true → Cut t (a_word k (take (suc (span is_word_byte s)) (b ∷ s)))
     word_cut_lem l =
         let w = take (span is_word_byte s) s in
         let v : Level (b ∷ w) = (no_end is_letter refl refl b l, level-run is_word_byte refl refl s) in
@@ -121,7 +122,7 @@ module _ (t : List ℕ) (k : ℕ) where
         let v : is_line_end b ≡ false = no_end (λ x. is "+" x || is "-" x) refl refl b l in
         rw e at (number_cut_lem (suc (unsigned_length s)) (rw e (v, number-level s)))
 
-    string-cut : is_line_end b ≡ false → (q : Quote) → QuoteLevel s 0 q → Cut t (aString k (b ∷ s) q)
+    string-cut : is_line_end b ≡ false → (q : Quote) → QuoteLevel s 0 q → Cut t (a_string k (b ∷ s) q)
     string-cut v (closed n) l =
         let z : n - 0 ≡ n = omega arith in
         rw e at (first-cut quoted (suc (suc n)) tt (rw e (v, rw z at l.1)))

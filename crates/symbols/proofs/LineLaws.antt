@@ -1,5 +1,5 @@
 -- No symbol holds a line end, and none stands in a string before a byte that is not allowed.
-use mathlib.Core.Path.{◌≡◌, refl, ◌∙◌}
+use mathlib.Core.Path.{◌≡◌, refl}
 use mathlib.Core.Bool.{true, false, not, ◌&&◌, ◌||◌}
 use mathlib.Core.List.{List, [], ◌∷◌}
 use Prim.Native.Nat.{ℕ, zero, suc, ◌+◌, ◌-◌, ◌≤◌, ◌<◌}
@@ -9,7 +9,7 @@ use lib.ListN.{length, take, drop, get_or}
 use lib.Seq.{drop-cons}
 use lib.Dec.{eqb, ltb}
 use Rattle.rules.specs.Bytes.{is, is_digit, is_hexadecimal, is_line_end, span}
-use Rattle.rules.specs.Symbols.{Quote, closed, bad, endless, escape, quote, unsigned_length, aString}
+use Rattle.rules.specs.Symbols.{Quote, closed, bad, endless, escape, quote, unsigned_length, a_string}
 use Rattle.rules.proofs.Tests.{split}
 use Rattle.rules.proofs.SymbolLaws.{either}
 use Rattle.places.specs.declared.Line.{Line}
@@ -86,10 +86,10 @@ quote-level (b ∷ s) zero k h =
 
 -- a string's symbol stands on the line that the string begins on
 pub string-level : (t : List ℕ) (i : ℕ) (x : Line) → i < length t → get_or t i 0 ≡ 34
-    → line_to t i (aString i (drop i t) (quote (drop (i + 1) t) 0 0)).place x ≡ x
+    → line_to t i (a_string i (drop i t) (quote (drop (i + 1) t) 0 0)).place x ≡ x
 string-level t i x h e = go (quote (drop (i + 1) t) 0 0) (quote-level (drop (i + 1) t) 0 0 tt)
   where
-    go : (q : Quote) → QuoteLevel (drop (i + 1) t) 0 q → line_to t i (aString i (drop i t) q).place x ≡ x
+    go : (q : Quote) → QuoteLevel (drop (i + 1) t) 0 q → line_to t i (a_string i (drop i t) q).place x ≡ x
     go (closed n) l = to-here t i x
     go (bad n) (_, l) =
         let z : suc (i + n) - i ≡ suc n = omega arith in

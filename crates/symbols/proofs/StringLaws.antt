@@ -11,7 +11,7 @@ use lib.Seq.{drop-cons, drop-drop, length-take-le}
 use lib.Dec.{eqb, ltb}
 use borrow.Author.Tests.{ne_eqb}
 use Rattle.rules.specs.Bytes.{is}
-use Rattle.rules.specs.Symbols.{Quote, closed, bad, escape, quote, aString}
+use Rattle.rules.specs.Symbols.{Quote, closed, bad, escape, quote, a_string}
 use Rattle.symbols.specs.declared.Symbol.{Symbol}
 use Rattle.symbols.specs.Cut.{made, cut_on}
 use Rattle.places.specs.declared.Line.{Line}
@@ -94,7 +94,7 @@ module _ (t : List ℕ) (i k : ℕ) (h : i < length t) where
 module _ (t : List ℕ) (at i : ℕ) (x : Line) (h : at < i)
     (q : quote (drop (at + 1) t) 0 0 ≡ quote (drop i t) 0 (i - (at + 1))) where
   abbrev Is : Symbol → Type 0
-  Is y = cut_on x (aString at (drop at t) (quote (drop (at + 1) t) 0 0)) ≡ y
+  Is y = cut_on x (a_string at (drop at t) (quote (drop (at + 1) t) 0 0)) ≡ y
 
   pub string-closed : i < length t → get_or t i 0 ≡ 34 → Is (made 3 5 at (i + 1 - at) x)
   string-closed l e =

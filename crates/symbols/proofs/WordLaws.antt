@@ -8,7 +8,7 @@ use lib.ListN.{length}
 use borrow.Author.Tests.{lt-ltb, le-ltb}
 use Rattle.rules.specs.Bytes.{part, is_one_of}
 use Rattle.rules.specs.Reserved.{forms, table}
-use Rattle.rules.specs.Symbols.{reserved, word, name, fault, symbol, word_kind, aWord}
+use Rattle.rules.specs.Symbols.{reserved, word, name, fault, symbol, word_kind, a_word}
 use Rattle.rules.proofs.PartLaws.{length_part}
 use Rattle.words.specs.Words.{position, word_code}
 use Rattle.places.specs.declared.Line.{Line}
@@ -39,20 +39,20 @@ module _ (t : List ℕ) (k n : ℕ) (x : Line) (l : k + n ≤ length t) where
   abbrev size : length b ≡ n
   size = length_part t k n l
 
-  pub word-large : 255 < n → cut_on x (aWord k (part t k n)) ≡ made 5 4 k n x
+  pub word-large : 255 < n → cut_on x (a_word k (part t k n)) ≡ made 5 4 k n x
   word-large h = large b (omega (arith, size)) ∙ ap (λ n. made 5 4 k n x) size
     where
-      large : (b : List ℕ) → 255 < length b → cut_on x (aWord k b) ≡ made 5 4 k (length b) x
+      large : (b : List ℕ) → 255 < length b → cut_on x (a_word k b) ≡ made 5 4 k (length b) x
       large b h = rw (lt-ltb 255 (length b) h)
 
-  pub word-reserved : n ≤ 255 → word_code (part t k n) ≡ 46 → cut_on x (aWord k (part t k n)) ≡ made 5 6 k n x
+  pub word-reserved : n ≤ 255 → word_code (part t k n) ≡ 46 → cut_on x (a_word k (part t k n)) ≡ made 5 6 k n x
   unfolding word_code
   word-reserved h e =
       ap (λ y. cut_on x (symbol y k b)) (short b (omega (arith, size)))
       ∙ cut-reserved x (is_one_of b forms) (is_one_of b table) k b e ∙ ap (λ n. made 5 6 k n x) size
 
   pub word-other : n ≤ 255 → ¬ (word_code (part t k n) ≡ 46)
-      → cut_on x (aWord k (part t k n)) ≡ made (word_code (part t k n)) 5 k n x
+      → cut_on x (a_word k (part t k n)) ≡ made (word_code (part t k n)) 5 k n x
   unfolding word_code
   word-other h e =
       ap (λ y. cut_on x (symbol y k b)) (short b (omega (arith, size)))

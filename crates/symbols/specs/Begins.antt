@@ -1,7 +1,7 @@
 -- What begins at a place of a text, by its byte.
 use Rattle.std.specs.Prelude.{cond, ◌||◌, List, ℕ, ◌+◌, ◌-◌, drop, get_or, ltb}
 use Rattle.rules.specs.Bytes.{part, is, is_letter, is_digit, is_word_byte, is_line_end}
-use Rattle.rules.specs.Symbols.{quote, unsigned_length, most_digits, aWord, a_number, aString, is_mark_byte}
+use Rattle.rules.specs.Symbols.{quote, unsigned_length, most_digits, a_word, a_number, a_string, is_mark_byte}
 use Rattle.ground.specs.Parts.{run_end}
 use Rattle.places.specs.declared.Line.{Line}
 use Rattle.scans.specs.Scans.{is_blank, two_at}
@@ -25,10 +25,10 @@ class_of b =
 
 -- what begins at i, on the line x: with a letter; with a quote; with a digit, behind a sign of so many bytes
 abbrev pub word_cut : List ℕ → ℕ → Line → Symbol
-word_cut t i x = cut_on x (aWord i (part t i (run_end is_word_byte t (i + 1) - i)))
+word_cut t i x = cut_on x (a_word i (part t i (run_end is_word_byte t (i + 1) - i)))
 
 abbrev pub string_cut : List ℕ → ℕ → Line → Symbol
-string_cut t i x = cut_on x (aString i (drop i t) (quote (drop (i + 1) t) 0 0))
+string_cut t i x = cut_on x (a_string i (drop i t) (quote (drop (i + 1) t) 0 0))
 
 abbrev pub unsigned_cut : List ℕ → ℕ → ℕ → Line → Symbol
 unsigned_cut t i sign x = cut_on x (a_number i (part t i (sign + unsigned_length (drop (i + sign) t))))

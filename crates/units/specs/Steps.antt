@@ -6,7 +6,7 @@ use Rattle.rules.specs.Names as Names
 use Rattle.rules.specs.Names.{Sort, unit, sort_number}
 use Rattle.rules.specs.Symbols as rules
 use Rattle.rules.specs.Symbols.{Fault, symbol_at, name, is_kind, is_mark}
-use Rattle.rules.specs.Readers.{Result, done, refused, Reader, ◌>>◌, aName, the_mark, if_next, optional}
+use Rattle.rules.specs.Readers.{Result, done, refused, Reader, ◌>>◌, a_name, the_mark, if_next, optional}
 use Rattle.rules.specs.Grammar.{Reference}
 use Rattle.rules.specs.Units as U
 use Rattle.symbols.specs.declared.Symbol.{Symbol}
@@ -71,7 +71,7 @@ end_mark last = cond last "." ";"
 
 -- a name in parentheses, perhaps
 abbrev pub language : Reader (Option rules.Symbol)
-language = optional (is_mark "(") (the_mark "(" >> (aName >> the_mark ")"))
+language = optional (is_mark "(") (the_mark "(" >> (a_name >> the_mark ")"))
 
 abbrev pub anything : Option rules.Symbol → Type 0
 anything o = Unit {0}

@@ -13,7 +13,8 @@ use Rattle.rules.specs.Bytes.{ascii, same, is_one_of}
 use Rattle.rules.specs.Names.{name_of}
 use Rattle.rules.specs.Symbols.{impossible, Kind, Symbol, symbol, name, number, quoted, dots, stop, is_kind, is_mark}
 use Rattle.rules.specs.Symbols.{is_word, is_one_word}
-use Rattle.rules.specs.Readers.{done, refused, Reader, ret, ◌>>=◌, expect, aName, a_number, aString, the_mark, the_word}
+use Rattle.rules.specs.Readers.{done, refused, Reader, ret, ◌>>=◌, expect, a_name, a_number, a_string}
+use Rattle.rules.specs.Readers.{the_mark, the_word}
 use Rattle.rules.specs.Readers.{if_next}
 use Rattle.rules.specs.Numbers.{digits}
 use Rattle.rules.specs.Enumerations.{Enum}
@@ -66,7 +67,7 @@ module _ {t : List ℕ} where
   the_word_lem : (w : List ℕ) → Gives t (Whole t) (λ _ _. Unit {0}) (the_word w)
   the_word_lem w = skips (is_word w)
 
-  a-string : Gives t (Whole t) (λ _ a. FairSymbol t a) aString
+  a-string : Gives t (Whole t) (λ _ a. FairSymbol t a) a_string
   a-string = takes (is_kind quoted) (λ y h e. symbol-in-text t y h)
 
   a-number : Gives t (Whole t) (λ y a. FairNumber a × (a.place ≡ y.place)) a_number
@@ -104,7 +105,7 @@ module _ {t : List ℕ} where
       bind (option (is_mark "*") (bind (the-mark "*") (λ _ _ _. text-length))) (λ _ n h. stays (λ _. (h, tt, refl))))
 
 module _ {t : List ℕ} (small : length t < 4294967296) where
-  a-name : Gives t (Whole t) (λ _ n. InText t n) aName
+  a-name : Gives t (Whole t) (λ _ n. InText t n) a_name
   a-name = bind (takes {P = λ _ a. InText t (name_of a)} (is_kind name) (λ y h e. in_text t y h small e))
       (λ _ a h. stays (λ _. h))
 

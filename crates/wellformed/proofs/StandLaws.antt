@@ -8,7 +8,7 @@ use Prim.Native.Char.{Char}
 use Rattle.rules.specs.Bytes.{ascii, is_one_of}
 use Rattle.rules.specs.Names.{Name, Sort}
 use Rattle.rules.specs.Symbols.{Symbol, name, stop, is_kind, is_mark, is_word, is_one_word}
-use Rattle.rules.specs.Readers.{done, ◌>>◌, expect, aName, a_number, aString, the_mark, the_word, optional}
+use Rattle.rules.specs.Readers.{done, ◌>>◌, expect, a_name, a_number, a_string, the_mark, the_word, optional}
 use Rattle.rules.specs.Grammar.{Reference, Written, properties, extends, written, type_of, type_or_reference}
 use Rattle.rules.specs.Units as U
 use Rattle.rules.specs.Units.{Strings, Around, is_model, Run, of_domains, of_units, Behind, is_head, Where, start}
@@ -57,7 +57,7 @@ module _ {t : List ℕ} where
       → Gives t Any (Leads w) (end_unit c v)
   unfolding end_unit
   end-leads w c v h = bind (anything (the_word (ascii "END")))
-      (λ _ _ _. bind (anything aName) (λ _ n _. bind (anything (the_mark c)) (λ _ _ _. stays (λ _. h n))))
+      (λ _ _ _. bind (anything a_name) (λ _ n _. bind (anything (the_mark c)) (λ _ _ _. stays (λ _. h n))))
 
   word-leads : (w : Where) (k : List ℕ) (v : Where) → Goes w none v → Gives t Any (Leads w) (word_step k v)
   unfolding word_step
@@ -66,19 +66,19 @@ module _ {t : List ℕ} where
   topic-leads : (i : Around) (r : Run) → Gives t Any (Leads (body i r)) topic_unit
   unfolding topic_unit
   topic-leads i r = bind (anything (the_word (ascii "TOPIC")))
-      (λ _ _ _. bind (anything aName) (λ _ n _. bind (anything (the_mark "=")) (λ _ _ _. stays (λ _. a-topic i r n))))
+      (λ _ _ _. bind (anything a_name) (λ _ n _. bind (anything (the_mark "=")) (λ _ _ _. stays (λ _. a-topic i r n))))
 
   class-leads : (i : Around) (r : Run) → Gives t Any (Leads (body i r)) (class_unit i)
   unfolding class_unit
   class-leads i r =
       bind (anything (expect (is_one_word (ascii "CLASS" ∷ ascii "STRUCTURE" ∷ [])))) (λ _ _ _.
-      bind (anything aName) (λ _ n _. bind (anything (properties (ascii "ABSTRACT" ∷ ascii "FINAL" ∷ []))) (λ _ p _.
+      bind (anything a_name) (λ _ n _. bind (anything (properties (ascii "ABSTRACT" ∷ ascii "FINAL" ∷ []))) (λ _ p _.
       bind (anything extends) (λ _ b _. bind (anything (the_mark "=")) (λ _ _ _. stays (λ _. a-class i r _ n p b))))))
 
   domain-leads : (i : Around) (r : Run) → Gives t Any (Leads (body i r)) (domain_unit i)
   unfolding domain_unit
   domain-leads i r =
-      bind (anything aName) (λ _ n _. bind (anything (properties (ascii "ABSTRACT" ∷ ascii "FINAL" ∷ [])))
+      bind (anything a_name) (λ _ n _. bind (anything (properties (ascii "ABSTRACT" ∷ ascii "FINAL" ∷ [])))
       (λ _ p _. bind (anything extends) (λ _ b _. bind (anything (the_mark "=")) (λ _ _ _.
       bind (anything (written (is_given b) type_of))
       (λ _ w _. bind (anything (the_mark ";")) (λ _ _ _. stays (λ _. a-domain i r n p b w)))))))
@@ -86,13 +86,13 @@ module _ {t : List ℕ} where
   unit-unit-leads : (i : Around) (r : Run) → Gives t Any (Leads (body i r)) (unit_unit i)
   unfolding unit_unit
   unit-unit-leads i r =
-      bind (anything aName) (λ _ n _. bind (anything (properties (ascii "ABSTRACT" ∷ []))) (λ _ p _.
+      bind (anything a_name) (λ _ n _. bind (anything (properties (ascii "ABSTRACT" ∷ []))) (λ _ p _.
       bind (anything extends) (λ _ b _. bind (anything (the_mark ";")) (λ _ _ _. stays (λ _. a_unit i r n p b)))))
 
   attribute-leads : (i : Around) (r : Behind) → Gives t Any (Leads (members i r)) (attribute_unit i)
   unfolding attribute_unit
   attribute-leads i r =
-      bind (anything aName) (λ _ n _. bind (anything (properties (ascii "EXTENDED" ∷ ascii "FINAL" ∷ [])))
+      bind (anything a_name) (λ _ n _. bind (anything (properties (ascii "EXTENDED" ∷ ascii "FINAL" ∷ [])))
       (λ _ p _. bind (anything (the_mark ":")) (λ _ _ _.
       bind (anything (written (is_one_of (ascii "EXTENDED") p) type_or_reference))
       (λ _ w _. bind (anything (the_mark ";")) (λ _ _ _. stays (λ _. an-attribute i r n p w))))))
@@ -107,10 +107,10 @@ module _ {t : List ℕ} where
   unit-leads start = bind (anything (the_word (ascii "INTERLIS")))
       (λ _ _ _. bind (anything a_number) (λ _ v _. bind (anything (the_mark ";")) (λ _ _ _. stays (λ _. a-header v))))
   unit-leads after_header =
-      bind (anything (the_word (ascii "MODEL"))) (λ _ _ _. bind (anything aName)
-      (λ _ n _. bind (anything (optional (is_mark "(") (the_mark "(" >> (aName >> the_mark ")")))) (λ _ _ _.
-      bind (anything (the_word (ascii "AT"))) (λ _ _ _. bind (anything aString)
-      (λ _ a _. bind (anything (the_word (ascii "VERSION"))) (λ _ _ _. bind (anything aString) (λ _ v _.
+      bind (anything (the_word (ascii "MODEL"))) (λ _ _ _. bind (anything a_name)
+      (λ _ n _. bind (anything (optional (is_mark "(") (the_mark "(" >> (a_name >> the_mark ")")))) (λ _ _ _.
+      bind (anything (the_word (ascii "AT"))) (λ _ _ _. bind (anything a_string)
+      (λ _ a _. bind (anything (the_word (ascii "VERSION"))) (λ _ _ _. bind (anything a_string) (λ _ v _.
       bind (anything (the_mark "=")) (λ _ _ _. stays (λ _. a-model n (record { address = a; version = v }))))))))))
   unit-leads (body i r) =
       if-next (λ y. is_model i && is_word (ascii "TOPIC") y) (topic-leads i r)

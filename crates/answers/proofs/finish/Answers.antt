@@ -5,7 +5,6 @@ use borrow.Rule.Slice.PartMut.{put_mid}
 use Rattle.rules.specs.Book.{padded}
 use Rattle.answers.proofs.AnswerLaws.{cleared-behind}
 use native.Mathlib.Omega.{arith}
-use borrow.Author.Rules.{rules}
 use Rattle.answers.proofs.finish.Goals as goal
 
 pub returns : goal.returns

@@ -1,5 +1,4 @@
 use Rattle.answers.proofs.AnswerLaws.{handed-accepted, handed-refused}
-use borrow.Author.Rules.{rules}
 use Rattle.answers.proofs.hand_out.Goals as goal
 
 pub returns-in-Accepted : goal.returns-in-Accepted

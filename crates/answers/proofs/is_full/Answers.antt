@@ -1,5 +1,4 @@
 use Rattle.answers.proofs.AnswerLaws.{full-refused}
-use borrow.Author.Rules.{rules}
 use Rattle.answers.proofs.is_full.Goals as goal
 
 pub returns-in-Refused : goal.returns-in-Refused

@@ -1,6 +1,5 @@
 use Rattle.attribute_names.proofs.NameLaws.{no_slot, at_slot, slot-within}
 use native.Mathlib.Omega.{arith}
-use borrow.Author.Rules.{rules}
 use Rattle.attribute_names.proofs.found_at.Goals as goal
 
 pub returns-then-slot-eq0 : goal.returns-then-slot-eq0

@@ -3,7 +3,6 @@ use Rattle.rules.specs.Judge.{has_extended}
 use Rattle.attribute_names.proofs.GivenLaws.{is-meant}
 use Rattle.attribute_names.proofs.BondLaws.{stopped-within, stopped-name, own-off, stopped-element, bonds-are}
 use native.Mathlib.Omega.{arith}
-use borrow.Author.Rules.{rules}
 use Rattle.attribute_names.proofs.judge_name.Goals as goal
 
 pub slot_of-first-requires : goal.slot_of-first-requires

@@ -1,7 +1,6 @@
 use mathlib.Core.Path.{sym, ap, ◌∙◌}
 use Rattle.attribute_names.proofs.NameLaws.{name_new, name-many, name-own, name-extended, name-hidden, broken_at}
 use native.Mathlib.Omega.{arith}
-use borrow.Author.Rules.{rules}
 use Rattle.attribute_names.proofs.name_ruling.Goals as goal
 
 pub returns-then-in_hand-ge-MOST : goal.returns-then-in_hand-ge-MOST

@@ -6,7 +6,6 @@ use Rattle.state.proofs.TargetLaws.{reference-fair}
 use Rattle.attribute_names.proofs.GivenLaws.{is-reference}
 use Rattle.attribute_names.proofs.BondLaws.{was, base-is, reference-is}
 use native.Mathlib.Omega.{arith}
-use borrow.Author.Rules.{rules}
 use Rattle.attribute_names.proofs.reach.Goals as goal
 
 pub target-target-requires : goal.target-target-requires

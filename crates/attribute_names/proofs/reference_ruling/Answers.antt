@@ -1,7 +1,5 @@
 use Rattle.names.specs.Index.{entry}
-use mathlib.Core.Path.{◌∙◌}
 use Rattle.attribute_names.proofs.NameLaws.{is_lost, not-lost}
-use borrow.Author.Rules.{rules}
 use Rattle.attribute_names.proofs.reference_ruling.Goals as goal
 
 pub returns-then-is_lost : goal.returns-then-is_lost

@@ -3,7 +3,6 @@ use Rattle.state.specs.Parts.{index_in, rows_in}
 use Rattle.state.proofs.RoomLaws.{definition-rows, attribute_rows}
 use Rattle.attribute_names.proofs.BondLaws.{slot_is, name-is}
 use native.Mathlib.Omega.{arith}
-use borrow.Author.Rules.{rules}
 use Rattle.attribute_names.proofs.slot_of.Goals as goal
 
 pub find_attribute-slot-requires : goal.find_attribute-slot-requires

@@ -8,7 +8,6 @@ use Rattle.attribute_types.proofs.UseLaws.{fair-naming}
 use Rattle.attribute_records.proofs.LayLaws.{descent-none, descent-kind, descent-fine, descent-other}
 use Rattle.attribute_records.proofs.LayLaws.{descent-unfit, any-fair}
 use native.Mathlib.Omega.{arith}
-use borrow.Author.Rules.{rules}
 use Rattle.attribute_records.proofs.descent_ruling.Goals as goal
 
 pub returns-then-u-eq0 : goal.returns-then-u-eq0

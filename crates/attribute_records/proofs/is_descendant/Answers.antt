@@ -1,6 +1,5 @@
 use Rattle.members.proofs.HeldLaws.{indexed}
 use Rattle.attribute_records.proofs.LayLaws.{descends-inline, descends-named}
-use borrow.Author.Rules.{rules}
 use Rattle.attribute_records.proofs.is_descendant.Goals as goal
 
 pub returns-then-u-eq0 : goal.returns-then-u-eq0

@@ -1,6 +1,5 @@
 use Rattle.attribute_records.proofs.LayLaws.{named-laid, named-over}
 use native.Mathlib.Omega.{arith}
-use borrow.Author.Rules.{rules}
 use Rattle.attribute_records.proofs.lay_named.Goals as goal
 
 pub returns-then-at-book : goal.returns-then-at-book

@@ -11,7 +11,6 @@ use Rattle.attribute_records.proofs.LayLaws.{lays-there, based-is, base-fair, an
 use Rattle.attribute_records.proofs.LayLaws.{lay-broken, lay-reference, in-place-here, kept_there, lay-kept}
 use Rattle.attribute_records.proofs.LayLaws.{based-none, valued-own, keeps-own, lay-in-place}
 use native.Mathlib.Omega.{arith}
-use borrow.Author.Rules.{rules}
 use Rattle.attribute_records.proofs.lay_use.Goals as goal
 
 pub slice_bounds-descent_ruling-end-then-u-gt0 : goal.slice_bounds-descent_ruling-end-then-u-gt0

@@ -1,5 +1,4 @@
 use Rattle.attribute_records.proofs.LayLaws.{kind-domain, kind-structure}
-use borrow.Author.Rules.{rules}
 use Rattle.attribute_records.proofs.named_kind.Goals as goal
 
 pub returns-then-sort_of-eq-DOMAIN : goal.returns-then-sort_of-eq-DOMAIN

@@ -1,7 +1,6 @@
 use Rattle.names.specs.Index.{entry}
 use Rattle.attribute_records.proofs.LayLaws.{alone-is, alone-use, written-use}
 use borrow.Enum.Refused.{opened}
-use borrow.Author.Rules.{rules}
 use Rattle.attribute_records.proofs.use_at.Goals as goal
 
 pub returns-in-Alone : goal.returns-in-Alone

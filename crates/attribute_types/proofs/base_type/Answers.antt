@@ -1,5 +1,4 @@
 use Rattle.attribute_types.proofs.UseLaws.{no-type, type-in-place, type-named}
-use borrow.Author.Rules.{rules}
 use Rattle.attribute_types.proofs.base_type.Goals as goal
 
 pub returns-then-q-eq0 : goal.returns-then-q-eq0

@@ -4,7 +4,6 @@ use mathlib.Core.Path.{◌∙◌}
 use Rattle.names.specs.Index.{entry}
 use Rattle.rules.specs.Judge.{attribute_use, or_no_attribute}
 use Rattle.attribute_types.proofs.UseLaws.{head-final, head-twice, head-numeric, head-abstract, head-fine}
-use borrow.Author.Rules.{rules}
 use Rattle.attribute_types.proofs.head_ruling.Goals as goal
 
 pub returns-then-is_last : goal.returns-then-is_last

@@ -1,5 +1,4 @@
 use Rattle.attribute_types.proofs.UseLaws.{abstract-domain, no-abstract}
-use borrow.Author.Rules.{rules}
 use Rattle.attribute_types.proofs.is_abstract_domain.Goals as goal
 
 pub returns-then-p-eq0 : goal.returns-then-p-eq0

@@ -1,7 +1,6 @@
 use Rattle.rules.specs.Declarations.{Attribute}
 use mathlib.Core.Bool.{false}
 use Rattle.attribute_types.proofs.UseLaws.{of-attribute, absent-attribute}
-use borrow.Author.Rules.{rules}
 use Rattle.attribute_types.proofs.is_last.Goals as goal
 
 pub returns-then-q-eq0 : goal.returns-then-q-eq0

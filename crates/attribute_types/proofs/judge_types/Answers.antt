@@ -3,7 +3,6 @@ use lib.Seq.{length-take-le}
 use Rattle.state.specs.Parts.{index_in, rows_in}
 use Rattle.state.proofs.RoomLaws.{definition-rows, attribute_rows}
 use native.Mathlib.Omega.{arith}
-use borrow.Author.Rules.{rules}
 use Rattle.attribute_types.proofs.judge_types.Goals as goal
 
 pub slice_bounds-types_of-end : goal.slice_bounds-types_of-end

@@ -1,6 +1,5 @@
 use Rattle.attribute_types.proofs.UseLaws.{no-use, use-there, use-within}
 use native.Mathlib.Omega.{arith}
-use borrow.Author.Rules.{rules}
 use Rattle.attribute_types.proofs.kept_by.Goals as goal
 
 pub returns-then-q-eq0 : goal.returns-then-q-eq0

@@ -1,7 +1,6 @@
 use native.Mathlib.Omega.{arith}
 use Rattle.attribute_types.proofs.UseLaws.{named-is, none_named, at_target, at_none}
 use borrow.Enum.Refused.{opened}
-use borrow.Author.Rules.{rules}
 use Rattle.attribute_types.proofs.named_at.Goals as goal
 
 pub returns-in-Named : goal.returns-in-Named

@@ -1,6 +1,5 @@
 use mathlib.Core.Path.{refl}
 use Rattle.attribute_types.proofs.UseLaws.{named-domain, named-structure}
-use borrow.Author.Rules.{rules}
 use Rattle.attribute_types.proofs.named_type.Goals as goal
 
 pub returns-then-sort_of-eq-DOMAIN : goal.returns-then-sort_of-eq-DOMAIN

@@ -8,7 +8,6 @@ use Rattle.rules.specs.Declarations.{ty_of}
 use Rattle.fitting.proofs.ValueLaws.{typed-valued}
 use Rattle.attribute_types.proofs.UseLaws.{naming-none, naming-there, own-in-place, own-named}
 use native.Mathlib.Omega.{arith}
-use borrow.Author.Rules.{rules}
 use Rattle.attribute_types.proofs.own_type.Goals as goal
 
 pub returns-then-named-eq0 : goal.returns-then-named-eq0

@@ -6,7 +6,6 @@ use Rattle.names.specs.Index.{entry}
 use Rattle.rules.specs.Judge.{or_no_attribute}
 use Rattle.fitting.proofs.ValueLaws.{typed-valued, sized_base}
 use Rattle.attribute_types.proofs.UseLaws.{fair-base, unit-base, in-place-type, own-sized}
-use borrow.Author.Rules.{rules}
 use Rattle.attribute_types.proofs.types_of.Goals as goal
 
 pub returns : goal.returns

@@ -1,5 +1,4 @@
 use Rattle.attributes.proofs.HeadLaws.{no-base, base-in-slot}
-use borrow.Author.Rules.{rules}
 use Rattle.attributes.proofs.base_number.Goals as goal
 
 pub returns-then-slot-eq0 : goal.returns-then-slot-eq0

@@ -10,7 +10,6 @@ use Rattle.state.specs.declared.Judged.TheVariants.{Fine}
 use Rattle.state.proofs.RoomLaws.{attribute_rows}
 use Rattle.attributes.proofs.EndLaws.{was, held-front, end-over, end-fine}
 use native.Mathlib.Omega.{arith}
-use borrow.Author.Rules.{rules}
 use Rattle.attributes.proofs.end_attribute.Goals as goal
 
 pub put_head-f-requires : goal.put_head-f-requires

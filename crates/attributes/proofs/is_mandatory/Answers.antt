@@ -2,7 +2,6 @@ use Rattle.names.specs.Index.{entry}
 use Rattle.rules.specs.Judge.{or_no_def, or_no_attribute}
 use mathlib.Core.Path.{sym, ◌∙◌}
 use Rattle.attributes.proofs.HeadLaws.{mandatory-written, mandatory-named, mandatory-inherited}
-use borrow.Author.Rules.{rules}
 use Rattle.attributes.proofs.is_mandatory.Goals as goal
 
 pub returns-then-written : goal.returns-then-written

@@ -11,7 +11,6 @@ use Rattle.attribute_types.proofs.UseLaws.{ready}
 use Rattle.attributes.proofs.WholeLaws.{unit-is, class-is, judged-first, refers_to, judged-second, lays}
 use Rattle.attributes.proofs.WholeLaws.{judged-third, size-solid, passes, judged-end}
 use native.Mathlib.Omega.{arith}
-use borrow.Author.Rules.{rules}
 use Rattle.attributes.proofs.judge_attribute.Goals as goal
 
 pub judge_name-b-requires : goal.judge_name-b-requires

@@ -1,7 +1,6 @@
 use Rattle.rules.specs.Declarations.{Def}
 use mathlib.Core.Bool.{false}
 use Rattle.attribute_types.proofs.UseLaws.{of-def, absent-def}
-use borrow.Author.Rules.{rules}
 use Rattle.attributes.proofs.names_mandatory.Goals as goal
 
 pub returns-then-p-eq0 : goal.returns-then-p-eq0

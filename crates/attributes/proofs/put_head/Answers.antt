@@ -9,7 +9,6 @@ use Rattle.state.specs.Parts.{index_in, rows_in}
 use Rattle.state.proofs.RoomLaws.{definition-rows, attribute_rows}
 use Rattle.attributes.proofs.HeadLaws.{head-flags, head-form}
 use native.Mathlib.Omega.{arith}
-use borrow.Author.Rules.{rules}
 use Rattle.attributes.proofs.put_head.Goals as goal
 
 pub is_mandatory-m-requires : goal.is_mandatory-m-requires

@@ -1,6 +1,5 @@
 use mathlib.Core.Path.{ap, ◌∙◌}
 use Rattle.answers.specs.Handing.{handed}
-use borrow.Author.Rules.{rules}
 use Rattle.auzuplens.proofs.auzuplens_check.Goals as goal
 
 pub returns : goal.returns

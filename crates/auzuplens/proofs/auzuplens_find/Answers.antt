@@ -1,5 +1,4 @@
 use Rattle.auzuplens.proofs.PackLaws.{packed-found}
-use borrow.Author.Rules.{rules}
 use Rattle.auzuplens.proofs.auzuplens_find.Goals as goal
 
 pub returns-in-At : goal.returns-in-At

@@ -1,7 +1,6 @@
 use mathlib.Core.Path.{◌∙◌}
 use mir.Facts.{to_z-of_z}
 use Rattle.numbers.proofs.SignedLaws.{kept}
-use borrow.Author.Rules.{rules}
 use Rattle.auzuplens.proofs.auzuplens_reading.Goals as goal
 
 pub returns : goal.returns

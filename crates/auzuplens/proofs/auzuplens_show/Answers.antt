@@ -1,5 +1,4 @@
 use Rattle.auzuplens.proofs.PackLaws.{packed-part}
-use borrow.Author.Rules.{rules}
 use Rattle.auzuplens.proofs.auzuplens_show.Goals as goal
 
 pub returns : goal.returns

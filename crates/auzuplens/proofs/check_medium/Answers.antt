@@ -1,6 +1,5 @@
 use mathlib.Core.Path.{refl}
 use native.Mathlib.Omega.{arith}
-use borrow.Author.Rules.{rules}
 use Rattle.state.proofs.RoomLaws.{laid_out}
 use Rattle.auzuplens.proofs.PackLaws.{all-zero}
 use Rattle.auzuplens.proofs.check_medium.Goals as goal

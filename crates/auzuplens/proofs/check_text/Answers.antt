@@ -1,7 +1,6 @@
 use mathlib.Core.Path.{sym, ◌∙◌}
 use Rattle.running.proofs.EndLaws.{too_long, promise-sized}
 use native.Mathlib.Omega.{arith}
-use borrow.Author.Rules.{rules}
 use Rattle.auzuplens.proofs.check_text.Goals as goal
 
 pub returns-then-n-gt-LARGE : goal.returns-then-n-gt-LARGE

@@ -6,7 +6,6 @@ use Rattle.members.proofs.HeldLaws.{indexed}
 use Rattle.state.proofs.RoomLaws.{definition-rows}
 use Rattle.classes.proofs.ClassLaws.{unit-declared}
 use native.Mathlib.Omega.{arith}
-use borrow.Author.Rules.{rules}
 use Rattle.classes.proofs.declare_unit.Goals as goal
 
 pub returns : goal.returns

@@ -4,7 +4,6 @@ use Rattle.book.specs.Sizes.{head_size}
 use Rattle.units.specs.declared.Head.{Head}
 use Rattle.classes.proofs.ClassLaws.{le-zero, not-zero, head-broken, head-over, head-fine}
 use native.Mathlib.Omega.{arith}
-use borrow.Author.Rules.{rules}
 use Rattle.classes.proofs.head_ruling.Goals as goal
 
 pub returns-then-wrong : goal.returns-then-wrong

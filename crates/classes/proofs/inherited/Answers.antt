@@ -5,7 +5,6 @@ use Rattle.state.specs.Parts.{index_in, rows_in}
 use Rattle.state.proofs.RoomLaws.{definition-rows, attribute_rows}
 use Rattle.classes.proofs.ClassLaws.{in-hand}
 use native.Mathlib.Omega.{arith}
-use borrow.Author.Rules.{rules}
 use Rattle.classes.proofs.inherited.Goals as goal
 
 pub inherit-requires : goal.inherit-requires

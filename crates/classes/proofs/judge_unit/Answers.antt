@@ -6,7 +6,6 @@ use Rattle.state.proofs.KeepLaws.{none_open}
 use Rattle.state.proofs.JudgeLaws.{small}
 use Rattle.classes.proofs.ClassLaws.{le-zero, unit-is, unit-heads, head-inside, head-sort, answer-fair}
 use Rattle.classes.proofs.ClassLaws.{answer-broken, answer-fine}
-use borrow.Author.Rules.{rules}
 use Rattle.classes.proofs.judge_unit.Goals as goal
 
 pub head_ruling-e-requires : goal.head_ruling-e-requires

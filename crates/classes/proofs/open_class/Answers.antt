@@ -4,7 +4,6 @@ use Rattle.members.proofs.HeldLaws.{indexed}
 use Rattle.state.proofs.RoomLaws.{definition-rows}
 use Rattle.classes.proofs.ClassLaws.{class-opened, opened-self}
 use native.Mathlib.Omega.{arith}
-use borrow.Author.Rules.{rules}
 use Rattle.classes.proofs.open_class.Goals as goal
 
 pub returns : goal.returns

@@ -2,7 +2,6 @@ use mathlib.Core.Path.{refl, sym, ap, ◌∙◌}
 use Rattle.units.specs.declared.Head.{Head}
 use Rattle.classes.proofs.ClassLaws.{taken-by, ruled-taken, ruled-extends, ruled-mixed, ruled-fine}
 use native.Mathlib.Omega.{arith}
-use borrow.Author.Rules.{rules}
 use Rattle.classes.proofs.ruling_to_13.Goals as goal
 
 pub returns-then-taken : goal.returns-then-taken

@@ -4,7 +4,6 @@ use Rattle.state.specs.Parts.{index_in}
 use Rattle.state.proofs.RoomLaws.{definition-rows}
 use Rattle.classes.proofs.ClassLaws.{class-row, class-narrow, class-record}
 use native.Mathlib.Omega.{arith}
-use borrow.Author.Rules.{rules}
 use Rattle.classes.proofs.write_head.Goals as goal
 
 pub base_number-number-requires : goal.base_number-number-requires

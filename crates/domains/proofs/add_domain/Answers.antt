@@ -4,7 +4,6 @@ use Rattle.rules.specs.Declarations.{known}
 use Rattle.members.proofs.HeldLaws.{indexed}
 use Rattle.domains.proofs.RowLaws.{numbers, head-fits, kept-domain, refused-room}
 use native.Mathlib.Omega.{arith}
-use borrow.Author.Rules.{rules}
 use Rattle.state.specs.Parts.{index_in, chains_in}
 use Rattle.state.proofs.RoomLaws.{definition-rows}
 use Prim.Native.Nat.{◌+◌}

@@ -2,7 +2,6 @@ use mathlib.Core.Path.{sym}
 use lib.Seq.{length-take-le}
 use Rattle.domains.proofs.StageLaws.{base-none, base_there}
 use native.Mathlib.Omega.{arith}
-use borrow.Author.Rules.{rules}
 use Rattle.domains.proofs.base_type.Goals as goal
 
 pub returns-then-base-eq0 : goal.returns-then-base-eq0

@@ -5,7 +5,6 @@ use Rattle.names.specs.Index.{definition_width}
 use Rattle.names.specs.Rows.{definition_row}
 use Rattle.state.specs.Parts.{index_in}
 use Rattle.domains.specs.Stages.{domain_definition}
-use borrow.Author.Rules.{rules}
 use Rattle.domains.proofs.enter_domain.Goals as goal
 
 pub returns : goal.returns

@@ -1,7 +1,6 @@
 use mathlib.Core.Path.{◌∙◌}
 use Rattle.fitting.proofs.ValueLaws.{numeric-valued}
 use Rattle.domains.proofs.StageLaws.{head-mixed, head-abstract, head_plain}
-use borrow.Author.Rules.{rules}
 use Rattle.domains.proofs.is_bad_head.Goals as goal
 
 pub returns-then-are_mixed : goal.returns-then-are_mixed

@@ -1,6 +1,5 @@
 use Rattle.domains.proofs.StageLaws.{mandatory-written, mandatory-none, mandatory-base}
 use native.Mathlib.Omega.{arith}
-use borrow.Author.Rules.{rules}
 use Rattle.domains.proofs.is_mandatory.Goals as goal
 
 pub returns-then-written : goal.returns-then-written

@@ -4,7 +4,6 @@ use Rattle.ground.specs.declared.Ruling.{Ruling}
 use Rattle.domains.proofs.StageLaws.{domain-is, unit-inside, unit-scratch, refused-name, refused-reference}
 use Rattle.domains.proofs.StageLaws.{judged-late, based-of, leads-off}
 use native.Mathlib.Omega.{arith}
-use borrow.Author.Rules.{rules}
 use Rattle.state.proofs.RoomLaws.{loaned}
 use Rattle.domains.proofs.judge_domain.Goals as goal
 

@@ -1,6 +1,5 @@
 use mathlib.Core.Path.{refl}
 use Rattle.domains.proofs.StageLaws.{name-taken, name_free}
-use borrow.Author.Rules.{rules}
 use Rattle.domains.proofs.name_ruling.Goals as goal
 
 pub returns-then-is_taken : goal.returns-then-is_taken

@@ -1,6 +1,5 @@
 use Rattle.state.specs.Parts.{index_in}
 use Rattle.domains.proofs.StageLaws.{over-is}
-use borrow.Author.Rules.{rules}
 use Rattle.domains.proofs.over_base.Goals as goal
 
 pub returns : goal.returns

@@ -8,7 +8,6 @@ use Rattle.state.proofs.RoomLaws.{definition-rows}
 use Rattle.state.proofs.TargetLaws.{reference-fair}
 use Rattle.domains.proofs.StageLaws.{domain-is, leads}
 use native.Mathlib.Omega.{arith}
-use borrow.Author.Rules.{rules}
 use Rattle.domains.proofs.reach.Goals as goal
 
 pub extends-e-requires : goal.extends-e-requires

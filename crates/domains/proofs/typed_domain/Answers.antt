@@ -10,7 +10,6 @@ use Rattle.state.specs.Keeping.{Answered}
 use Rattle.domains.specs.Stages.{declared_in, records_of}
 use Rattle.domains.proofs.StageLaws.{is-unit, own-sized, laid, whole, refused-head}
 use Rattle.domains.proofs.StageLaws.{refused-type, fine-type, next-fair, still-below}
-use borrow.Author.Rules.{rules}
 use Rattle.book.specs.Sizes.{head_size}
 use Rattle.state.specs.Parts.{index_in, chains_in, rows_in}
 use Rattle.domains.proofs.typed_domain.Goals as goal

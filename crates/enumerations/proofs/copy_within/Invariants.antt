@@ -1,13 +1,7 @@
-use borrow.Author.Rules.{rules}
-use native.Mathlib.Omega.{arith}
-use mathlib.Core.Path.{◌≡◌, ap, ◌∙◌}
+use mathlib.Core.Path.{◌≡◌}
 use Prim.Native.Nat.{◌-◌, ◌≤◌}
-use lib.ListN.{length}
-use lib.Seq.{paste, paste-zero}
+use lib.Seq.{paste}
 use Rattle.ground.specs.Parts.{part}
-use Rattle.rules.proofs.PartLaws.{length_part}
-use Rattle.ground.proofs.BufferLaws.{paste-done}
-use Rattle.enumerations.proofs.CopyLaws.{copy-length, copy_more}
 use Rattle.enumerations.proofs.copy_within.Given as goal
 
 abbrev pub invariant-loop-i : goal.invariant-loop-i

@@ -1,8 +1,6 @@
-use borrow.Author.Rules.{rules}
 use native.Mathlib.Omega.{arith}
-use mathlib.Core.Path.{◌≡◌, refl, sym, ◌∙◌}
-use Prim.Native.Nat.{ℕ, ◌+◌, ◌-◌, ◌<◌}
-use lib.ListN.{length}
+use mathlib.Core.Path.{refl, sym, ◌∙◌}
+use Prim.Native.Nat.{◌+◌}
 use Rattle.enumerations.specs.Lists.{nowhere, find_from}
 use Rattle.enumerations.proofs.ListLaws.{as_written, element-in, more, find-here, find-next, find_none}
 use Rattle.book.specs.Sizes.{element_size}

@@ -1,11 +1,7 @@
-use borrow.Author.Rules.{rules}
-use native.Mathlib.Omega.{arith}
-use mathlib.Core.Path.{◌≡◌, refl, sym, ◌∙◌}
-use Prim.Native.Nat.{ℕ, ◌+◌, ◌-◌, ◌<◌}
+use mathlib.Core.Path.{◌≡◌}
+use Prim.Native.Nat.{ℕ, ◌-◌, ◌<◌}
 use lib.ListN.{length}
-use Rattle.enumerations.specs.Lists.{nowhere, find_from}
-use Rattle.enumerations.proofs.ListLaws.{as_written, element-in, more, find-here, find-next, find_none}
-use Rattle.book.specs.Sizes.{element_size}
+use Rattle.enumerations.specs.Lists.{find_from}
 use Rattle.enumerations.proofs.find.Given as goal
 
 abbrev pub invariant-loop-name : goal.invariant-loop-name

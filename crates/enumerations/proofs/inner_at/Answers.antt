@@ -2,7 +2,6 @@ use native.Mathlib.Omega.{arith}
 use mathlib.Core.Path.{sym, ◌∙◌}
 use Rattle.enumerations.specs.Lists.{inner_at}
 use Rattle.enumerations.proofs.ListLaws.{opening-in}
-use borrow.Author.Rules.{rules}
 use Rattle.enumerations.proofs.inner_at.Goals as goal
 
 pub overflow_add-result : goal.overflow_add-result

@@ -1,7 +1,6 @@
 use native.Mathlib.Omega.{arith}
 use mathlib.Core.Path.{sym}
 use Rattle.enumerations.proofs.ListLaws.{element-short, element-byte}
-use borrow.Author.Rules.{rules}
 use Rattle.enumerations.proofs.is_element.Goals as goal
 
 pub returns-then-s-lt-ELEMENT_SIZE : goal.returns-then-s-lt-ELEMENT_SIZE

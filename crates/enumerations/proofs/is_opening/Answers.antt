@@ -1,7 +1,6 @@
 use native.Mathlib.Omega.{arith}
 use mathlib.Core.Path.{sym}
 use Rattle.enumerations.proofs.ListLaws.{opening-short, opening-byte}
-use borrow.Author.Rules.{rules}
 use Rattle.enumerations.proofs.is_opening.Goals as goal
 
 pub returns-then-s-lt-LIST_SIZE : goal.returns-then-s-lt-LIST_SIZE

@@ -1,8 +1,6 @@
-use borrow.Author.Rules.{rules}
 use native.Mathlib.Omega.{arith}
-use mathlib.Core.Path.{◌≡◌, refl, sym}
-use Prim.Native.Nat.{ℕ, ◌+◌, ◌-◌, ◌≤◌, ◌<◌}
-use lib.ListN.{length}
+use mathlib.Core.Path.{refl, sym}
+use Prim.Native.Nat.{◌+◌, ◌-◌}
 use Rattle.enumerations.specs.Lists.{end_from}
 use Rattle.enumerations.specs.declared.End.{End}
 use Rattle.enumerations.proofs.ListLaws.{end-out, end-element, end-opening, end-last, end-close, more}

@@ -1,12 +1,8 @@
-use borrow.Author.Rules.{rules}
-use native.Mathlib.Omega.{arith}
-use mathlib.Core.Path.{◌≡◌, refl, sym}
-use Prim.Native.Nat.{ℕ, ◌+◌, ◌-◌, ◌≤◌, ◌<◌}
+use mathlib.Core.Path.{◌≡◌}
+use Prim.Native.Nat.{ℕ, ◌-◌, ◌≤◌, ◌<◌}
 use lib.ListN.{length}
 use Rattle.enumerations.specs.Lists.{end_from}
 use Rattle.enumerations.specs.declared.End.{End}
-use Rattle.enumerations.proofs.ListLaws.{end-out, end-element, end-opening, end-last, end-close, more}
-use Rattle.book.specs.Sizes.{element_size, list_size}
 use Rattle.enumerations.proofs.list_end.Given as goal
 
 abbrev pub invariant-loop-at : goal.invariant-loop-at

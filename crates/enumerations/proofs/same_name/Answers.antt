@@ -1,7 +1,6 @@
 use mathlib.Core.Path.{sym, ◌∙◌}
 use borrow.Author.Tests.{leb-true}
 use Rattle.enumerations.proofs.ListLaws.{names_in, names-out-a, names-out-b}
-use borrow.Author.Rules.{rules}
 use Rattle.enumerations.proofs.same_name.Goals as goal
 
 pub same_part-requires : goal.same_part-requires

@@ -4,7 +4,6 @@ use Prim.Native.Nat.{◌+◌}
 use lib.ListN.{length}
 use Rattle.enumerations.proofs.ListLaws.{opening-in}
 use Rattle.enumerations.proofs.WrittenLaws.{size-stands, not-stands}
-use borrow.Author.Rules.{rules}
 use Rattle.enumerations.proofs.size_of.Goals as goal
 
 pub overflow_add-at : goal.overflow_add-at

@@ -1,6 +1,5 @@
 use mathlib.Core.Path.{◌∙◌}
 use Rattle.fitting.proofs.ValueLaws.{sort-valued}
-use borrow.Author.Rules.{rules}
 use Rattle.fitting.proofs.differ.Goals as goal
 
 pub returns : goal.returns

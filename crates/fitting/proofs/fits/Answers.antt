@@ -2,7 +2,6 @@ use mathlib.Core.Path.{sym, ap, ◌∙◌}
 use Rattle.fitting.specs.Fitting.{fits_by}
 use Rattle.fitting.specs.declared.Typing.{Typing}
 use Rattle.fitting.proofs.ValueLaws.{held_small, sized_range}
-use borrow.Author.Rules.{rules}
 use Rattle.fitting.proofs.fits.Goals as goal
 
 pub range_fits-requires : goal.range_fits-requires

@@ -1,5 +1,4 @@
 use Rattle.fitting.proofs.ValueLaws.{held_small, sized_range, range-low, range-both}
-use borrow.Author.Rules.{rules}
 use Rattle.fitting.proofs.range_fits.Goals as goal
 
 pub low_fits-requires : goal.low_fits-requires

@@ -1,5 +1,4 @@
 use borrow.Author.Tests.{eq-eqb, ne_eqb}
-use borrow.Author.Rules.{rules}
 use Rattle.fitting.proofs.sort_of.Goals as goal
 
 pub returns-then-kind-eq9 : goal.returns-then-kind-eq9

@@ -1,6 +1,5 @@
 use mathlib.Core.Path.{sym, ap, ◌∙◌}
 use Rattle.fitting.specs.Fitting.{text_fits_by}
-use borrow.Author.Rules.{rules}
 use Rattle.fitting.proofs.text_fits.Goals as goal
 
 pub returns-in-Text : goal.returns-in-Text

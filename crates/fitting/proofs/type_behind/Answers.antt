@@ -4,7 +4,6 @@ use Rattle.book.specs.Places.{Stands}
 use Rattle.book.proofs.StandLaws.{stands-behind}
 use Rattle.rules.specs.Book.{type_records}
 use Rattle.fitting.proofs.PlaceLaws.{typed-here}
-use borrow.Author.Rules.{rules}
 use Rattle.book.specs.Sizes.{head_size}
 use Rattle.fitting.proofs.type_behind.Goals as goal
 

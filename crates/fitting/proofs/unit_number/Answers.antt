@@ -1,5 +1,4 @@
 use Rattle.fitting.proofs.ValueLaws.{no_unit, unit-there}
-use borrow.Author.Rules.{rules}
 use Rattle.fitting.proofs.unit_number.Goals as goal
 
 pub returns-then-unit-eq0 : goal.returns-then-unit-eq0

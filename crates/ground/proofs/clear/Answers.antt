@@ -1,11 +1,10 @@
 use mathlib.Core.Path.{◌≡◌, ◌∙◌, sym, ap}
-use mathlib.Core.List.{List, ◌++◌, append-nil}
-use Prim.Native.Nat.{ℕ, ◌-◌, ◌≤◌}
-use lib.ListN.{length, length-set, replicate, set, drop, drop_of_length-le}
+use mathlib.Core.List.{List, append-nil}
+use Prim.Native.Nat.{ℕ, ◌≤◌}
+use lib.ListN.{length, length-set, set, drop_of_length-le}
 use borrow.Author.Fill.{fill_more}
 use Rattle.ground.proofs.BufferLaws.{padded-none}
 use native.Mathlib.Omega.{arith}
-use borrow.Author.Rules.{rules}
 use Rattle.ground.proofs.clear.Goals as goal
 
 pub loop-i-preserved : goal.loop-i-preserved

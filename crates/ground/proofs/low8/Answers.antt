@@ -1,7 +1,6 @@
 use mathlib.Core.Path.{ap}
 use Rattle.rules.specs.Book.{low_first}
 use mir.Facts.{to_z-of_z}
-use borrow.Author.Rules.{rules}
 use Rattle.ground.proofs.low8.Goals as goal
 
 pub returns : goal.returns

@@ -1,7 +1,6 @@
 use native.Mathlib.Omega.{arith}
 use mathlib.Core.Path.{sym, ◌∙◌}
 use Rattle.ground.proofs.BufferLaws.{put-fits, put-not}
-use borrow.Author.Rules.{rules}
 use Rattle.ground.proofs.put_if.Goals as goal
 
 pub returns-then-at-src : goal.returns-then-at-src

@@ -1,10 +1,7 @@
-use mathlib.Core.Path.{◌≡◌, sym, ◌∙◌}
-use Prim.Native.Nat.{◌-◌, ◌≤◌}
+use mathlib.Core.Path.{sym, ◌∙◌}
 use native.Mathlib.Nat.{add-zero, sub-zero}
-use Rattle.rules.specs.Bytes.{part, same}
-use Rattle.rules.proofs.PartLaws.{same_from, same-go, same_stop, same-done}
+use Rattle.rules.proofs.PartLaws.{same-go, same_stop, same-done}
 use native.Mathlib.Omega.{arith}
-use borrow.Author.Rules.{rules}
 use Rattle.ground.proofs.same_bytes.Goals as goal
 
 pub loop-k-init : goal.loop-k-init

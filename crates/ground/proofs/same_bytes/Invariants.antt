@@ -1,10 +1,7 @@
-use mathlib.Core.Path.{◌≡◌, sym, ◌∙◌}
+use mathlib.Core.Path.{◌≡◌}
 use Prim.Native.Nat.{◌-◌, ◌≤◌}
-use native.Mathlib.Nat.{add-zero, sub-zero}
 use Rattle.rules.specs.Bytes.{part, same}
-use Rattle.rules.proofs.PartLaws.{same_from, same-go, same_stop, same-done}
-use native.Mathlib.Omega.{arith}
-use borrow.Author.Rules.{rules}
+use Rattle.rules.proofs.PartLaws.{same_from}
 use Rattle.ground.proofs.same_bytes.Given as goal
 
 abbrev pub invariant-loop-k : goal.invariant-loop-k

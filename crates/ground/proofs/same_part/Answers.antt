@@ -1,4 +1,4 @@
-use mathlib.Core.Path.{◌≡◌, sym, ◌∙◌}
+use mathlib.Core.Path.{◌≡◌, sym}
 use Rattle.ground.proofs.PartLaws.{same-unlike}
 use native.Mathlib.Omega.{arith}
 use Rattle.ground.proofs.same_part.Goals as goal

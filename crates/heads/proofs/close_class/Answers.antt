@@ -6,7 +6,6 @@ use Rattle.state.proofs.RoomLaws.{definition-rows}
 use Rattle.heads.proofs.EndLaws.{own-inside, own-bytes, class-there, close-inside, close-class-other}
 use Rattle.heads.proofs.EndLaws.{close-class-over, close-class-fine}
 use native.Mathlib.Omega.{arith}
-use borrow.Author.Rules.{rules}
 use Rattle.heads.proofs.close_class.Goals as goal
 
 pub open_name-own-requires : goal.open_name-own-requires

@@ -6,7 +6,6 @@ use Rattle.state.proofs.JudgeLaws.{small}
 use Rattle.heads.proofs.EndLaws.{class-none, topic-there, close-inside, close-topic-other, close-topic-over}
 use Rattle.heads.proofs.EndLaws.{close-topic-fine}
 use native.Mathlib.Omega.{arith}
-use borrow.Author.Rules.{rules}
 use Rattle.heads.proofs.close_topic.Goals as goal
 
 pub same_name-requires : goal.same_name-requires

@@ -8,7 +8,6 @@ use Rattle.state.specs.Next.{in_topic_by}
 use Rattle.state.proofs.RoomLaws.{definition-rows}
 use Rattle.heads.proofs.UnitLaws.{topic-narrow, topic-declared}
 use native.Mathlib.Omega.{arith}
-use borrow.Author.Rules.{rules}
 use Rattle.heads.proofs.declare_topic.Goals as goal
 
 pub declare-requires : goal.declare-requires

@@ -6,7 +6,6 @@ use Rattle.names.specs.Chains.{Chains}
 use Rattle.state.proofs.RoomLaws.{definition-rows}
 use Rattle.heads.proofs.EndLaws.{class-ended}
 use native.Mathlib.Omega.{arith}
-use borrow.Author.Rules.{rules}
 use Rattle.heads.proofs.end_class.Goals as goal
 
 pub returns : goal.returns

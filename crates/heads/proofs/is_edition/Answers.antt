@@ -1,5 +1,4 @@
 use Rattle.heads.proofs.UnitLaws.{edition-first, edition-second, edition-third, edition-other}
-use borrow.Author.Rules.{rules}
 use Rattle.heads.proofs.is_edition.Goals as goal
 
 pub returns-then-text-at-eq46 : goal.returns-then-text-at-eq46

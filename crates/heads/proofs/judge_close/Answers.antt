@@ -1,7 +1,6 @@
 use mathlib.Core.Path.{refl}
 use Rattle.heads.proofs.EndLaws.{class-none, topic-none, close-inside, close-model-fine, close-model-other}
 use native.Mathlib.Omega.{arith}
-use borrow.Author.Rules.{rules}
 use Rattle.heads.proofs.judge_close.Goals as goal
 
 pub close_topic-requires : goal.close_topic-requires

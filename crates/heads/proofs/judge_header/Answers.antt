@@ -1,6 +1,5 @@
 use mathlib.Core.Path.{refl, sym, ◌∙◌}
 use Rattle.heads.proofs.UnitLaws.{header-inside, header-fine, header-other}
-use borrow.Author.Rules.{rules}
 use Rattle.heads.proofs.judge_header.Goals as goal
 
 pub is_edition-requires : goal.is_edition-requires

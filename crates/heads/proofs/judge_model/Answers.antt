@@ -2,7 +2,6 @@ use mathlib.Core.Path.{refl}
 use Rattle.state.proofs.JudgeLaws.{small}
 use Rattle.heads.proofs.UnitLaws.{model-fine, model-over}
 use native.Mathlib.Omega.{arith}
-use borrow.Author.Rules.{rules}
 use Rattle.heads.proofs.judge_model.Goals as goal
 
 pub begun-requires : goal.begun-requires

@@ -2,7 +2,6 @@ use mathlib.Core.Path.{refl, sym, ◌∙◌}
 use Rattle.state.proofs.JudgeLaws.{small}
 use Rattle.heads.proofs.UnitLaws.{topic-is, topic-inside, topic-open, topic-taken, topic-over, topic-fine}
 use native.Mathlib.Omega.{arith}
-use borrow.Author.Rules.{rules}
 use Rattle.heads.proofs.judge_topic.Goals as goal
 
 pub is_taken-requires : goal.is_taken-requires

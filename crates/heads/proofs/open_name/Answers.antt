@@ -1,6 +1,5 @@
 use mathlib.Core.Path.{◌∙◌}
 use Rattle.heads.proofs.EndLaws.{name-read}
-use borrow.Author.Rules.{rules}
 use Rattle.heads.proofs.open_name.Goals as goal
 
 pub returns : goal.returns

@@ -3,7 +3,6 @@ use Rattle.judge.specs.Judging.{Answers}
 use Rattle.judge.proofs.UnitLaws.{by-header, by-model, by-topic, by-class, by-domain, by-attribute, by-measure}
 use Rattle.judge.proofs.UnitLaws.{by-close, by-mark, a-header, a-model, a-topic, a-class, a-domain, an-attribute}
 use Rattle.judge.proofs.UnitLaws.{a-measure, a-close}
-use borrow.Author.Rules.{rules}
 use Rattle.judge.proofs.judge.Goals as goal
 
 pub judge_header-requires : goal.judge_header-requires

@@ -1,7 +1,6 @@
 use Rattle.members.proofs.MemberLaws.{told-inside}
 use Rattle.members.proofs.FillLaws.{kept_out, put_in, full}
 use native.Mathlib.Omega.{arith}
-use borrow.Author.Rules.{rules}
 use lib.ListN.{length-set}
 use Rattle.members.proofs.add.Goals as goal
 

@@ -1,12 +1,6 @@
-use mathlib.Core.Path.{◌≡◌, sym, ◌∙◌}
-use mathlib.Core.List.{List, ◌++◌}
-use Prim.Native.Nat.{◌+◌, ◌-◌, ◌≤◌}
-use lib.ListN.{length, take, drop}
-use Rattle.rules.specs.Declarations.{Attribute}
-use Rattle.members.specs.Members.{Members, Unlike, Filled, nearest_to, most, Hand}
+use mathlib.Core.Path.{sym, ◌∙◌}
 use Rattle.members.proofs.FillLaws.{own-next, own-done, own-none}
 use native.Mathlib.Omega.{arith}
-use borrow.Author.Rules.{rules}
 use Rattle.members.proofs.add_own.Goals as goal
 
 pub loop-q-init : goal.loop-q-init

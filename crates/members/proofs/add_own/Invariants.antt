@@ -1,12 +1,9 @@
-use mathlib.Core.Path.{◌≡◌, sym, ◌∙◌}
+use mathlib.Core.Path.{◌≡◌}
 use mathlib.Core.List.{List, ◌++◌}
 use Prim.Native.Nat.{◌+◌, ◌-◌, ◌≤◌}
 use lib.ListN.{length, take, drop}
 use Rattle.rules.specs.Declarations.{Attribute}
 use Rattle.members.specs.Members.{Members, Unlike, Filled, nearest_to, most, Hand}
-use Rattle.members.proofs.FillLaws.{own-next, own-done, own-none}
-use native.Mathlib.Omega.{arith}
-use borrow.Author.Rules.{rules}
 use Rattle.members.proofs.add_own.Given as goal
 
 abbrev pub invariant-loop-q : goal.invariant-loop-q

@@ -1,13 +1,6 @@
-use mathlib.Core.Path.{◌≡◌, sym, ◌∙◌}
-use mathlib.Core.List.{List}
-use Prim.Native.Nat.{◌≤◌}
-use Rattle.rules.specs.Declarations.{Attribute, Def, attributes_of, name_count}
-use Rattle.rules.specs.Judge.{or_no_def}
-use Rattle.names.specs.Index.{entry}
-use Rattle.members.specs.Members.{Indexed, most, Hand}
-use Rattle.members.proofs.FillLaws.{base-few, Chain, chain-start, chain_next, chain-end, last_within, base-less}
+use mathlib.Core.Path.{sym, ◌∙◌}
+use Rattle.members.proofs.FillLaws.{base-few, chain-start, chain_next, chain-end, last_within, base-less}
 use native.Mathlib.Omega.{arith}
-use borrow.Author.Rules.{rules}
 use Rattle.members.proofs.fill.Goals as goal
 
 pub loop-c-init : goal.loop-c-init

@@ -1,13 +1,10 @@
-use mathlib.Core.Path.{◌≡◌, sym, ◌∙◌}
 use mathlib.Core.List.{List}
 use Prim.Native.Nat.{◌≤◌}
 use Rattle.rules.specs.Declarations.{Attribute, Def, attributes_of, name_count}
 use Rattle.rules.specs.Judge.{or_no_def}
 use Rattle.names.specs.Index.{entry}
 use Rattle.members.specs.Members.{Indexed, most, Hand}
-use Rattle.members.proofs.FillLaws.{base-few, Chain, chain-start, chain_next, chain-end, last_within, base-less}
-use native.Mathlib.Omega.{arith}
-use borrow.Author.Rules.{rules}
+use Rattle.members.proofs.FillLaws.{Chain}
 use Rattle.members.proofs.fill.Given as goal
 
 abbrev pub invariant-loop-c : goal.invariant-loop-c

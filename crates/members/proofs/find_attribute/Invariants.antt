@@ -1,13 +1,10 @@
-use mathlib.Core.Path.{◌≡◌, refl, sym, ◌∙◌}
+use mathlib.Core.Path.{◌≡◌}
 use mathlib.Core.List.{List}
 use Prim.Native.Nat.{◌-◌, ◌≤◌}
 use lib.ListN.{drop}
 use Rattle.rules.specs.Declarations.{Attribute}
 use Rattle.members.specs.Members.{Members, Filled, slot_from, slot_of}
 use Rattle.names.specs.References.{bytes_of}
-use Rattle.members.proofs.MemberLaws.{slot-end, slot-found, slot_next}
-use native.Mathlib.Omega.{arith}
-use borrow.Author.Rules.{rules}
 use Rattle.members.proofs.find_attribute.Given as goal
 
 abbrev pub invariant-loop-i : goal.invariant-loop-i

@@ -3,7 +3,6 @@ use lib.ListN.{length-set}
 use Rattle.members.specs.Members.{most}
 use Rattle.members.proofs.OpenLaws.{hold-new, hold-old}
 use native.Mathlib.Omega.{arith}
-use borrow.Author.Rules.{rules}
 use Rattle.members.proofs.hold.Goals as goal
 
 pub bounds-hand-n : goal.bounds-hand-n

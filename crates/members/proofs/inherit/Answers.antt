@@ -1,7 +1,6 @@
 use Rattle.names.specs.Index.{entry}
 use Rattle.members.proofs.OpenLaws.{opened-start, opened-held}
 use native.Mathlib.Omega.{arith}
-use borrow.Author.Rules.{rules}
 use Rattle.members.proofs.inherit.Goals as goal
 
 pub returns-then-base-gt0 : goal.returns-then-base-gt0

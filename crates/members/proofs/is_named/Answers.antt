@@ -2,7 +2,6 @@ use mathlib.Core.Path.{◌∙◌}
 use Rattle.names.specs.References.{bytes_of}
 use Rattle.members.proofs.MemberLaws.{told, told-inside}
 use native.Mathlib.Omega.{arith}
-use borrow.Author.Rules.{rules}
 use Rattle.members.proofs.is_named.Goals as goal
 
 pub returns-then-own-text : goal.returns-then-own-text

@@ -1,5 +1,4 @@
 use Rattle.members.proofs.OpenLaws.{own-slot}
-use borrow.Author.Rules.{rules}
 use Rattle.members.proofs.is_own.Goals as goal
 
 pub returns : goal.returns

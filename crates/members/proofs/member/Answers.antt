@@ -1,6 +1,5 @@
 use mathlib.Core.Path.{◌∙◌}
 use Rattle.names.proofs.IndexLaws.{at_row}
-use borrow.Author.Rules.{rules}
 use Rattle.members.specs.Members.{attribute_width}
 use Rattle.members.proofs.member.Goals as goal
 

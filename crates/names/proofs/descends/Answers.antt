@@ -1,12 +1,9 @@
 use mathlib.Core.Path.{◌≡◌, refl, sym, ap, ◌∙◌}
-use mathlib.Core.List.{List}
-use Prim.Native.Nat.{ℕ, ◌≤◌}
-use Rattle.rules.specs.Declarations.{Def}
+use Prim.Native.Nat.{ℕ}
 use Rattle.rules.specs.Judge.{bases_of, is_among}
-use Rattle.names.specs.Index.{entry, Known, Chained}
+use Rattle.names.specs.Index.{entry}
 use Rattle.names.proofs.BaseLaws.{among-here, among_next, base-before}
 use native.Mathlib.Omega.{arith}
-use borrow.Author.Rules.{rules}
 use Rattle.names.proofs.descends.Goals as goal
 
 pub loop-at-init : goal.loop-at-init

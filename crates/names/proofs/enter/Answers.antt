@@ -1,5 +1,4 @@
 use native.Mathlib.Omega.{arith}
-use borrow.Author.Rules.{rules}
 use Rattle.names.proofs.enter.Goals as goal
 
 pub overflow_cast-row-8 : goal.overflow_cast-row-8

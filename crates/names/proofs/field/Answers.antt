@@ -1,6 +1,5 @@
 use mathlib.Core.Path.{◌∙◌}
 use Rattle.names.proofs.IndexLaws.{at_row}
-use borrow.Author.Rules.{rules}
 use Rattle.names.specs.Index.{definition_width}
 use Rattle.names.proofs.field.Goals as goal
 

@@ -1,15 +1,11 @@
 use mathlib.Core.Path.{ap, ◌∙◌}
-use mathlib.Core.List.{List}
-use Prim.Native.Nat.{ℕ, ◌+◌, ◌-◌}
+use Prim.Native.Nat.{ℕ}
 use lib.ListN.{get_or}
-use Rattle.rules.specs.Declarations.{Def}
-use Rattle.names.specs.Index.{Known}
-use Rattle.names.specs.Chains.{Chains, key_of}
+use Rattle.names.specs.Chains.{key_of}
 use Rattle.names.specs.References.{bytes_of}
-use Rattle.names.proofs.ChainLaws.{Behind, behind-start, behind-none, chain-within, chain-hit, chain-on}
+use Rattle.names.proofs.ChainLaws.{behind-start, behind-none, chain-within, chain-hit, chain-on}
 use Rattle.names.proofs.ChainLaws.{chain-up, key_below}
 use native.Mathlib.Omega.{arith}
-use borrow.Author.Rules.{rules}
 use Rattle.names.proofs.find.Goals as goal
 
 pub loop-p-init : goal.loop-p-init

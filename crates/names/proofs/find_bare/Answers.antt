@@ -2,7 +2,6 @@ use mathlib.Core.Path.{◌∙◌}
 use Rattle.names.specs.References.{bytes_of}
 use Rattle.rules.specs.Declarations.{known}
 use Rattle.names.proofs.IndexLaws.{at-hand}
-use borrow.Author.Rules.{rules}
 use Rattle.names.proofs.find_bare.Goals as goal
 
 pub returns : goal.returns

@@ -3,7 +3,6 @@ use mathlib.Core.Option.{none}
 use Rattle.names.specs.References.{bytes_of}
 use Rattle.rules.specs.Declarations.{known}
 use Rattle.names.proofs.IndexLaws.{at-home}
-use borrow.Author.Rules.{rules}
 use Rattle.names.proofs.find_in_model.Goals as goal
 
 pub returns : goal.returns

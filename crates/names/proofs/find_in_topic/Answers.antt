@@ -3,7 +3,6 @@ use Rattle.names.specs.References.{bytes_of}
 use Rattle.rules.specs.Declarations.{known}
 use Rattle.names.proofs.BaseLaws.{topic-none, topic-other, topic-found}
 use native.Mathlib.Omega.{arith}
-use borrow.Author.Rules.{rules}
 use Rattle.names.proofs.find_in_topic.Goals as goal
 
 pub returns-then-p-eq0 : goal.returns-then-p-eq0

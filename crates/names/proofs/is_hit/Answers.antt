@@ -1,7 +1,6 @@
 use mathlib.Core.Path.{sym, ◌∙◌}
 use Rattle.ground.specs.Parts.{part}
 use Rattle.names.proofs.IndexLaws.{hit, miss, outside}
-use borrow.Author.Rules.{rules}
 use Rattle.names.proofs.is_hit.Goals as goal
 
 pub returns-then-own-text : goal.returns-then-own-text

@@ -1,11 +1,10 @@
-use mathlib.Core.Path.{◌≡◌, sym, ap, ◌∙◌}
-use Prim.Native.Nat.{ℕ, ◌+◌, ◌-◌, ◌*◌, ◌%◌, ◌<◌, ◌≤◌}
+use mathlib.Core.Path.{sym, ap, ◌∙◌}
+use Prim.Native.Nat.{ℕ, ◌+◌, ◌-◌, ◌*◌, ◌%◌}
 use native.Mathlib.Nat.{add-zero, sub-zero}
 use Rattle.ground.specs.Parts.{part}
-use Rattle.names.specs.Chains.{key_from, key_of, keys}
+use Rattle.names.specs.Chains.{key_from, keys}
 use Rattle.names.proofs.ChainLaws.{key-next, key-end}
 use native.Mathlib.Omega.{arith}
-use borrow.Author.Rules.{rules}
 use Rattle.names.proofs.key_of.Goals as goal
 
 pub loop-i-init : goal.loop-i-init

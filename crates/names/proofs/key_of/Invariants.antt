@@ -1,11 +1,7 @@
-use mathlib.Core.Path.{◌≡◌, sym, ap, ◌∙◌}
-use Prim.Native.Nat.{ℕ, ◌+◌, ◌-◌, ◌*◌, ◌%◌, ◌<◌, ◌≤◌}
-use native.Mathlib.Nat.{add-zero, sub-zero}
+use mathlib.Core.Path.{◌≡◌}
+use Prim.Native.Nat.{◌+◌, ◌-◌, ◌<◌, ◌≤◌}
 use Rattle.ground.specs.Parts.{part}
 use Rattle.names.specs.Chains.{key_from, key_of, keys}
-use Rattle.names.proofs.ChainLaws.{key-next, key-end}
-use native.Mathlib.Omega.{arith}
-use borrow.Author.Rules.{rules}
 use Rattle.names.proofs.key_of.Given as goal
 
 abbrev pub invariant-loop-i : goal.invariant-loop-i

@@ -1,7 +1,6 @@
 use lib.ListN.{length-set}
 use Rattle.names.proofs.KnownLaws.{known-first, known-last, known-not}
 use native.Mathlib.Omega.{arith}
-use borrow.Author.Rules.{rules}
 use Rattle.names.proofs.make_known.Goals as goal
 
 pub bounds-chains-key-then-last-eq0 : goal.bounds-chains-key-then-last-eq0

@@ -3,7 +3,6 @@ use mathlib.Core.Option.{none}
 use Rattle.names.proofs.BaseLaws.{bare-inside, two-inside, three-inside, bare-named, two-named, two-other}
 use Rattle.names.proofs.BaseLaws.{three-named, three-other}
 use native.Mathlib.Omega.{arith}
-use borrow.Author.Rules.{rules}
 use Rattle.names.proofs.resolve.Goals as goal
 
 pub find_bare-requires : goal.find_bare-requires

@@ -1,5 +1,4 @@
 use native.Mathlib.Nat.{add-sub_cancel_left}
-use borrow.Author.Rules.{rules}
 use Rattle.numbers.proofs.digits_at.Goals as goal
 
 pub scan-f-requires : goal.scan-f-requires

@@ -1,4 +1,3 @@
-use borrow.Author.Rules.{rules}
 use Rattle.numbers.proofs.FloorLaws.{quotient, floor-same, floor-down}
 use Rattle.numbers.proofs.floor_div.Goals as goal
 

@@ -1,6 +1,5 @@
 use native.Mathlib.Omega.{arith}
 use lib.ListN.{get_or-eq_default}
-use borrow.Author.Rules.{rules}
 use Rattle.numbers.proofs.has_minus.Goals as goal
 
 pub returns-then-part-eq0 : goal.returns-then-part-eq0

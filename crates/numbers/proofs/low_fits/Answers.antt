@@ -1,6 +1,5 @@
 use native.Mathlib.Omega.{arith}
 use mir.Facts.{to_z-of_z}
-use borrow.Author.Rules.{rules}
 use borrow.Author.Tests.{lt-ltb, le-ltb}
 use Rattle.numbers.proofs.PowerLaws.{ten-range}
 use Rattle.numbers.proofs.SignedLaws.{kept, lowered}

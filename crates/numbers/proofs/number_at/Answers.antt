@@ -1,5 +1,4 @@
 use native.Mathlib.Nat.{add-sub_cancel_left}
-use borrow.Author.Rules.{rules}
 use Rattle.numbers.proofs.number_at.Goals as goal
 
 pub number_of-requires : goal.number_of-requires

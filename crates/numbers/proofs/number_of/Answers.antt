@@ -1,6 +1,5 @@
 use mathlib.Core.Path.{◌∙◌}
 use native.Mathlib.Omega.{arith}
-use borrow.Author.Rules.{rules}
 use Rattle.numbers.proofs.SignedLaws.{plain, negated}
 use Rattle.numbers.proofs.WrittenLaws.{written_small, value-is}
 use Rattle.numbers.proofs.number_of.Goals as goal

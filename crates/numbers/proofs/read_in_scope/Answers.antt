@@ -1,7 +1,6 @@
 use native.Mathlib.Nat.{div-lt_iff_lt-mul, le-div_iff_mul-le}
 use native.Mathlib.Omega.{arith}
 use mir.Facts.{to_z-of_z}
-use borrow.Author.Rules.{rules}
 use Rattle.numbers.proofs.PowerLaws.{ten-range}
 use Rattle.numbers.proofs.SignedLaws.{kept}
 use Rattle.numbers.proofs.ReadLaws.{rounds, scales, is_too_great}

@@ -1,6 +1,5 @@
 use native.Mathlib.Omega.{arith}
 use mir.Facts.{to_z-of_z}
-use borrow.Author.Rules.{rules}
 use Rattle.numbers.proofs.ReadLaws.{over-decimals, over-base, over-value}
 use Rattle.numbers.proofs.read_number.Goals as goal
 

@@ -3,7 +3,6 @@ use Prim.Native.Nat.{◌/◌}
 use native.Mathlib.Omega.{arith}
 use lib.IntN.{ℤ}
 use lib.Signed.{shr_z}
-use borrow.Author.Rules.{rules}
 use Rattle.numbers.proofs.SignedLaws.{kept, raised}
 use Rattle.numbers.proofs.rounded.Goals as goal
 

@@ -1,6 +1,6 @@
-use lib.ListN.{length, drop, drop_of_length-le}
+use lib.ListN.{drop_of_length-le}
 use borrow.Author.Rules.{rules}
-use Rattle.numbers.proofs.WrittenLaws.{Scanned, scanned-first, scanned-small, scanned-next, scanned-whole}
+use Rattle.numbers.proofs.WrittenLaws.{scanned-first, scanned-small, scanned-next, scanned-whole}
 use Rattle.numbers.proofs.scan.Goals as goal
 
 pub loop-i-init : goal.loop-i-init

@@ -1,6 +1,5 @@
-use lib.ListN.{length, drop, drop_of_length-le}
-use borrow.Author.Rules.{rules}
-use Rattle.numbers.proofs.WrittenLaws.{Scanned, scanned-first, scanned-small, scanned-next, scanned-whole}
+use lib.ListN.{length, drop}
+use Rattle.numbers.proofs.WrittenLaws.{Scanned}
 use Prim.Native.Nat.{◌-◌, ◌≤◌}
 use Rattle.numbers.proofs.scan.Given as goal
 

@@ -1,5 +1,4 @@
 use native.Mathlib.Omega.{arith}
-use borrow.Author.Rules.{rules}
 use Rattle.numbers.proofs.SignedLaws.{upward, turned, one_more, unsigned}
 use Rattle.numbers.proofs.size.Goals as goal
 

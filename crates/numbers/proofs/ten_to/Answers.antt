@@ -1,6 +1,4 @@
-use Prim.Native.Nat.{◌-◌, ◌≤◌, ◌^◌}
 use native.Mathlib.Omega.{arith}
-use borrow.Author.Rules.{rules}
 use Rattle.rules.specs.Numbers.{most_decimals}
 use Rattle.numbers.proofs.PowerLaws.{ten-most, ten-more}
 use Rattle.numbers.proofs.ten_to.Goals as goal

@@ -1,9 +1,5 @@
 use mathlib.Core.Path.{◌≡◌}
 use Prim.Native.Nat.{◌-◌, ◌≤◌, ◌^◌}
-use native.Mathlib.Omega.{arith}
-use borrow.Author.Rules.{rules}
-use Rattle.rules.specs.Numbers.{most_decimals}
-use Rattle.numbers.proofs.PowerLaws.{ten-most, ten-more}
 use Rattle.numbers.proofs.ten_to.Given as goal
 
 abbrev pub invariant-loop : goal.invariant-loop

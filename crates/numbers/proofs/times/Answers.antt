@@ -1,4 +1,3 @@
-use borrow.Author.Rules.{rules}
 use Rattle.numbers.proofs.SignedLaws.{multiplied}
 use Rattle.numbers.proofs.times.Goals as goal
 

@@ -1,4 +1,3 @@
-use borrow.Author.Rules.{rules}
 use Rattle.parts.proofs.is_property.Goals as goal
 
 pub returns-in-Attribute : goal.returns-in-Attribute

@@ -1,8 +1,5 @@
-use Prim.Native.Nat.{◌-◌}
-use Rattle.parts.proofs.PropertyLaws.{Loop, loop-first, loop-on, loop-falls, list-end, list-fault}
-use lib.ListN.{length}
+use Rattle.parts.proofs.PropertyLaws.{loop-first, loop-on, loop-falls, list-end, list-fault}
 use mathlib.Core.Path.{sym, ◌∙◌}
-use borrow.Author.Rules.{rules}
 use Rattle.parts.proofs.property_list.Goals as goal
 
 pub loop-owner-init : goal.loop-owner-init

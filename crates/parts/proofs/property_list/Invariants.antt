@@ -1,8 +1,6 @@
 use Prim.Native.Nat.{◌-◌}
-use Rattle.parts.proofs.PropertyLaws.{Loop, loop-first, loop-on, loop-falls, list-end, list-fault}
+use Rattle.parts.proofs.PropertyLaws.{Loop}
 use lib.ListN.{length}
-use mathlib.Core.Path.{sym, ◌∙◌}
-use borrow.Author.Rules.{rules}
 use Rattle.parts.proofs.property_list.Given as goal
 
 abbrev pub invariant-loop-owner : goal.invariant-loop-owner

@@ -1,5 +1,4 @@
 use Rattle.parts.proofs.ReferenceLaws.{extended, not_extended}
-use borrow.Author.Rules.{rules}
 use Rattle.parts.proofs.read_extends.Goals as goal
 
 pub returns-then-y-eq-EXTENDS : goal.returns-then-y-eq-EXTENDS

@@ -2,7 +2,6 @@ use Rattle.parts.proofs.PropertyLaws.{list-there, list-absent}
 use Rattle.readers.proofs.ReadLaws.{held, expected}
 use Rattle.readers.proofs.CodeLaws.{is-mark}
 use native.Mathlib.Omega.{arith}
-use borrow.Author.Rules.{rules}
 use Rattle.parts.proofs.read_properties.Goals as goal
 
 pub property_list-requires : goal.property_list-requires

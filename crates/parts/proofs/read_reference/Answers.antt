@@ -1,5 +1,4 @@
 use Rattle.parts.proofs.ReferenceLaws.{one-part, two-parts, three-parts}
-use borrow.Author.Rules.{rules}
 use Rattle.parts.proofs.read_reference.Goals as goal
 
 pub returns-then-behind-eq-DOT-2 : goal.returns-then-behind-eq-DOT-2

@@ -1,5 +1,4 @@
 use Rattle.parts.proofs.ReferenceLaws.{unit-there, no_unit}
-use borrow.Author.Rules.{rules}
 use Rattle.parts.proofs.read_unit_reference.Goals as goal
 
 pub returns-then-y-eq-SQUARE : goal.returns-then-y-eq-SQUARE

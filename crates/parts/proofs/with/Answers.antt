@@ -1,5 +1,4 @@
 use borrow.Author.Tests.{eq-eqb, ne_eqb}
-use borrow.Author.Rules.{rules}
 use Rattle.parts.proofs.with.Goals as goal
 
 pub returns-then-word-eq-FINAL : goal.returns-then-word-eq-FINAL

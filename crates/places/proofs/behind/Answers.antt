@@ -1,4 +1,4 @@
-use Rattle.std.proofs.Common.{sym, ◌∙◌, arith, rules}
+use Rattle.std.proofs.Common.{sym, ◌∙◌, arith}
 use Rattle.places.specs.Standing.{behind_byte}
 use Rattle.places.proofs.behind.Goals as goal
 

@@ -1,4 +1,4 @@
-use Rattle.std.proofs.Common.{◌∙◌, rules, ne_eqb}
+use Rattle.std.proofs.Common.{ne_eqb}
 use Rattle.ground.proofs.ScanLaws.{next-byte}
 use Rattle.places.proofs.ends_line.Goals as goal
 

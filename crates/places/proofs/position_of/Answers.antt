@@ -1,5 +1,4 @@
-use Rattle.std.proofs.Common.{◌≡◌, ◌-◌, ◌≤◌, length, sym, ◌∙◌, arith, rules}
-use Rattle.places.specs.Standing.{line_at}
+use Rattle.std.proofs.Common.{sym, ◌∙◌, arith}
 use Rattle.places.proofs.StandingLaws.{line-next, on-end, on_line_lem}
 use Rattle.places.proofs.position_of.Goals as goal
 

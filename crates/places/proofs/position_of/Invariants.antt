@@ -1,6 +1,5 @@
-use Rattle.std.proofs.Common.{◌≡◌, ◌-◌, ◌≤◌, length, sym, ◌∙◌, arith, rules}
+use Rattle.std.proofs.Common.{◌≡◌, ◌-◌, ◌≤◌, length}
 use Rattle.places.specs.Standing.{line_at}
-use Rattle.places.proofs.StandingLaws.{line-next, on-end, on_line_lem}
 use Rattle.places.proofs.position_of.Given as goal
 
 abbrev pub invariant-loop-at : goal.invariant-loop-at

@@ -1,5 +1,4 @@
 use Rattle.running.proofs.RunLaws.{after-refused, after-fine}
-use borrow.Author.Rules.{rules}
 use Rattle.running.proofs.after.Goals as goal
 
 pub returns-in-Refused : goal.returns-in-Refused

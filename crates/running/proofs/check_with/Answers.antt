@@ -4,7 +4,6 @@ use lib.ListN.{length, take, drop}
 use lib.Seq.{length-take-le}
 use Rattle.running.proofs.EndLaws.{ended-fits, tried, loan-less, suffice-less}
 use native.Mathlib.Omega.{arith}
-use borrow.Author.Rules.{rules}
 use Rattle.running.proofs.check_with.Goals as goal
 
 pub slice_bounds-run-end-2 : goal.slice_bounds-run-end-2

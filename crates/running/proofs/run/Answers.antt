@@ -1,11 +1,7 @@
-use Prim.Native.Nat.{◌-◌}
-use mathlib.Core.Path.{ap, ◌≡◌, refl, ◌∙◌}
-use lib.ListN.{length}
+use mathlib.Core.Path.{ap, refl, ◌∙◌}
 use Rattle.symbols.proofs.CutLaws.{next-first}
-use Rattle.running.specs.Running.{Runs, Suffice}
 use Rattle.running.proofs.RunLaws.{begins, end-turn, on-turn, runs-sized, suffices}
 use native.Mathlib.Omega.{arith}
-use borrow.Author.Rules.{rules}
 use Rattle.state.specs.declared.Listing.{Listing}
 use Rattle.state.proofs.RoomLaws.{loaned}
 use Rattle.running.proofs.run.Goals as goal

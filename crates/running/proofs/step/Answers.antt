@@ -1,6 +1,5 @@
 use mathlib.Core.Path.{sym, ◌∙◌, refl}
 use Rattle.running.proofs.RunLaws.{held-now, few-records, unread-ends, over-ends, given, turned}
-use borrow.Author.Rules.{rules}
 use Rattle.state.proofs.RoomLaws.{loaned}
 use Rattle.running.proofs.step.Goals as goal
 

@@ -1,11 +1,8 @@
 use Prim.Native.Nat.{◌-◌}
-use mathlib.Core.Path.{◌≡◌, sym, ◌∙◌}
+use mathlib.Core.Path.{◌≡◌}
 use lib.ListN.{length}
 use Rattle.scans.specs.Scans.{is_blank}
 use Rattle.ground.specs.Parts.{run_end}
-use Rattle.ground.proofs.ScanLaws.{run-go, run-stop, run-done}
-use native.Mathlib.Omega.{arith}
-use borrow.Author.Rules.{rules}
 use Rattle.scans.proofs.blanks_end.Given as goal
 
 abbrev pub invariant-loop-i : goal.invariant-loop-i

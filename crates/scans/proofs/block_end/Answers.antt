@@ -1,10 +1,6 @@
-use Prim.Native.Nat.{◌-◌}
-use mathlib.Core.Path.{◌≡◌, sym, ◌∙◌}
-use lib.ListN.{length, drop}
-use Rattle.scans.specs.Scans.{close_of}
+use mathlib.Core.Path.{sym, ◌∙◌}
 use Rattle.scans.proofs.CloseLaws.{close-go, close-stop, close-done}
 use native.Mathlib.Omega.{arith}
-use borrow.Author.Rules.{rules}
 use Rattle.scans.proofs.block_end.Goals as goal
 
 pub returns-then-two : goal.returns-then-two

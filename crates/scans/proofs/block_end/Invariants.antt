@@ -1,10 +1,7 @@
 use Prim.Native.Nat.{◌-◌}
-use mathlib.Core.Path.{◌≡◌, sym, ◌∙◌}
+use mathlib.Core.Path.{◌≡◌}
 use lib.ListN.{length, drop}
 use Rattle.scans.specs.Scans.{close_of}
-use Rattle.scans.proofs.CloseLaws.{close-go, close-stop, close-done}
-use native.Mathlib.Omega.{arith}
-use borrow.Author.Rules.{rules}
 use Rattle.scans.proofs.block_end.Given as goal
 
 abbrev pub invariant-loop-i : goal.invariant-loop-i

@@ -1,6 +1,5 @@
 use mathlib.Core.Path.{sym, ◌∙◌}
 use Rattle.scans.specs.Scans.{comment_at}
-use borrow.Author.Rules.{rules}
 use Rattle.scans.proofs.comment.Goals as goal
 
 pub returns-then-two : goal.returns-then-two

@@ -1,6 +1,5 @@
 use mathlib.Core.Path.{ap, ◌∙◌}
 use Rattle.rules.specs.Bytes.{is_digit}
-use borrow.Author.Rules.{rules}
 use Rattle.scans.proofs.digit_at.Goals as goal
 
 pub returns : goal.returns

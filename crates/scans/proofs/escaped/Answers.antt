@@ -1,7 +1,6 @@
 use borrow.Author.Tests.{ne_eqb}
 use lib.ListN.{drop_of_length-le}
 use Rattle.scans.proofs.EscapeLaws.{escape-at}
-use borrow.Author.Rules.{rules}
 use Rattle.scans.proofs.escaped.Goals as goal
 
 pub returns-then-text-at : goal.returns-then-text-at

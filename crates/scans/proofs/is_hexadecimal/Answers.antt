@@ -1,5 +1,4 @@
 use mathlib.Core.Path.{sym, ◌∙◌}
-use borrow.Author.Rules.{rules}
 use Rattle.scans.proofs.is_hexadecimal.Goals as goal
 
 pub returns-then-is_digit : goal.returns-then-is_digit

@@ -1,12 +1,8 @@
-use Prim.Native.Nat.{◌-◌}
-use mathlib.Core.Path.{◌≡◌, sym, ◌∙◌}
-use lib.ListN.{length}
+use mathlib.Core.Path.{sym, ◌∙◌}
 use borrow.Author.Tests.{ne_eqb}
-use Rattle.ground.specs.Parts.{run_end}
 use Rattle.scans.specs.Scans.{not_line_end}
 use Rattle.ground.proofs.ScanLaws.{run-go, run-stop, run-done}
 use native.Mathlib.Omega.{arith}
-use borrow.Author.Rules.{rules}
 use Rattle.scans.proofs.line_end.Goals as goal
 
 pub returns-then-b-eq13 : goal.returns-then-b-eq13

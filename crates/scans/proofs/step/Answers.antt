@@ -4,7 +4,6 @@ use borrow.Author.Tests.{lt-ltb, le-ltb, eq-eqb, ne_eqb}
 use Rattle.scans.specs.Scans.{step_at}
 use Rattle.scans.proofs.EscapeLaws.{escape-le}
 use native.Mathlib.Omega.{arith}
-use borrow.Author.Rules.{rules}
 use Rattle.scans.proofs.step.Goals as goal
 
 pub returns-then-b-lt32 : goal.returns-then-b-lt32

@@ -1,5 +1,4 @@
 use borrow.Author.Tests.{eq-eqb, ne_eqb}
-use borrow.Author.Rules.{rules}
 use Rattle.scans.proofs.two.Goals as goal
 
 pub returns-then-text-at : goal.returns-then-text-at

@@ -1,5 +1,4 @@
 use mathlib.Core.Path.{sym, ◌∙◌}
-use borrow.Author.Rules.{rules}
 use Rattle.scans.proofs.two_hexadecimal.Goals as goal
 
 pub returns-then-is_hexadecimal : goal.returns-then-is_hexadecimal

@@ -1,7 +1,6 @@
 use mathlib.Core.Path.{sym, ◌∙◌}
 use Rattle.scans.proofs.EscapeLaws.{unicode-at, unicode-short}
 use native.Mathlib.Omega.{arith}
-use borrow.Author.Rules.{rules}
 use Rattle.scans.proofs.unicode.Goals as goal
 
 pub returns-then-text-at-lt5 : goal.returns-then-text-at-lt5

@@ -1,5 +1,4 @@
 use Rattle.state.proofs.SharedLaws.{number-none, number-some}
-use borrow.Author.Rules.{rules}
 use Rattle.state.proofs.base_number.Goals as goal
 
 pub returns-then-base-eq0 : goal.returns-then-base-eq0

@@ -5,7 +5,6 @@ use Rattle.state.specs.Parts.{index_in}
 use Rattle.state.proofs.SharedLaws.{given_inside, leads-nowhere, leads-to}
 use Rattle.state.proofs.SharedLaws.{extends-nothing, extends-base}
 use native.Mathlib.Omega.{arith}
-use borrow.Author.Rules.{rules}
 use Rattle.state.proofs.extends.Goals as goal
 
 pub named-p-requires : goal.named-p-requires

@@ -1,7 +1,6 @@
 use mathlib.Core.Path.{◌∙◌}
 use mathlib.Core.Bool.{false}
 use Rattle.state.proofs.SharedLaws.{ruling-none, ruling-sort, ruling-final, ruling-fine}
-use borrow.Author.Rules.{rules}
 use Rattle.state.proofs.extends_ruling.Goals as goal
 
 pub returns-then-base-eq0 : goal.returns-then-base-eq0

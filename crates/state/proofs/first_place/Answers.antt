@@ -1,6 +1,5 @@
 use mathlib.Core.Path.{sym, ap, ◌∙◌}
 use Rattle.state.proofs.SharedLaws.{first_of, first-of}
-use borrow.Author.Rules.{rules}
 use Rattle.state.proofs.first_place.Goals as goal
 
 pub returns-in-Bare : goal.returns-in-Bare

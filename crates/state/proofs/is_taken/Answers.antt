@@ -8,7 +8,6 @@ use Rattle.state.specs.Parts.{index_in, chains_in}
 use Rattle.state.proofs.JudgeLaws.{home-number}
 use Rattle.state.proofs.SharedLaws.{entry_found}
 use native.Mathlib.Omega.{arith}
-use borrow.Author.Rules.{rules}
 use Rattle.state.proofs.is_taken.Goals as goal
 
 pub returns : goal.returns

@@ -1,6 +1,5 @@
 use Rattle.state.proofs.TargetLaws.{stands-domain, stands-structure, stands_unit}
 use borrow.Enum.Refused.{opened}
-use borrow.Author.Rules.{rules}
 use Rattle.state.proofs.may_stand_in.Goals as goal
 
 pub returns-then-sort-eq-DOMAIN : goal.returns-then-sort-eq-DOMAIN

@@ -7,7 +7,6 @@ use Rattle.state.proofs.JudgeLaws.{home-number}
 use Rattle.state.proofs.SharedLaws.{reference-cut}
 use native.Mathlib.Omega.{arith}
 use Rattle.state.proofs.RoomLaws.{definition-rows, links}
-use borrow.Author.Rules.{rules}
 use Rattle.state.proofs.named.Goals as goal
 
 pub resolve-requires : goal.resolve-requires

@@ -1,6 +1,5 @@
 use Rattle.state.proofs.SharedLaws.{given_inside, leads-nowhere, leads-to}
 use native.Mathlib.Omega.{arith}
-use borrow.Author.Rules.{rules}
 use Rattle.state.proofs.target.Goals as goal
 
 pub named-requires : goal.named-requires

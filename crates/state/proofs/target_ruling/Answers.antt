@@ -1,6 +1,5 @@
 use mathlib.Core.Path.{◌∙◌}
 use Rattle.state.proofs.TargetLaws.{no-reference, target_none, target_fits, target-wrong}
-use borrow.Author.Rules.{rules}
 use Rattle.state.proofs.target_ruling.Goals as goal
 
 pub returns-then-target-eq0 : goal.returns-then-target-eq0

@@ -1,6 +1,5 @@
 use mathlib.Core.Path.{sym, ◌∙◌}
 use Rattle.symbols.proofs.NumberLaws.{number-whole, number-dotted}
-use borrow.Author.Rules.{rules}
 use Rattle.symbols.proofs.number.Goals as goal
 
 pub returns-then-e-f : goal.returns-then-e-f

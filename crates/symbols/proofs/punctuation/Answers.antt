@@ -1,5 +1,4 @@
 use mathlib.Core.Path.{sym, ◌∙◌}
-use borrow.Author.Rules.{rules}
 use Rattle.symbols.proofs.punctuation.Goals as goal
 
 pub returns-then-two : goal.returns-then-two

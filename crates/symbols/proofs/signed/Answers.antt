@@ -1,7 +1,6 @@
 use mathlib.Core.Path.{sym, ◌∙◌}
 use Rattle.symbols.proofs.NumberLaws.{no_digit}
 use native.Mathlib.Omega.{arith}
-use borrow.Author.Rules.{rules}
 use Rattle.symbols.proofs.signed.Goals as goal
 
 pub number-requires : goal.number-requires

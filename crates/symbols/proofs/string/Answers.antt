@@ -1,11 +1,8 @@
 use mathlib.Core.Path.{◌≡◌, sym, ◌∙◌}
-use Prim.Native.Nat.{◌+◌, ◌-◌, ◌≤◌, ◌<◌}
-use lib.ListN.{length, drop}
-use Rattle.rules.specs.Symbols.{quote}
+use Prim.Native.Nat.{◌+◌, ◌-◌, ◌<◌}
 use Rattle.scans.specs.Scans.{step_at}
 use Rattle.symbols.proofs.StringLaws.{step_in, string-closed, string-bad, string-open, string-on}
 use native.Mathlib.Omega.{arith}
-use borrow.Author.Rules.{rules}
 use Rattle.symbols.proofs.string.Goals as goal
 
 pub loop-i-init : goal.loop-i-init

@@ -1,11 +1,7 @@
-use mathlib.Core.Path.{◌≡◌, sym, ◌∙◌}
+use mathlib.Core.Path.{◌≡◌}
 use Prim.Native.Nat.{◌+◌, ◌-◌, ◌≤◌, ◌<◌}
 use lib.ListN.{length, drop}
 use Rattle.rules.specs.Symbols.{quote}
-use Rattle.scans.specs.Scans.{step_at}
-use Rattle.symbols.proofs.StringLaws.{step_in, string-closed, string-bad, string-open, string-on}
-use native.Mathlib.Omega.{arith}
-use borrow.Author.Rules.{rules}
 use Rattle.symbols.proofs.string.Given as goal
 
 abbrev pub invariant-loop-i : goal.invariant-loop-i

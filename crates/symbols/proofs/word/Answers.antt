@@ -6,7 +6,6 @@ use Rattle.symbols.specs.Cut.{made}
 use Rattle.ground.proofs.ScanLaws.{run-le}
 use Rattle.symbols.proofs.WordLaws.{word-large, word-reserved, word-other}
 use native.Mathlib.Omega.{arith}
-use borrow.Author.Rules.{rules}
 use Rattle.symbols.proofs.word.Goals as goal
 
 pub returns-then-len-gt255 : goal.returns-then-len-gt255

@@ -1,4 +1,3 @@
-use borrow.Author.Rules.{rules}
 use Rattle.types.proofs.broken_if.Goals as goal
 
 pub returns-then-broken : goal.returns-then-broken

@@ -1,6 +1,5 @@
 use mathlib.Core.Path.{sym, ◌∙◌}
 use Rattle.types.proofs.RuleLaws.{element-listed, element-other}
-use borrow.Author.Rules.{rules}
 use Rattle.types.proofs.element_ruling.Goals as goal
 
 pub returns-in-At : goal.returns-in-At

@@ -1,7 +1,6 @@
 use mathlib.Core.Path.{sym, ◌∙◌}
 use Rattle.types.proofs.MeaningLaws.{held_fits}
 use Rattle.fitting.proofs.ValueLaws.{typed-valued, fits-valued, fair-told}
-use borrow.Author.Rules.{rules}
 use Rattle.types.proofs.fits_in_book.Goals as goal
 
 pub returns-then-is_enumeration : goal.returns-then-is_enumeration

@@ -1,7 +1,6 @@
 use mathlib.Core.Path.{sym, ◌∙◌}
 use Rattle.fitting.proofs.ValueLaws.{unit-valued}
 use Rattle.types.proofs.UnitLaws.{alone-keeps, number-keeps, other-keeps}
-use borrow.Author.Rules.{rules}
 use Rattle.types.proofs.keeps_unit.Goals as goal
 
 pub returns-then-is_alone : goal.returns-then-is_alone

@@ -3,7 +3,6 @@ use Prim.Native.Nat.{◌+◌}
 use lib.ListN.{take}
 use Rattle.merging.specs.Merging.{LaidAs}
 use Rattle.types.proofs.LayLaws.{alone-lays, merged-lays, copied-lays, plain-lays}
-use borrow.Author.Rules.{rules}
 use Rattle.book.specs.Sizes.{head_size}
 use Rattle.types.proofs.lay.Goals as goal
 

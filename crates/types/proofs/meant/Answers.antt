@@ -2,7 +2,6 @@ use mathlib.Core.Path.{sym, ◌∙◌}
 use Rattle.types.proofs.MeaningLaws.{meant-valued}
 use Rattle.numbers.proofs.SignedLaws.{kept}
 use native.Mathlib.Omega.{arith}
-use borrow.Author.Rules.{rules}
 use Rattle.types.proofs.meant.Goals as goal
 
 pub returns-in-Alone : goal.returns-in-Alone

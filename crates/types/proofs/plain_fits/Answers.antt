@@ -1,7 +1,6 @@
 use mathlib.Core.Path.{sym, ◌∙◌}
 use borrow.Author.Tests.{eq-eqb, ne_eqb}
 use Rattle.types.proofs.MeaningLaws.{plain-valued}
-use borrow.Author.Rules.{rules}
 use Rattle.types.proofs.plain_fits.Goals as goal
 
 pub returns-then-length-eq0 : goal.returns-then-length-eq0

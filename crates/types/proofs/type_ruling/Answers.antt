@@ -1,6 +1,5 @@
 use mathlib.Core.Path.{sym, ◌∙◌}
 use Rattle.types.proofs.RuleLaws.{type-ruled}
-use borrow.Author.Rules.{rules}
 use Rattle.types.proofs.type_ruling.Goals as goal
 
 pub returns-in-Alone : goal.returns-in-Alone

@@ -2,7 +2,6 @@ use mathlib.Core.Path.{◌∙◌}
 use Rattle.rules.specs.Types.{unit_of}
 use Rattle.types.proofs.UnitLaws.{unit-none, unit-some}
 use native.Mathlib.Omega.{arith}
-use borrow.Author.Rules.{rules}
 use Rattle.types.proofs.unit_fits.Goals as goal
 
 pub returns-then-base-eq0 : goal.returns-then-base-eq0

@@ -2,7 +2,6 @@ use Rattle.units.proofs.StepLaws.{attribute-steps}
 use Rattle.readers.proofs.ReadLaws.{held, expected}
 use Rattle.readers.proofs.CodeLaws.{is_name, is-mark}
 use native.Mathlib.Omega.{arith}
-use borrow.Author.Rules.{rules}
 use Rattle.units.proofs.attribute.Goals as goal
 
 pub read_properties-p-requires : goal.read_properties-p-requires

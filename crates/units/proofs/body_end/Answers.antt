@@ -1,5 +1,4 @@
 use Rattle.units.proofs.StepLaws.{topic-ends, model-ends}
-use borrow.Author.Rules.{rules}
 use Rattle.units.proofs.body_end.Goals as goal
 
 pub returns-then-in_topic : goal.returns-then-in_topic

@@ -4,7 +4,6 @@ use Rattle.units.specs.declared.Run.TheVariants.{Domains, Units}
 use Rattle.units.specs.declared.Where.TheVariants.{Body}
 use Rattle.rules.specs.Bytes.{ascii}
 use mathlib.Core.Path.{sym, ◌∙◌}
-use borrow.Author.Rules.{rules}
 use Rattle.units.proofs.body_unit.Goals as goal
 
 pub returns-then-opens_topic : goal.returns-then-opens_topic

@@ -2,7 +2,6 @@ use Rattle.units.proofs.StepLaws.{class-steps}
 use Rattle.parts.proofs.TypeLaws.{held-behind}
 use Rattle.readers.proofs.ReadLaws.{held, expected}
 use Rattle.readers.proofs.CodeLaws.{is_name}
-use borrow.Author.Rules.{rules}
 use Rattle.units.proofs.class.Goals as goal
 
 pub read_properties-p-requires : goal.read_properties-p-requires

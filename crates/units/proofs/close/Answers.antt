@@ -1,5 +1,4 @@
 use Rattle.units.proofs.StepLaws.{close-steps}
-use borrow.Author.Rules.{rules}
 use Rattle.units.proofs.close.Goals as goal
 
 pub returns : goal.returns

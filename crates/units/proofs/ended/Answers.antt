@@ -1,5 +1,4 @@
 use borrow.Author.Tests.{eq-eqb, ne_eqb}
-use borrow.Author.Rules.{rules}
 use Rattle.units.proofs.ended.Goals as goal
 
 pub returns-then-y-code : goal.returns-then-y-code

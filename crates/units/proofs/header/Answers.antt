@@ -1,5 +1,4 @@
 use Rattle.units.proofs.StepLaws.{header-steps}
-use borrow.Author.Rules.{rules}
 use Rattle.units.proofs.header.Goals as goal
 
 pub returns : goal.returns

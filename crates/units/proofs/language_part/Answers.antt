@@ -1,5 +1,4 @@
 use Rattle.units.proofs.StepLaws.{language-there, language-absent}
-use borrow.Author.Rules.{rules}
 use Rattle.units.proofs.language_part.Goals as goal
 
 pub returns-then-y-eq-ROUND : goal.returns-then-y-eq-ROUND

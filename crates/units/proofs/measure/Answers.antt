@@ -1,7 +1,6 @@
 use Rattle.units.proofs.StepLaws.{measure-steps}
 use Rattle.readers.proofs.ReadLaws.{held, expected}
 use Rattle.readers.proofs.CodeLaws.{is_name}
-use borrow.Author.Rules.{rules}
 use Rattle.units.proofs.measure.Goals as goal
 
 pub read_properties-p-requires : goal.read_properties-p-requires

@@ -4,7 +4,6 @@ use Rattle.units.specs.declared.Where.TheVariants.{Members}
 use Rattle.rules.specs.Bytes.{ascii}
 use mathlib.Core.Path.{sym, refl, ◌∙◌}
 use mathlib.Core.Bool.{false}
-use borrow.Author.Rules.{rules}
 use Rattle.units.proofs.member_unit.Goals as goal
 
 pub returns-then-allowed : goal.returns-then-allowed

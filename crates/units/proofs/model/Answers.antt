@@ -1,5 +1,4 @@
 use Rattle.units.proofs.StepLaws.{model-steps}
-use borrow.Author.Rules.{rules}
 use Rattle.units.proofs.model.Goals as goal
 
 pub returns : goal.returns

@@ -1,6 +1,5 @@
 use Rattle.units.proofs.StepLaws.{unit-at, at-start, at-header, at_body, at-members, at-over, over-steps}
 use Rattle.units.specs.declared.Where.TheVariants.{Start, AfterHeader, Body, Members, Over}
-use borrow.Author.Rules.{rules}
 use Rattle.units.proofs.read_unit.Goals as goal
 
 pub returns-in-Start : goal.returns-in-Start

@@ -1,6 +1,5 @@
 use Rattle.units.proofs.StepLaws.{run-domain, run-measure, run-close}
 use mathlib.Core.Path.{sym, ◌∙◌}
-use borrow.Author.Rules.{rules}
 use Rattle.units.proofs.run_unit.Goals as goal
 
 pub returns-then-allowed : goal.returns-then-allowed

@@ -1,5 +1,4 @@
 use Rattle.units.proofs.StepLaws.{topic-steps}
-use borrow.Author.Rules.{rules}
 use Rattle.units.proofs.topic.Goals as goal
 
 pub returns : goal.returns

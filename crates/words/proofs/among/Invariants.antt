@@ -1,13 +1,11 @@
-use mathlib.Core.Path.{◌≡◌, refl, sym, ◌∙◌}
+use mathlib.Core.Path.{◌≡◌}
 use mathlib.Core.Bool.{true}
 use mathlib.Core.List.{List}
 use Prim.Native.Nat.{ℕ, ◌-◌, ◌≤◌}
 use lib.ListN.{length}
 use Rattle.rules.specs.Bytes.{part}
 use Rattle.words.specs.Words.{rows, are_long}
-use Rattle.words.proofs.WordLaws.{Left, row-found, row_next, row_fits, rows-done}
-use native.Mathlib.Omega.{arith}
-use borrow.Author.Rules.{rules}
+use Rattle.words.proofs.WordLaws.{Left}
 use Rattle.words.proofs.among.Given as goal
 
 abbrev pub invariant-loop-i : goal.invariant-loop-i

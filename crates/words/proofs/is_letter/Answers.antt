@@ -1,5 +1,4 @@
 use mathlib.Core.Path.{sym, ◌∙◌}
-use borrow.Author.Rules.{rules}
 use Rattle.words.proofs.is_letter.Goals as goal
 
 pub returns-then-between : goal.returns-then-between

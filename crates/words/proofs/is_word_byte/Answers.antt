@@ -1,5 +1,4 @@
 use mathlib.Core.Path.{sym, ◌∙◌}
-use borrow.Author.Rules.{rules}
 use Rattle.words.proofs.is_word_byte.Goals as goal
 
 pub returns-then-is_letter : goal.returns-then-is_letter

@@ -1,6 +1,5 @@
 use Rattle.words.proofs.WordLaws.{no_second, no_last, code-long}
 use native.Mathlib.Omega.{arith}
-use borrow.Author.Rules.{rules}
 use Rattle.words.proofs.word_code.Goals as goal
 
 pub returns-then-last-gt90 : goal.returns-then-last-gt90

@@ -1,11 +1,7 @@
-use Prim.Native.Nat.{◌-◌}
-use mathlib.Core.Path.{◌≡◌, sym, ◌∙◌}
-use lib.ListN.{length}
+use mathlib.Core.Path.{sym, ◌∙◌}
 use Rattle.rules.specs.Bytes.{is_word_byte}
-use Rattle.ground.specs.Parts.{run_end}
 use Rattle.ground.proofs.ScanLaws.{run-go, run-stop, run-done}
 use native.Mathlib.Omega.{arith}
-use borrow.Author.Rules.{rules}
 use Rattle.words.proofs.word_end.Goals as goal
 
 pub loop-i-preserved : goal.loop-i-preserved

@@ -1,7 +1,6 @@
 use mathlib.Core.Path.{refl}
 use Rattle.words.specs.Words.{word_code}
 use Rattle.words.proofs.WordLaws.{word-found}
-use borrow.Author.Rules.{rules}
 use Rattle.words.proofs.words_9.Goals as goal
 
 pub returns : goal.returns

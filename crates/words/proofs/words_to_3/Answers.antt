@@ -3,7 +3,6 @@ use mathlib.Core.List.{[], ◌∷◌}
 use Rattle.words.specs.Words.{word_code}
 use Rattle.words.proofs.WordLaws.{no_length, word-found}
 use native.Mathlib.Omega.{arith}
-use borrow.Author.Rules.{rules}
 use Rattle.words.proofs.words_to_3.Goals as goal
 
 pub returns-in-2 : goal.returns-in-2

@@ -1,7 +1,6 @@
 use Rattle.fitting.proofs.ValueLaws.{typed-valued}
 use Rattle.written.proofs.WrittenLaws.{laid-early, laid-whole, laid-misfit}
 use native.Mathlib.Omega.{arith}
-use borrow.Author.Rules.{rules}
 use Rattle.written.proofs.lay_written.Goals as goal
 
 pub returns-then-q-gt0 : goal.returns-then-q-gt0

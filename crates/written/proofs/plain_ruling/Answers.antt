@@ -5,7 +5,6 @@ use Rattle.types.proofs.RuleLaws.{ordered_of}
 use Rattle.written.proofs.WrittenLaws.{plain-early, plain-16, plain-17, plain-22, plain-fine, plain-unbased}
 use Rattle.written.proofs.WrittenLaws.{same_kind}
 use native.Mathlib.Omega.{arith}
-use borrow.Author.Rules.{rules}
 use Rattle.written.proofs.plain_ruling.Goals as goal
 
 pub returns-then-r-gt0 : goal.returns-then-r-gt0

@@ -1,7 +1,6 @@
 use borrow.Author.Tests.{le-leb, lt-leb}
 use Rattle.fitting.specs.Places.{range_at}
 use Rattle.numbers.proofs.SignedLaws.{kept}
-use borrow.Author.Rules.{rules}
 use Rattle.fitting.proofs.reading.range_at.Goals as goal
 
 pub returns-then-at-book : goal.returns-then-at-book

@@ -1,5 +1,4 @@
 use Rattle.fitting.proofs.PlaceLaws.{signed_below, first_fits, second_fits, signed_above}
-use borrow.Author.Rules.{rules}
 use Rattle.fitting.proofs.reading.signed.Goals as goal
 
 pub returns-then-h-lt2147483648 : goal.returns-then-h-lt2147483648

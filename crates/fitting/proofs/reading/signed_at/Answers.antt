@@ -1,6 +1,5 @@
 use mathlib.Core.Path.{◌∙◌}
 use Rattle.numbers.proofs.SignedLaws.{kept}
-use borrow.Author.Rules.{rules}
 use Rattle.fitting.proofs.reading.signed_at.Goals as goal
 
 pub returns : goal.returns

@@ -1,6 +1,5 @@
 use borrow.Author.Tests.{le-leb, lt-leb}
 use Rattle.fitting.specs.Places.{text_at}
-use borrow.Author.Rules.{rules}
 use Rattle.fitting.proofs.reading.text_at.Goals as goal
 
 pub returns-then-at-book : goal.returns-then-at-book

@@ -1,6 +1,5 @@
 use borrow.Author.Tests.{lt-ltb, le-ltb, ne_eqb}
 use Rattle.fitting.specs.Places.{typing_at}
-use borrow.Author.Rules.{rules}
 use Rattle.fitting.proofs.reading.typing_at.Goals as goal
 
 pub returns-then-book-at : goal.returns-then-book-at

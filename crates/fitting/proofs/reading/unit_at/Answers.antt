@@ -1,6 +1,5 @@
 use borrow.Author.Tests.{le-leb, lt-leb, eq-eqb, ne_eqb}
 use Rattle.fitting.specs.Places.{unit_at}
-use borrow.Author.Rules.{rules}
 use Rattle.fitting.proofs.reading.unit_at.Goals as goal
 
 pub returns-then-book-at-eq-UNIT_OF_NUMBER : goal.returns-then-book-at-eq-UNIT_OF_NUMBER

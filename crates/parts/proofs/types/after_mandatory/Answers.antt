@@ -1,7 +1,6 @@
 use Rattle.parts.proofs.TypeLaws.{semicolon, alone, not-alone}
 use Rattle.readers.proofs.ReadLaws.{is-no}
 use Rattle.rules.proofs.Tests.{fail-l, fail-r}
-use borrow.Author.Rules.{rules}
 use Rattle.parts.proofs.types.after_mandatory.Goals as goal
 
 pub returns-then-y-eq-SEMICOLON : goal.returns-then-y-eq-SEMICOLON

@@ -1,5 +1,4 @@
 use Rattle.parts.proofs.TypeLaws.{number-stands, number_read}
-use borrow.Author.Rules.{rules}
 use Rattle.parts.proofs.types.number.Goals as goal
 
 pub number_at-requires : goal.number_at-requires

@@ -1,5 +1,4 @@
 use Rattle.parts.proofs.TypeLaws.{numeric-reads}
-use borrow.Author.Rules.{rules}
 use Rattle.parts.proofs.types.numeric_type.Goals as goal
 
 pub returns : goal.returns

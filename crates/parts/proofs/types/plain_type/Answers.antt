@@ -1,7 +1,6 @@
 use Rattle.parts.proofs.TypeLaws.{type-text, type-numeric, type-range}
 use mathlib.Core.Bool.{true, false}
 use mathlib.Core.Path.{refl}
-use borrow.Author.Rules.{rules}
 use Rattle.parts.proofs.types.plain_type.Goals as goal
 
 pub returns-then-y-eq-TEXT : goal.returns-then-y-eq-TEXT

@@ -1,7 +1,6 @@
 use Rattle.parts.proofs.TypeLaws.{range-reads}
 use Rattle.readers.proofs.ReadLaws.{held, expected}
 use Rattle.readers.proofs.CodeLaws.{is_number, is-dots}
-use borrow.Author.Rules.{rules}
 use Rattle.parts.proofs.types.range_type.Goals as goal
 
 pub number-second-requires : goal.number-second-requires

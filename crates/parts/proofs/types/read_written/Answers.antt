@@ -3,7 +3,6 @@ use Rattle.readers.proofs.ReadLaws.{held, expected}
 use Rattle.readers.proofs.CodeLaws.{is_word_lem}
 use Rattle.rules.specs.Bytes.{ascii}
 use mathlib.Core.Path.{refl}
-use borrow.Author.Rules.{rules}
 use Rattle.parts.proofs.types.read_written.Goals as goal
 
 pub after_mandatory-m-requires : goal.after_mandatory-m-requires

@@ -1,6 +1,5 @@
 use Rattle.parts.proofs.TypeLaws.{number-stands, no_length, not-number, not-whole, long-length, good_length}
 use mathlib.Core.Path.{refl, sym, ◌∙◌}
-use borrow.Author.Rules.{rules}
 use Rattle.parts.proofs.types.text_length.Goals as goal
 
 pub whole_number-w-requires : goal.whole_number-w-requires

@@ -1,8 +1,7 @@
 use Rattle.parts.proofs.TypeLaws.{held-behind, text-limited, text-free}
-use Rattle.readers.proofs.ReadLaws.{held, expected, taken}
+use Rattle.readers.proofs.ReadLaws.{held, expected}
 use Rattle.readers.proofs.CodeLaws.{is-mark}
 use native.Mathlib.Omega.{arith}
-use borrow.Author.Rules.{rules}
 use Rattle.parts.proofs.types.text_type.Goals as goal
 
 pub text_length-requires : goal.text_length-requires

@@ -1,4 +1,3 @@
-use borrow.Author.Rules.{rules}
 use Rattle.parts.proofs.types.type_by.Goals as goal
 
 pub returns-then-or_reference : goal.returns-then-or_reference

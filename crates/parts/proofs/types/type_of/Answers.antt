@@ -1,5 +1,4 @@
 use Rattle.parts.proofs.TypeLaws.{type-enum, type-plain}
-use borrow.Author.Rules.{rules}
 use Rattle.parts.proofs.types.type_of.Goals as goal
 
 pub returns-then-y-eq-ROUND : goal.returns-then-y-eq-ROUND

@@ -1,5 +1,4 @@
 use Rattle.parts.proofs.TypeLaws.{type-named, type-other}
-use borrow.Author.Rules.{rules}
 use Rattle.parts.proofs.types.type_or_reference.Goals as goal
 
 pub returns-then-y-eq-NAME : goal.returns-then-y-eq-NAME

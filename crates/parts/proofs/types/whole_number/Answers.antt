@@ -1,6 +1,5 @@
 use Rattle.parts.proofs.TypeLaws.{whole-yes, whole-no, whole-signed}
 use mathlib.Core.Path.{sym, ◌∙◌}
-use borrow.Author.Rules.{rules}
 use Rattle.parts.proofs.types.whole_number.Goals as goal
 
 pub returns-then-n-eq0 : goal.returns-then-n-eq0

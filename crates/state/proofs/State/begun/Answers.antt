@@ -1,6 +1,5 @@
 use mathlib.Core.Path.{refl}
 use Rattle.state.proofs.WholeLaws.{whole}
-use borrow.Author.Rules.{rules}
 use Rattle.state.proofs.State.begun.Goals as goal
 
 pub returns : goal.returns

@@ -2,7 +2,6 @@ use mathlib.Core.Path.{ap, ◌∙◌}
 use Rattle.state.specs.declared.Listing.{Listing}
 use Rattle.state.specs.Next.{holding}
 use Rattle.state.proofs.WholeLaws.{whole}
-use borrow.Author.Rules.{rules}
 use Rattle.state.proofs.State.closed.Goals as goal
 
 pub returns : goal.returns

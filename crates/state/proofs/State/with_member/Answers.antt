@@ -1,5 +1,4 @@
 use Rattle.state.proofs.WholeLaws.{whole}
-use borrow.Author.Rules.{rules}
 use Rattle.state.proofs.State.with_member.Goals as goal
 
 pub returns : goal.returns

@@ -2,7 +2,6 @@ use mathlib.Core.Path.{sym, ◌∙◌, subst}
 use mathlib.Core.List.{List}
 use Prim.Native.Nat.{ℕ}
 use Rattle.names.specs.Chains.{Chains}
-use borrow.Author.Rules.{rules}
 use Rattle.state.proofs.work.declare.Goals as goal
 
 pub returns : goal.returns

@@ -3,7 +3,6 @@ use mathlib.Core.Path.{◌∙◌}
 use native.Mathlib.Omega.{arith}
 use Rattle.state.specs.Parts.{index_in, rows_in, chains_in}
 use Rattle.ground.proofs.LentLaws.{part-back, after-back}
-use borrow.Author.Rules.{rules}
 use Rattle.state.proofs.work.enter.Goals as goal
 
 pub returns : goal.returns

@@ -1,11 +1,10 @@
-use mathlib.Core.Path.{◌≡◌, subst, sym, ap, ◌∙◌}
+use mathlib.Core.Path.{subst, sym, ap, ◌∙◌}
 use mathlib.Core.List.{List, [], ◌∷◌, ◌++◌}
 use Prim.Native.Nat.{ℕ, ◌-◌}
 use native.Mathlib.Omega.{arith}
 use Rattle.names.specs.Chains.{Chains, key_of}
 use Rattle.state.specs.Parts.{index_in, rows_in, chains_in}
 use Rattle.ground.proofs.LentLaws.{part-back, before_back}
-use borrow.Author.Rules.{rules}
 use Rattle.state.proofs.work.make_known.Goals as goal
 
 pub returns : goal.returns

@@ -1,14 +1,7 @@
-use mathlib.Core.Path.{◌≡◌, refl, sym, ◌∙◌}
-use Prim.Native.Nat.{◌-◌, ◌<◌}
-use native.Mathlib.Nat.{add-zero, zero-add}
-use native.Mathlib.Omega.{arith}
-use lib.ListN.{length, get_or}
+use mathlib.Core.Path.{◌≡◌}
+use Prim.Native.Nat.{◌-◌}
+use lib.ListN.{length}
 use Rattle.symbols.specs.Cut.{next_of}
-use Rattle.symbols.proofs.GapLaws.{comment-ahead}
-use Rattle.symbols.proofs.BeginLaws.{next-end, next-letter, next-digit, sign-no-digit, next-sign}
-use Rattle.symbols.proofs.BeginLaws.{next-quote, next-mark, next-none, next-blank, next-line, next-passed}
-use Rattle.symbols.proofs.BeginLaws.{next-open, next-slash}
-use borrow.Author.Rules.{rules}
 use Rattle.symbols.proofs.Cursor.next.Given as goal
 
 abbrev pub invariant-loop-at : goal.invariant-loop-at

@@ -1,4 +1,3 @@
-use borrow.Author.Rules.{rules}
 use Rattle.symbols.proofs.Cursor.start.Goals as goal
 
 pub returns : goal.returns

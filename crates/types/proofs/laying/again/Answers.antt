@@ -2,7 +2,6 @@ use mathlib.Core.Path.{sym}
 use Rattle.types.proofs.LayLaws.{again-laid}
 use lib.Seq.{length-take-le}
 use native.Mathlib.Omega.{arith}
-use borrow.Author.Rules.{rules}
 use Rattle.types.proofs.laying.again.Goals as goal
 
 pub slice_bounds-size_of-end-2 : goal.slice_bounds-size_of-end-2

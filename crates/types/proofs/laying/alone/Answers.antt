@@ -3,7 +3,6 @@ use Rattle.types.proofs.LayLaws.{again-type, plain-records}
 use Rattle.merging.specs.Merging.{LaidAs}
 use mathlib.Core.Bool.{true}
 use lib.ListN.{take}
-use borrow.Author.Rules.{rules}
 use Rattle.types.proofs.laying.alone.Goals as goal
 
 pub returns-then-is_enumeration : goal.returns-then-is_enumeration

@@ -3,7 +3,6 @@ use Rattle.ground.proofs.BufferLaws.{put-fits}
 use Rattle.types.proofs.LayLaws.{copied-laid, copied-not}
 use lib.Seq.{length-take-le}
 use native.Mathlib.Omega.{arith}
-use borrow.Author.Rules.{rules}
 use Rattle.types.proofs.laying.copied.Goals as goal
 
 pub slice_bounds-put_if-end : goal.slice_bounds-put_if-end

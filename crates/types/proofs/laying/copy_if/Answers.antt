@@ -1,5 +1,4 @@
 use native.Mathlib.Omega.{arith}
-use borrow.Author.Rules.{rules}
 use Rattle.types.proofs.laying.copy_if.Goals as goal
 
 pub returns-then-used-from : goal.returns-then-used-from

@@ -1,7 +1,6 @@
 use Rattle.fitting.proofs.ValueLaws.{held_small, sized_range}
 use Rattle.types.proofs.LayLaws.{nothing-laid}
 use native.Mathlib.Omega.{arith}
-use borrow.Author.Rules.{rules}
 use Rattle.types.proofs.laying.plain.Goals as goal
 
 pub overflow_cast-decimals : goal.overflow_cast-decimals

@@ -1,5 +1,4 @@
 use Rattle.types.proofs.LayLaws.{number-laid}
-use borrow.Author.Rules.{rules}
 use Rattle.types.proofs.laying.put_number.Goals as goal
 
 pub returns-then-unit-eq0 : goal.returns-then-unit-eq0

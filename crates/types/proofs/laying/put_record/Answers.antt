@@ -1,7 +1,6 @@
 use mathlib.Core.Path.{◌∙◌}
 use Rattle.ground.proofs.BufferLaws.{put-fits}
 use Rattle.types.proofs.LayLaws.{record-laid}
-use borrow.Author.Rules.{rules}
 use Rattle.types.proofs.laying.put_record.Goals as goal
 
 pub returns : goal.returns
