@@ -1,4 +1,4 @@
-// The four public operations, and their exports to C and Rust.
+// The four public operations, and the five functions by which C and Rust call them.
 #![tactic(auto)]
 
 ghost use Rattle.std.specs.Prelude.{◌≡◌, false, ◌+◌, ◌*◌, ◌≤◌, ◌<◌, length};
@@ -195,7 +195,7 @@ pub fn show_name<'a>(text: &'a [u8], book: &[u8], beginning: usize) -> &'a [u8]
     records::show_name(text, book, beginning)
 }
 
-// ---- for C and Rust
+// ---- for C and Rust: what the static library `auzuplens_c` exports under the same names
 const NONE: u64 = 18446744073709551615;
 
 // The answer's numbers in their order: number (0 where the text is accepted), place, line, column, the book's length,

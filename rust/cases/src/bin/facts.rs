@@ -19,26 +19,26 @@ const MODULE: u64 = 25;
 
 /// Each fact opens these definitions, so that all computes.
 const OPENED: [(&str, &str); 8] = [
-    ("Symbols", "symbolOf symbolAt"),
-    ("Lines", "positionOf"),
+    ("Symbols", "symbol_of symbol_at"),
+    ("Lines", "position_of"),
     (
         "Grammar",
-        "propertiesFrom properties reference extends closeFinal enumeration textLength textType unitReference \
-         optionalUnit rangeType numericType typeOf typeOrReference written",
+        "properties_from properties reference extends close_final enumeration text_length text_type unit_reference \
+         optional_unit range_type numeric_type type_of type_or_reference written",
     ),
     (
         "Units",
-        "headerUnit modelUnit topicUnit classUnit domainUnit unitUnit attributeUnit endUnit wordStep bodyEnd \
-         bodyUnit memberUnit lastStep unitAt",
+        "header_unit model_unit topic_unit class_unit domain_unit unit_unit attribute_unit end_unit word_step body_end \
+         body_unit member_unit last_step unit_at",
     ),
     (
         "Judge",
-        "newTopic newClass newDomain newAttribute withAttribute extendsRules classRules domainTo16 domainRules \
-         attributeTo16 attributeRules judge",
+        "new_topic new_class new_domain new_attribute with_attribute extends_rules class_rules domain_to_16 \
+         domain_rules attribute_to_16 attribute_rules judge",
     ),
     ("Check", "run"),
-    ("Numbers", "readNumber"),
-    ("Show", "sizeOf recordsFrom isNamed findRecord showName"),
+    ("Numbers", "read_number"),
+    ("Show", "size_of records_from is_named find_record show_name"),
 ];
 
 /// A text as a literal: one character for each byte.
@@ -112,9 +112,9 @@ fn read_fact(name: &str, random: &mut Random) -> String {
     let (from, to) = (random.below(19) as u64, random.below(19) as u64);
     let read = match peer::read_number(value, from, to) {
         Ok(reading) => format!("reads {}", whole(reading)),
-        Err(number) => format!("notRead {number}"),
+        Err(number) => format!("not_read {number}"),
     };
-    format!("{name} : readNumber {} {from} {to} ≡ {read}", whole(value))
+    format!("{name} : read_number {} {from} {to} ≡ {read}", whole(value))
 }
 
 /// A case's book, or a broken one.
@@ -129,7 +129,7 @@ fn find_fact(name: &str, case: &Case, random: &mut Random) -> String {
         Some(beginning) => format!("some {beginning}"),
         None => String::from("none"),
     };
-    format!("{name} : findRecord {} {record} ≡ {found}", list(&book))
+    format!("{name} : find_record {} {record} ≡ {found}", list(&book))
 }
 
 fn show_fact(name: &str, case: &Case, random: &mut Random) -> String {
@@ -137,7 +137,7 @@ fn show_fact(name: &str, case: &Case, random: &mut Random) -> String {
     let beginning = any_beginning(random, &book);
     let (start, length) = peer::name_part(&case.text, &book, beginning);
     format!(
-        "{name} : showName {} {} {beginning} ≡ record {{ start = {start}; length = {length} }}",
+        "{name} : show_name {} {} {beginning} ≡ record {{ start = {start}; length = {length} }}",
         literal(&case.text),
         list(&book)
     )
@@ -146,17 +146,17 @@ fn show_fact(name: &str, case: &Case, random: &mut Random) -> String {
 /// A module of facts, each with its proof: that both sides compute to the same.
 fn module(facts: &[String]) -> String {
     let mut text = String::from(
-        "use mathlib.Core.Path.{_≡_, refl}\nuse mathlib.Core.List.{List, [], _∷_}\n\
-         use mathlib.Core.Option.{Option, some, none}\nuse Prim.Native.Nat.{ℕ}\n\
-         use lib.IntN.{ℤ, pos, negsuc}\nuse Rattle·rules.specs.Bytes.{ascii}\nuse Rattle·rules.specs.Book.{padded}\n\
-         use Rattle·rules.specs.Numbers.{reads, notRead}\nuse Rattle·rules.specs.Show.{Part}\n\
-         use Rattle·rules.specs.Check.{lent, check, Checked, accepting, refusal}\n",
+        "use mathlib.Core.Path.{refl}\nuse Rattle.std.specs.Prelude.{◌≡◌, List, [], ◌∷◌, ℕ, ℤ, pos, negsuc}\n\
+         use Rattle.std.proofs.Math.Option.{Option, some, none}\n\
+         use Rattle.rules.specs.Bytes.{ascii}\nuse Rattle.rules.specs.Book.{padded}\n\
+         use Rattle.rules.specs.Numbers.{reads, not_read}\nuse Rattle.rules.specs.Show.{Part}\n\
+         use Rattle.rules.specs.Check.{lent, check, Checked, accepting, refusal}\n",
     );
     let mut opened = String::from("unfolding");
     for (module, names) in OPENED {
         let names: Vec<&str> = names.split_whitespace().collect();
         let listed = names.join(", ");
-        writeln!(text, "use Rattle·rules.specs.{module}.{{{listed}}}").expect("a string takes all");
+        writeln!(text, "use Rattle.rules.specs.{module}.{{{listed}}}").expect("a string takes all");
         write!(opened, " {}", names.join(" ")).expect("a string takes all");
     }
     for fact in facts {
