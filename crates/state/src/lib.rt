@@ -108,10 +108,10 @@ pub fn nothing(layout: Layout) -> State
         total: 0,
         layout,
     };
-    let no_name_lem = Name { offset: 0, len: 0 };
+    let no_name = Name { offset: 0, len: 0 };
     let context = Context {
-        model: no_name_lem,
-        topic: no_name_lem,
+        model: no_name,
+        topic: no_name,
         home: 0,
         open: 0,
         in_hand: 0,
