@@ -8,8 +8,8 @@ use std::rt::Env;
 pub const ROOM: usize = 4096;
 
 // What an argument is where options may stand. `-` is a name, that of standard input.
-#[derive(Clone, Copy)]
-pub enum Word {
+#[derive(Clone, Copy, PartialEq, Eq)]
+enum Word {
     Name,
     List,
     Quiet,
@@ -17,109 +17,98 @@ pub enum Word {
     Unknown,
 }
 
-// What the arguments ask for: the records, nothing but a status, files by name; how many arguments there are, which is
-// `--`, the end of the options, and which no option that is known, 0 if none.
+impl Word {
+    fn of(word: &[u8]) -> Word {
+        match word {
+            b"--list" => Word::List,
+            b"--quiet" => Word::Quiet,
+            b"--" => Word::End,
+            [b'-', _, ..] => Word::Unknown,
+            _ => Word::Name,
+        }
+    }
+}
+
+// What is told of a text: its answer, that with the records of an accepted text, or nothing.
+#[derive(Clone, Copy, PartialEq, Eq)]
+pub enum Telling {
+    Answer,
+    Records,
+    Nothing,
+}
+
+// What the arguments ask for: what is told, and whether files are named; how many arguments there are, and which of
+// them is `--`, the end of the options.
 #[derive(Clone, Copy)]
 pub struct Asked {
-    pub list: bool,
-    pub quiet: bool,
+    pub telling: Telling,
     pub named: bool,
     pub count: usize,
-    pub end: usize,
-    pub unknown: usize,
+    pub end: Option<usize>,
 }
 
-pub fn is_same(a: &[u8], b: &[u8]) -> bool {
-    let n = a.len();
-    if n != b.len() {
-        return false;
-    }
-    ground::same_bytes(a, 0, b, 0, n)
+// The argument that is no option, or that the records and nothing are asked for.
+#[derive(Clone, Copy)]
+pub enum Misuse {
+    Unknown(usize),
+    Both,
 }
 
-pub fn meaning(word: &[u8]) -> Word {
-    if word.len() < 2 {
-        return Word::Name;
+impl Asked {
+    // Whether the argument i is the name of a file.
+    pub fn is_name(self, i: usize, word: &[u8]) -> bool {
+        match self.end {
+            Some(end) if end <= i => end < i,
+            _ => Word::of(word) == Word::Name,
+        }
     }
-    if word[0] != b'-' {
-        return Word::Name;
-    }
-    if is_same(word, b"--list") {
-        return Word::List;
-    }
-    if is_same(word, b"--quiet") {
-        return Word::Quiet;
-    }
-    if is_same(word, b"--") {
-        return Word::End;
-    }
-    Word::Unknown
 }
 
 // How many arguments there are, the program's own name among them.
 fn count_of(rt: &impl Env) -> usize {
     let mut byte = [0u8; 1];
-    let mut count = 0;
-    for i in 0..usize::MAX {
-        if let Err(FillError::NotPresent) = rt.arg(i, &mut byte) {
-            break;
-        }
-        count = i + 1;
-    }
-    count
+    (0..usize::MAX)
+        .position(|i| matches!(rt.arg(i, &mut byte), Err(FillError::NotPresent)))
+        .unwrap_or(usize::MAX)
 }
 
-// With the argument i. One that is longer than any name is a name.
-fn with_word(rt: &impl Env, asked: Asked, i: usize) -> Asked {
-    let mut asked = asked;
+// What the argument i is. One that is longer than any name is a name.
+fn word_of(rt: &impl Env, i: usize) -> Word {
     let mut word = [0u8; ROOM];
-    let n = match rt.arg(i, &mut word) {
-        Err(_) => 0,
-        Ok(n) => n,
-    };
-    let w = meaning(&word[..n]);
-    match w {
-        Word::Name => {
-            asked.named = true;
-        }
-        Word::List => {
-            asked.list = true;
-        }
-        Word::Quiet => {
-            asked.quiet = true;
-        }
-        Word::End => {
-            asked.end = i;
-        }
-        Word::Unknown => {
-            asked.unknown = i;
-        }
-    }
-    asked
+    let n = rt.arg(i, &mut word).unwrap_or(0);
+    Word::of(&word[..n])
 }
 
 // All arguments, up to `--` or the first unknown option.
-pub fn all(rt: &impl Env) -> Asked {
+pub fn all(rt: &impl Env) -> Result<Asked, Misuse> {
     let count = count_of(rt);
-    let mut asked = Asked {
-        list: false,
-        quiet: false,
-        named: false,
-        count: count,
-        end: count,
-        unknown: 0,
-    };
-    let mut i = 1;
-    while i < count {
-        asked = with_word(rt, asked, i);
-        i += 1;
-        if asked.end < count {
-            asked.named = ground::either(asked.named, i < count);
-            return asked;
-        }
-        if 0 < asked.unknown {
-            return asked;
+    let mut list = false;
+    let mut quiet = false;
+    let mut named = false;
+    let mut end = None;
+    for i in 1..count {
+        match word_of(rt, i) {
+            Word::Name => named = true,
+            Word::List => list = true,
+            Word::Quiet => quiet = true,
+            Word::Unknown => return Err(Misuse::Unknown(i)),
+            Word::End => {
+                named |= i + 1 < count;
+                end = Some(i);
+                break;
+            }
         }
     }
-    asked
+    let telling = match (list, quiet) {
+        (true, true) => return Err(Misuse::Both),
+        (true, false) => Telling::Records,
+        (false, true) => Telling::Nothing,
+        (false, false) => Telling::Answer,
+    };
+    Ok(Asked {
+        telling,
+        named,
+        count,
+        end,
+    })
 }

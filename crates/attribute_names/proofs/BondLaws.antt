@@ -3,14 +3,14 @@ use mathlib.Core.Path.{◌≡◌, refl, sym, ap, ◌∙◌, subst}
 use mathlib.Core.Bool.{Bool, true, false, cond, not, ◌&&◌, ◌||◌}
 use mathlib.Core.Option.{Option, none, some}
 use mathlib.Core.List.{List, [], ◌∷◌, ◌++◌}
-use Prim.Native.Nat.{ℕ, ◌+◌, ◌≤◌, ◌<◌}
+use Prim.Native.Nat.{ℕ, ◌+◌, ◌≤◌}
 use native.Mathlib.Omega.{arith}
+use Rattle.std.specs.Prelude.{⊤, Result, Ok, Err, IfOk}
 use lib.ListN.{length}
 use lib.Dec.{leb}
 use Rattle.rules.specs.Names as R
 use Rattle.rules.specs.Grammar as G
 use Rattle.rules.specs.Grammar.{Reference, WrittenType}
-use Rattle.rules.specs.Enumerations.{twice}
 use Rattle.rules.specs.Declarations.{Sort, Attribute, Def, attributes_of, attribute_at, is_found, name_count, State}
 use Rattle.rules.specs.Declarations.{known}
 use Rattle.rules.specs.Judge as J
@@ -25,29 +25,40 @@ use Rattle.members.proofs.HeldLaws.{indexed}
 use Rattle.parts.specs.Forms.{any_of, optional_of}
 use Rattle.ground.specs.Rulings.{ruling_of}
 use Rattle.ground.specs.declared.Ruling.{Ruling}
-use Rattle.ground.proofs.RulingLaws.{Positive, ruling-first, ruling-rest}
+use Rattle.ground.proofs.RulingLaws.{ruling-first, ruling-rest}
 use Rattle.units.specs.declared.AttributeUnit.{AttributeUnit}
 use Rattle.state.specs.declared.State as code
 use Rattle.state.specs.Keeping.{Keeps, OpenIs}
-use Rattle.state.specs.Targets.{target_rules}
+use Rattle.state.specs.Targets.{Ruled, target_rules}
 use Rattle.state.proofs.KeepLaws.{open-fair}
 use Rattle.attribute_names.specs.Stages.{name_rules, reference_rules, rules_to_11}
-use Rattle.attribute_names.specs.Facts.{Given, PointsTo, Refers, Reaches, references_in, Within, BondsAre}
+use Rattle.attribute_names.specs.Facts.{Given, PointsTo, Refers, Slots, Reaches, references_in, Within, BondsAre}
 use Rattle.attribute_names.specs.declared.Bonds.{Bonds}
 use Rattle.attribute_names.proofs.GivenLaws.{at_name, is-extended, is-meant, is-reference, name-bytes}
 
--- ---- what 4 and 9 leave
-pub two-off : (k q j r : ℕ) (b c : Bool) → 0 < k → 0 < j
-    → (ruling_of (rule k q b ∷ rule j r c ∷ [])).number ≡ 0 → (b ≡ false) × (c ≡ false)
-two-off k q j r true c hk hj e = absurd (omega arith)
-two-off k q j r false true hk hj e = absurd (omega arith)
-two-off k q j r false false hk hj e = (refl, refl)
+-- ---- lists of rules of which none is broken
+pub both-off : (l m : List Rule) → ruling_of (l ++ m) ≡ Ok tt → (ruling_of l ≡ Ok tt) × (ruling_of m ≡ Ok tt)
+both-off l m e = go (ruling_of l) refl
+  where
+    go : (r : Result ⊤ Ruling) → ruling_of l ≡ r → (ruling_of l ≡ Ok tt) × (ruling_of m ≡ Ok tt)
+    go (Ok u) q = (q, sym (ruling-rest l m u q) ∙ e)
+    go (Err r) q = let z = sym e ∙ ruling-first l m r q in cc
 
-module _ (c : Def) (n : R.Name) (x : Bool) (e : (ruling_of (name_rules c n x)).number ≡ 0) where
+pub one-off : (k q : ℕ) (b : Bool) → ruling_of (rule k q b ∷ []) ≡ Ok tt → b ≡ false
+one-off k q true e = cc
+one-off k q false e = refl
+
+pub two-off : (k q j r : ℕ) (b c : Bool) → ruling_of (rule k q b ∷ rule j r c ∷ []) ≡ Ok tt → (b ≡ false) × (c ≡ false)
+two-off k q j r b c e =
+    let (d, f) = both-off (rule k q b ∷ []) (rule j r c ∷ []) e in
+    (one-off k q b d, one-off j r c f)
+
+-- ---- what 4 and 9 leave
+module _ (c : Def) (n : R.Name) (x : Bool) (e : ruling_of (name_rules c n x) ≡ Ok tt) where
   offs : ((not (is_found (attribute_at n.bytes (attributes_of c))) && leb most (name_count (attributes_of c))) ≡ false)
       × ((is_found (attribute_at n.bytes c.own) || (is_found (attribute_at n.bytes c.inherited) && not x))
       ≡ false)
-  offs = two-off 4 n.offset 9 n.offset _ _ (omega arith) (omega arith) e
+  offs = two-off 4 n.offset 9 n.offset _ _ e
 
   pub few-names :
       (not (is_found (attribute_at n.bytes (attributes_of c))) && leb most (name_count (attributes_of c))) ≡ false
@@ -56,144 +67,64 @@ module _ (c : Def) (n : R.Name) (x : Bool) (e : (ruling_of (name_rules c n x)).n
   pub no_own : is_found (attribute_at n.bytes c.own) ≡ false
   no_own = (or-fails offs.1).0
 
--- ---- lists of rules
-first_off : (l m : List Rule) → Positive l → (ruling_of (l ++ m)).number ≡ 0 → (ruling_of l).number ≡ 0
-first_off [] m h e = refl
-first_off (r ∷ l) m h e = go r.broken e (first_off l m h.1)
-  where
-    go : (b : Bool) → (cond b (record { number = r.number; place = r.place }) (ruling_of (l ++ m))).number ≡ 0
-        → ((ruling_of (l ++ m)).number ≡ 0 → (ruling_of l).number ≡ 0)
-        → (cond b (record { number = r.number; place = r.place }) (ruling_of l)).number ≡ 0
-    go true q i = q
-    go false q i = i q
-
-three-off : (k q : ℕ) (b : Bool) (l : List Rule) → 0 < k → (ruling_of (rule k q b ∷ l)).number ≡ 0
-    → (b ≡ false) × ((ruling_of l).number ≡ 0)
-three-off k q true l h e = absurd (omega arith)
-three-off k q false l h e = (refl, e)
-
 -- ---- 4 to 11
-pub element-positive : (w : Option WrittenType) → Positive (element_rule w ∷ [])
-element-positive none = (omega arith, tt)
-element-positive (some (G.text m n)) = (omega arith, tt)
-element-positive (some (G.numeric q r)) = (omega arith, tt)
-element-positive (some (G.enum e)) = go (twice e [])
-  where
-    go : (o : Option ℕ) → Positive (J.doubled o ∷ [])
-    go none = (omega arith, tt)
-    go (some p) = (omega arith, tt)
-element-positive (some (G.named r)) = (omega arith, tt)
-
-module _ (c : Def) (n : R.Name) (x : Bool) (f : Bool) (w : Option WrittenType) (g : Option Def) where
-  name-positive : Positive (name_rules c n x)
-  name-positive = (omega arith, (omega arith, tt))
-
-  pub first-name : 0 < (ruling_of (name_rules c n x)).number
-      → ruling_of (name_rules c n x) ≡ ruling_of (rules_to_11 c n x f w g)
-  first-name h =
-      ruling-first (name_rules c n x) (element_rule w ∷ reference_rules n.offset x f w g) _ name-positive
-      refl h
-
-  module _ (e : (ruling_of (name_rules c n x)).number ≡ 0) where
-    behind-name : ruling_of (rules_to_11 c n x f w g)
-        ≡ ruling_of ((element_rule w ∷ []) ++ reference_rules n.offset x f w g)
-    behind-name =
-        ruling-rest (name_rules c n x) (element_rule w ∷ reference_rules n.offset x f w g) name-positive e
-
-    pub first-element : 0 < (ruling_of (element_rule w ∷ [])).number
-        → ruling_of (element_rule w ∷ []) ≡ ruling_of (rules_to_11 c n x f w g)
-    first-element h =
-        ruling-first (element_rule w ∷ [])
-        (reference_rules n.offset x f w g) _ (element-positive w) refl h
-        ∙ sym behind-name
-
-    pub first-reference : (ruling_of (element_rule w ∷ [])).number ≡ 0
-        → ruling_of (reference_rules n.offset x f w g) ≡ ruling_of (rules_to_11 c n x f w g)
-    first-reference h = sym (behind-name
-        ∙ ruling-rest (element_rule w ∷ []) (reference_rules n.offset x f w g) (element-positive w) h)
-
 -- what is left where none is broken
 pub to-11-off : (c : Def) (n : R.Name) (x f : Bool) (w : Option WrittenType) (g : Option Def)
-    → (ruling_of (rules_to_11 c n x f w g)).number ≡ 0
-    → ((ruling_of (name_rules c n x)).number ≡ 0) × ((ruling_of (element_rule w ∷ [])).number ≡ 0)
-    × ((ruling_of (reference_rules n.offset x f w g)).number ≡ 0)
+    → ruling_of (rules_to_11 c n x f w g) ≡ Ok tt
+    → (ruling_of (name_rules c n x) ≡ Ok tt) × (ruling_of (element_rule w ∷ []) ≡ Ok tt)
+    × (ruling_of (reference_rules n.offset x f w g) ≡ Ok tt)
 to-11-off c n x f w g e =
-    let a : (ruling_of (name_rules c n x)).number ≡ 0 = first_off (name_rules c n x)
-    (element_rule w ∷ reference_rules n.offset x f w g) (name-positive c n x f w g) e in
-    let b : (ruling_of (element_rule w ∷ [])).number
-    ≡ 0 = first_off (element_rule w ∷ []) (reference_rules n.offset x f w g) (element-positive w)
-    (ap (λ (r : Ruling). r.number) (sym (behind-name c n x f w g a)) ∙ e) in
-    (a, b, ap (λ (r : Ruling). r.number) (first-reference c n x f w g a b) ∙ e)
+    let (a, b) = both-off (name_rules c n x) (element_rule w ∷ reference_rules n.offset x f w g) e in
+    let (d, h) = both-off (element_rule w ∷ []) (reference_rules n.offset x f w g) b in
+    (a, d, h)
 
 -- what the type's reference then leads to
 pub refers-is : (p : ℕ) (x f : Bool) (w : Option WrittenType) (g : Option Def) → (reference_in w ≡ none → g ≡ none)
-    → (ruling_of (reference_rules p x f w g)).number ≡ 0 → Refers w g × ((x && not f) ≡ false)
+    → ruling_of (reference_rules p x f w g) ≡ Ok tt → Refers w g × ((x && not f) ≡ false)
 refers-is p x f w g h e =
-    let (a, b) = three-off 10 p (x && not f) (target_rules w g) (omega arith) e in
+    let (a, b) = both-off (rule 10 p (x && not f) ∷ []) (target_rules w g) e in
     let q = place_of (reference_in w) in
-    (go (may_stand_in w) (reference_in w) g h (two-off 10 q 11 q _ _ (omega arith) (omega arith) b), a)
+    (go (may_stand_in w) (reference_in w) g h (two-off 10 q 11 q _ _ b), one-off 10 p (x && not f) a)
   where
     go : (m : Sort → Bool) (r : Option Reference) (g : Option Def) → (r ≡ none → g ≡ none)
         → ((is_found r && not (is_found g)) ≡ false) × ((is_found g && not (m (J.or_no_def g).sort)) ≡ false)
         → PointsTo m r g
     go m none g h q = h refl
-    go m (some r) none h q = let z : ◌≡◌ {A = ℕ} 0 1 = let k = q.0 in cc in absurd (omega arith)
+    go m (some r) none h q = let z = q.0 in cc
     go m (some r) (some d) h q = (d, refl, not-fails q.1)
 
 -- ---- where one is broken, and where none is
-pub stopped-within : (st : code.State) (r : Ruling) → 0 < r.number → (e : Bonds)
-    → e ≡ record { ruling = r; slot = 0; base = 0; target = 0 } → Within st e
-stopped-within st r h e ee =
-    let i = ap (λ (u : Bonds). u.ruling.number) ee in
-    let j = ap (λ (u : Bonds). u.slot) ee in
-    let l = ap (λ (u : Bonds). u.base) ee in
-    let m = ap (λ (u : Bonds). u.target) ee in
-    record { slot = omega arith; base = omega arith; target = omega arith; few = λ z y. absurd (omega arith) }
+pub within-are : (st : code.State) (slot : ℕ) → Slots st.context.in_hand slot → (r : Result Bonds Ruling)
+    → IfOk r (λ e. (e.slot ≡ slot) × (e.base ≤ st.listing.total) × (e.target ≤ st.listing.count)) → IfOk r (Within st)
+within-are st slot h (Ok e) i = record { slot = rw i.0 h; base = i.1; target = i.2 }
+within-are st slot h (Err q) i = tt
 
 module _ (s : State) (c : Def) (n : R.Name) (x : Bool) (w : Option WrittenType) (hs : List ℕ) (k : ℕ) where
-  abbrev based : Bool
-  based = is_found (attribute_at n.bytes c.inherited)
+  pub name-broken : (q : Ruling) → ruling_of (name_rules c n x) ≡ Err q → BondsAre s c n x w hs k (Err q)
+  name-broken q e = ruling-first (name_rules c n x) (element_rule w ∷ references_in s c n x w) q e
 
-  stopped-is : (r : Ruling) → 0 < r.number → r ≡ ruling_of (rules_to_11 c n x based w (resolved s (reference_in w)))
-      → (e : Bonds) → e ≡ record { ruling = r; slot = 0; base = 0; target = 0 } → BondsAre s c n x w hs k e
-  stopped-is r h q e ee =
-      let i : e.ruling ≡ r = ap (λ (u : Bonds). u.ruling) ee in
-      let j : ¬ (e.ruling.number ≡ 0) = λ v. let m = ap (λ (u : Ruling). u.number) i in omega arith in
-      record { ruling = i ∙ q; slot = λ v. absurd (j v); reaches = λ v. absurd (j v) }
+  module _ (e : ruling_of (name_rules c n x) ≡ Ok tt) where
+    behind-name : ruling_of (name_rules c n x ++ (element_rule w ∷ references_in s c n x w))
+        ≡ ruling_of ((element_rule w ∷ []) ++ references_in s c n x w)
+    behind-name = ruling-rest (name_rules c n x) (element_rule w ∷ references_in s c n x w) tt e
 
-  module _ (r : Ruling) (er : r ≡ ruling_of (name_rules c n x)) where
-    pub stopped-name : 0 < r.number → (e : Bonds)
-        → e ≡ record { ruling = r; slot = 0; base = 0; target = 0 } → BondsAre s c n x w hs k e
-    stopped-name h = stopped-is r h
-        (er ∙ first-name c n x based w (resolved s (reference_in w)) (subst (λ (i : Ruling). 0 < i.number) er h))
+    pub element-broken : (q : Ruling) → ruling_of (element_rule w ∷ []) ≡ Err q → BondsAre s c n x w hs k (Err q)
+    element-broken q h = behind-name ∙ ruling-first (element_rule w ∷ []) (references_in s c n x w) q h
 
-    module _ (z : r.number ≤ 0) where
-      name-off : (ruling_of (name_rules c n x)).number ≡ 0
-      name-off = let q = ap (λ (i : Ruling). i.number) er in omega arith
-
-      pub own-off : is_found (attribute_at n.bytes c.own) ≡ false
-      own-off = no_own c n x name-off
-
-      module _ (d : Ruling) (ed : d ≡ ruling_of (element_rule w ∷ [])) where
-        pub stopped-element : 0 < d.number → (e : Bonds)
-            → e ≡ record { ruling = d; slot = 0; base = 0; target = 0 } → BondsAre s c n x w hs k e
-        stopped-element h = stopped-is d h (ed ∙ first-element c n x based w (resolved s (reference_in w)) name-off
-            (subst (λ (i : Ruling). 0 < i.number) ed h))
-
-        pub bonds-are : d.number ≤ 0 → (e : Bonds)
-            → ((o : Opened (attributes_in s) hs k c) → e.slot ≡ slot_of n.bytes o.hand)
-            → e.ruling ≡ ruling_of (references_in s c n x w) → Reaches s c n w e → BondsAre s c n x w hs k e
-        bonds-are h e es er h2 = record {
-          ruling =
-              er ∙ first-reference c n x based w (resolved s (reference_in w)) name-off
-              (let i = ap (λ (i : Ruling). i.number) ed in omega arith);
-          slot = λ v. es;
-          reaches = λ v. h2;
-        }
+    pub bonds-are : ruling_of (element_rule w ∷ []) ≡ Ok tt → (slot : ℕ)
+        → ((o : Opened (attributes_in s) hs k c) → slot ≡ slot_of n.bytes o.hand) → (r : Result Bonds Ruling)
+        → IfOk r (λ e. e.slot ≡ slot) → Ruled r (references_in s c n x w) (Reaches s c n w)
+        → BondsAre s c n x w hs k r
+    bonds-are h slot es (Ok b) i u = (
+      behind-name ∙ ruling-rest (element_rule w ∷ []) (references_in s c n x w) tt h ∙ u.0,
+      record { slot = λ o. i ∙ es o; reaches = u.1 },
+    )
+    bonds-are h slot es (Err q) i u =
+        behind-name ∙ ruling-rest (element_rule w ∷ []) (references_in s c n x w) tt h ∙ u
 
 -- ---- the slot, the base and what the type's reference leads to
-module _ (t : List ℕ) (s : State) (st : code.State) (o x z y hs : List ℕ) (k : Keeps t s st o x z y hs) (c : Def)
-    (ec : s.open_class ≡ some c) (n : R.Name) (p : List (List ℕ)) (w : G.Written) (rs : List ℕ) (a : AttributeUnit)
+module _ {t : List ℕ} {s : State} {st : code.State} {o x z y hs : List ℕ} (k : Keeps t s st o x z y hs) {c : Def}
+    (ec : s.open_class ≡ some c) {n : R.Name} {p : List (List ℕ)} {w : G.Written} {rs : List ℕ} {a : AttributeUnit}
     (g : Given t n p w rs a) where
   open_is : OpenIs t s st x hs (some c)
   open_is = subst (OpenIs t s st x hs) ec k.opened
@@ -214,14 +145,14 @@ module _ (t : List ℕ) (s : State) (st : code.State) (o x z y hs : List ℕ) (k
 
     pub name-is : (class : ℕ)
         → ((u : List ℕ) (d : Def) → Says u d (row definition_width x (st.listing.count + 1)) → class ≡ d.number)
-        → (r : Ruling)
+        → (r : Result ⊤ Ruling)
         → ((ms : List Attribute) (d : Def) (m : R.Name) (q : Opened ms hs st.context.in_hand d) → Apart d
         → class ≡ d.number → a.name.offset ≡ m.offset → slot ≡ slot_of m.bytes q.hand
         → r ≡ ruling_of (name_rules d m a.properties.extended))
-        → r ≡ ruling_of (name_rules c n (has_extended p))
+        → ruling_of (name_rules c n (has_extended p)) ≡ r
     name-is class en r er =
-        er (attributes_in s) c n was apart (en t c open_is.3.says) (at_name t n p w rs a g) (slot_is was)
-        ∙ ap (λ (b : Bool). ruling_of (name_rules c n b)) (is-extended t n p w rs a g)
+        sym (er (attributes_in s) c n was apart (en t c open_is.3.says) (at_name t n p w rs a g) (slot_is was)
+        ∙ ap (λ (b : Bool). ruling_of (name_rules c n b)) (is-extended t n p w rs a g))
 
   -- what is reached from a slot, and by the reference
   module _ (off : is_found (attribute_at n.bytes c.own) ≡ false) (slot : ℕ)
@@ -238,15 +169,15 @@ module _ (t : List ℕ) (s : State) (st : code.State) (o x z y hs : List ℕ) (k
     no_name_lem : reference_in w.type ≡ none → entry (known s.decls) target ≡ none
     no_name_lem e = ed ∙ ap (resolved s) e
 
-    pub reference-is : base ≤ st.listing.total → target ≤ st.listing.count → (q : Ruling)
+    pub reference-is : base ≤ st.listing.total → target ≤ st.listing.count → (q : Result ⊤ Ruling)
         → ((u : List ℕ) (ks : List Def) (count : ℕ) (ms : List Attribute) (v : Option WrittenType) → Known u ks x count
         → target ≤ count → base ≤ length ms → a.written.meant ≡ any_of v
         → a.written.reference ≡ optional_of (reference_in v) → (reference_in v ≡ none → entry ks target ≡ none)
         → q ≡ ruling_of (reference_rules a.name.offset a.properties.extended (is_found (entry ms base))
         v (entry ks target)))
-        → q ≡ ruling_of (references_in s c n (has_extended p) w.type)
+        → ruling_of (references_in s c n (has_extended p) w.type) ≡ q
     reference-is hb hn q eq =
-        eq t (known s.decls) st.listing.count (attributes_in s) w.type (indexed k.held).known hn
+        sym (eq t (known s.decls) st.listing.count (attributes_in s) w.type (indexed k.held).known hn
         (let i = k.held.all_attributes in omega arith) (is-meant t n p w rs a g) (is-reference t n p w rs a g)
         no_name_lem
         ∙ ap (λ (i : ℕ). ruling_of (reference_rules i a.properties.extended (is_found (entry (attributes_in s) base))
@@ -256,4 +187,4 @@ module _ (t : List ℕ) (s : State) (st : code.State) (o x z y hs : List ℕ) (k
         ∙ ap (λ (i : Option Attribute). ruling_of (reference_rules n.offset (has_extended p) (is_found i)
         w.type (entry (known s.decls) target))) base-is
         ∙ ap (λ (i : Option Def). ruling_of (reference_rules n.offset (has_extended p)
-        (is_found (attribute_at n.bytes c.inherited)) w.type i)) ed
+        (is_found (attribute_at n.bytes c.inherited)) w.type i)) ed)

@@ -3,11 +3,11 @@ use mathlib.Core.Path.{◌≡◌, refl, sym, ap, ◌∙◌}
 use mathlib.Core.Bool.{Bool, true, false, cond, not, ◌&&◌, ◌||◌}
 use mathlib.Core.Option.{Option, none, some}
 use mathlib.Core.List.{List}
-use Prim.Native.Nat.{ℕ, zero, suc, ◌+◌, ◌-◌, ◌≤◌, ◌<◌}
+use Prim.Native.Nat.{ℕ, zero, suc, ◌+◌, ◌-◌, ◌≤◌}
 use native.Mathlib.Omega.{arith}
 use lib.ListN.{length, get_or}
 use lib.Dec.{eqb, leb, ltb}
-use borrow.Author.Tests.{ne_eqb, lt-ltb, le-leb, lt-leb}
+use borrow.Author.Tests.{ne_eqb, lt-ltb}
 use Rattle.rules.specs.Names as R
 use Rattle.rules.specs.Grammar.{WrittenType}
 use Rattle.rules.specs.Declarations.{Attribute, Def, attributes_of, attribute_at, is_found, name_count}
@@ -20,15 +20,13 @@ use Rattle.members.proofs.NearLaws.{found_before}
 use Rattle.members.proofs.FillLaws.{slot-zero, slot-some}
 use Rattle.members.proofs.OpenLaws.{slot-finds}
 use Rattle.ground.specs.Rulings.{ruling_of}
+use Rattle.std.specs.Prelude.{⊤, Result, Ok, Err}
 use Rattle.ground.specs.declared.Ruling.{Ruling}
 use Rattle.state.specs.Targets.{target_rules}
 use Rattle.attribute_names.specs.Stages.{name_rules, reference_rules}
 
-abbrev pub fair : Ruling
-fair = record { number = 0; place = 0 }
-
-abbrev pub broken_at : ℕ → ℕ → Ruling
-broken_at n p = record { number = n; place = p }
+abbrev pub broken_at : ℕ → ℕ → Result ⊤ Ruling
+broken_at n p = Err (record { number = n; place = p })
 
 -- ---- the name
 abbrev has : List ℕ → List Attribute → Bool
@@ -45,60 +43,42 @@ found-parts c n =
 
 -- by what is found: under the name at all (a), as an own one (o), inherited (i); b says that
 -- there are as many as may be
-abbrev ruling_by : ℕ → Bool → Bool → Bool → Bool → Bool → Ruling
-ruling_by p a b o i x = cond (not a && b) (broken_at 4 p) (cond (o || (i && not x)) (broken_at 9 p) fair)
+abbrev ruling_by : ℕ → Bool → Bool → Bool → Bool → Bool → Result ⊤ Ruling
+ruling_by p a b o i x = cond (not a && b) (broken_at 4 p) (cond (o || (i && not x)) (broken_at 9 p) (Ok tt))
 
-is-new : (p : ℕ) (b o i x : Bool) → (o || i) ≡ false → ruling_by p false b o i x ≡ cond b (broken_at 4 p) fair
-is-new p b true i x e = let z : ◌≡◌ {A = ℕ} 0 1 = cc in absurd (omega arith)
-is-new p b false true x e = let z : ◌≡◌ {A = ℕ} 0 1 = cc in absurd (omega arith)
+is-new : (p : ℕ) (b o i x : Bool) → (o || i) ≡ false → ruling_by p false b o i x ≡ cond b (broken_at 4 p) (Ok tt)
+is-new p b true i x e = cc
+is-new p b false true x e = cc
 is-new p b false false x e = refl
 
-is-old : (p : ℕ) (b i x : Bool) → i ≡ true → ruling_by p true b false i x ≡ cond x fair (broken_at 9 p)
-is-old p b true true e = refl
-is-old p b true false e = refl
-is-old p b false x e = let z : ◌≡◌ {A = ℕ} 0 1 = cc in absurd (omega arith)
+is-old : (p : ℕ) (b o i x : Bool) → (o || i) ≡ true → ruling_by p true b o i x
+    ≡ cond (o || not x) (broken_at 9 p) (Ok tt)
+is-old p b true i x e = refl
+is-old p b false true x e = refl
+is-old p b false false x e = cc
 
 module _ (ms : List Attribute) (hs : List ℕ) (k : ℕ) (c : Def) (n : R.Name) (o : Opened ms hs k c) (slot : ℕ)
     (e : slot ≡ slot_of n.bytes o.hand) (x : Bool) where
-  full : (b : Bool) → leb most k ≡ b → leb most (name_count (attributes_of c)) ≡ b
-  full b h = rw (← o.counts) h
-
   module _ (z : slot ≡ 0) where
     absent : has n.bytes (attributes_of c) ≡ false
     absent = sym (ap is_found (o.finds n.bytes)) ∙ slot-zero n.bytes 0 o.hand (sym e ∙ z)
 
-    new_by : (b : Bool) → leb most k ≡ b → cond b (broken_at 4 n.offset) fair ≡ ruling_of (name_rules c n x)
-    new_by b h =
-        rw (absent, full b h)
+    pub name_new : (b : Bool) → leb most k ≡ b → cond b (broken_at 4 n.offset) (Ok tt) ≡ ruling_of (name_rules c n x)
+    name_new b h =
+        rw (absent, ← o.counts, h)
         (sym (is-new n.offset b (has n.bytes c.own) (has n.bytes c.inherited) x
         (sym (found-parts c n.bytes) ∙ absent)))
-
-    pub name_new : k < most → fair ≡ ruling_of (name_rules c n x)
-    name_new h = new_by false (lt-leb most k h)
-
-    pub name-many : most ≤ k → broken_at 4 n.offset ≡ ruling_of (name_rules c n x)
-    name-many h = new_by true (le-leb most k h)
 
   module _ (z : ¬ (slot ≡ 0)) where
     there : has n.bytes (attributes_of c) ≡ true
     there = sym (ap is_found (o.finds n.bytes)) ∙ slot-some n.bytes 0 o.hand (λ y. z (e ∙ y))
 
-    pub name-own : true ≡ has n.bytes c.own → broken_at 9 n.offset ≡ ruling_of (name_rules c n x)
-    name-own h = rw (there, sym h)
-
-    module _ (h : false ≡ has n.bytes c.own) where
-      inherited : cond x fair (broken_at 9 n.offset) ≡ ruling_of (name_rules c n x)
-      inherited =
-          let i : has n.bytes c.inherited
-          ≡ true = ap (λ (b : Bool). b || has n.bytes c.inherited) h ∙ sym (found-parts c n.bytes) ∙ there in
-          rw (there, sym h)
-          (sym (is-old n.offset (leb most (name_count (attributes_of c))) (has n.bytes c.inherited) x i))
-
-      pub name-extended : x ≡ true → fair ≡ ruling_of (name_rules c n x)
-      name-extended q = sym (ap (λ (b : Bool). cond b fair (broken_at 9 n.offset)) q) ∙ inherited
-
-      pub name-hidden : x ≡ false → broken_at 9 n.offset ≡ ruling_of (name_rules c n x)
-      name-hidden q = sym (ap (λ (b : Bool). cond b fair (broken_at 9 n.offset)) q) ∙ inherited
+    pub name_old : (b : Bool) → b ≡ has n.bytes c.own → (v : Bool) → (b || not x) ≡ v
+        → cond v (broken_at 9 n.offset) (Ok tt) ≡ ruling_of (name_rules c n x)
+    name_old b h v q =
+        rw (there, ← q, h)
+        (sym (is-old n.offset (leb most (name_count (attributes_of c))) (has n.bytes c.own) (has n.bytes c.inherited) x
+        (sym (found-parts c n.bytes) ∙ there)))
 
 -- ---- the attribute in a slot
 pub found_some : (o : Option Attribute) → is_found o ≡ true → (a : Attribute) × (o ≡ some a)
@@ -136,17 +116,14 @@ found-is l (suc i) h =
     ap is_found q ∙ sym (lt-ltb 0 (suc i) (omega arith))
 
 lost-is : {A : Type 0} (l : List A) (p : ℕ) (x : Bool) → p ≤ length l
-    → (x && eqb p 0) ≡ (x && not (is_found (entry l p)))
+    → (x && not (is_found (entry l p))) ≡ (x && eqb p 0)
 lost-is l zero x h = refl
 lost-is l (suc i) x h =
     let (a, q) = entry-there l (suc i) (omega arith) h in
     rw (ne_eqb (suc i) 0 (λ e. omega arith), q)
 
-module _ (ms : List Attribute) (base : ℕ) (w : base ≤ length ms) (x : Bool) (p : ℕ) (r : Option WrittenType)
-    (g : Option Def) (b : Bool) (e : b ≡ (x && eqb base 0)) where
-  pub is_lost : b ≡ true → broken_at 10 p ≡ ruling_of (reference_rules p x (is_found (entry ms base)) r g)
-  is_lost h = rw (← lost-is ms base x w, ← e, h)
-
-  pub not-lost : b ≡ false → (q : Ruling) → q ≡ ruling_of (target_rules r g)
-      → q ≡ ruling_of (reference_rules p x (is_found (entry ms base)) r g)
-  not-lost h q f = rw (← lost-is ms base x w, ← e, h) f
+pub references : (ms : List Attribute) (base : ℕ) → base ≤ length ms → (x : Bool) (p : ℕ) (r : Option WrittenType)
+    (g : Option Def) (v : Bool) → (x && eqb base 0) ≡ v
+    → cond v (broken_at 10 p) (ruling_of (target_rules r g))
+    ≡ ruling_of (reference_rules p x (is_found (entry ms base)) r g)
+references ms base w x p r g v q = rw (lost-is ms base x w, q)

@@ -1,5 +1,6 @@
 -- What judging an attribute's name and reference hands on.
 use Rattle.std.specs.Prelude.{◌≡◌, Bool, true, List, ℕ, ◌≤◌, ◌<◌}
+use Rattle.std.specs.declared.result.Result.{Result}
 use Rattle.std.proofs.Math.Option.{Option, none, some}
 use Rattle.rules.specs.Names as R
 use Rattle.rules.specs.Grammar as G
@@ -13,12 +14,12 @@ use Rattle.enumerations.specs.Standing.{InText}
 use Rattle.readers.specs.Reads.{name_cut}
 use Rattle.parts.specs.Forms.{flags_of, written_of}
 use Rattle.wellformed.specs.Fairness.{FairWritten}
-use Rattle.ground.specs.Rulings.{ruling_of}
+use Rattle.ground.specs.declared.Ruling.{Ruling}
 use Rattle.types.specs.Writing.{Scratched}
 use Rattle.units.specs.declared.AttributeUnit.{AttributeUnit}
 use Rattle.state.specs.declared.State as code
+use Rattle.state.specs.Targets.{Ruled}
 use Rattle.attribute_names.specs.Stages.{name_rules, reference_rules, rules_to_11}
-use Rattle.attribute_names.specs.declared.Slotted.{Slotted}
 use Rattle.attribute_names.specs.declared.Bonds.{Bonds}
 
 -- the unit a as it is read, with an enumeration's records in the scratch rs
@@ -38,11 +39,16 @@ PointsTo p (some r) g = (d : Def) × (g ≡ some d) × (p d.sort ≡ true)
 abbrev pub Refers : Option WrittenType → Option Def → Type 0
 Refers w g = PointsTo (may_stand_in w) (reference_in w) g
 
--- 4 and 9 of the name, and its slot in the open class c
-pub record SlotIs (s : State) (c : Def) (n : R.Name) (extended : Bool) (hs : List ℕ)
-    (hand : ℕ) (r : Slotted) : Type 0 where
-  pub ruling : r.ruling ≡ ruling_of (name_rules c n extended)
-  pub slot : (o : Opened (attributes_in s) hs hand c) → r.slot ≡ slot_of n.bytes o.hand
+-- a slot of the hand; a name that is new has none, and breaks 4 where the open class is full
+pub record Slots (hand slot : ℕ) : Type 0 where
+  pub within : slot ≤ hand
+  pub few : slot ≡ 0 → hand < most
+
+-- 4 and 9 of the name; where none is broken its slot in the open class c
+abbrev pub SlotIs : State → Def → R.Name → Bool → List ℕ → ℕ → Result ℕ Ruling → Type 0
+SlotIs s c n extended hs hand r =
+    Ruled r (name_rules c n extended)
+    (λ slot. (o : Opened (attributes_in s) hs hand c) → slot ≡ slot_of n.bytes o.hand)
 
 -- the position of the nearest inherited attribute of the name, and of what the type's reference leads to
 pub record Reaches (s : State) (c : Def) (n : R.Name) (w : Option WrittenType) (e : Bonds) : Type 0 where
@@ -55,19 +61,21 @@ references_in s c n extended w =
     reference_rules n.offset extended (is_found (attribute_at n.bytes c.inherited)) w
     (resolved s (reference_in w))
 
--- the bonds of an attribute are slots and positions that there are; a name that is new breaks 4 where
--- the open class is full
+-- the bonds of an attribute are slots and positions that there are
 pub record Within (st : code.State) (e : Bonds) : Type 0 where
-  pub slot : e.slot ≤ st.context.in_hand
+  pub slot : Slots st.context.in_hand e.slot
   pub base : e.base ≤ st.listing.total
   pub target : e.target ≤ st.listing.count
-  pub few : e.ruling.number ≡ 0 → e.slot ≡ 0 → st.context.in_hand < most
 
--- 4 to 11; behind them the slot of the name in the open class c, the position of the nearest inherited one, and of
--- what the type's reference leads to
-pub record BondsAre (s : State) (c : Def) (n : R.Name) (extended : Bool) (w : Option WrittenType) (hs : List ℕ)
-    (hand : ℕ) (e : Bonds) : Type 0 where
-  pub ruling : e.ruling ≡ ruling_of
-      (rules_to_11 c n extended (is_found (attribute_at n.bytes c.inherited)) w (resolved s (reference_in w)))
-  pub slot : e.ruling.number ≡ 0 → (o : Opened (attributes_in s) hs hand c) → e.slot ≡ slot_of n.bytes o.hand
-  pub reaches : e.ruling.number ≡ 0 → Reaches s c n w e
+-- the slot of the name in the open class c, the position of the nearest inherited one, and of what the type's reference
+-- leads to
+pub record Bound (s : State) (c : Def) (n : R.Name) (w : Option WrittenType) (hs : List ℕ) (hand : ℕ)
+    (e : Bonds) : Type 0 where
+  pub slot : (o : Opened (attributes_in s) hs hand c) → e.slot ≡ slot_of n.bytes o.hand
+  pub reaches : Reaches s c n w e
+
+-- 4 to 11; behind them what the attribute is bound to
+abbrev pub BondsAre : State → Def → R.Name → Bool → Option WrittenType → List ℕ → ℕ → Result Bonds Ruling → Type 0
+BondsAre s c n extended w hs hand r =
+    Ruled r (rules_to_11 c n extended (is_found (attribute_at n.bytes c.inherited)) w (resolved s (reference_in w)))
+    (Bound s c n w hs hand)

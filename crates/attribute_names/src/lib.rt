@@ -1,7 +1,7 @@
 // The name of an attribute and what it refers to: 4 by count, 9, 10 and 11.
 #![tactic(auto)]
 
-ghost use Rattle.std.specs.Prelude.{◌≡◌, false, ◌&&◌, List, ℕ, ◌+◌, ◌≤◌, ◌<◌, length, eqb};
+ghost use Rattle.std.specs.Prelude.{◌≡◌, false, List, ℕ, ◌+◌, ◌≤◌, ◌<◌, length, IfOk, OnOk};
 ghost use Rattle.std.proofs.Math.Option.{Option, none, some};
 ghost use Rattle.rules.specs.Names as R;
 ghost use Rattle.rules.specs.Grammar as G;
@@ -19,28 +19,22 @@ ghost use Rattle.wellformed.specs.Fairness.{FairReference};
 ghost use Rattle.tables.specs.Tables.{TableFor};
 ghost use Rattle.ground.specs.Rulings.{ruling_of};
 ghost use Rattle.state.specs.Keeping.{Kept};
-ghost use Rattle.state.specs.Parts.{Ample};
+ghost use Rattle.state.specs.Desks.{Roomy, Stays, with_tables};
+ghost use Rattle.state.specs.Targets.{Ruled};
 ghost use Rattle.attribute_names.specs.Stages.{name_rules, reference_rules};
-ghost use Rattle.attribute_names.specs.Facts.{Given, SlotIs, Reaches, references_in, Within, BondsAre};
+ghost use Rattle.attribute_names.specs.Facts.{Given, Slots, SlotIs, Reaches, references_in, Within, BondsAre};
 
-use ground::{Ruling, fine};
+use ground::Ruling;
 use members::MOST;
 use parts::types::Written;
 use state::State;
+use state::desk::Desk;
 use units::AttributeUnit;
 
-// The rule of 4 and 9 that a name breaks, and its slot in the hand, 0 for none.
-#[derive(Clone, Copy)]
-struct Slotted {
-    pub ruling: Ruling,
-    pub slot: usize,
-}
-
-// The rule of 4 to 11 that is broken; or the slot of the name in the hand, the position of the nearest inherited
-// attribute and that of what the type's reference leads to, each 0 for none.
+// The slot of an attribute's name in the hand, the position of the nearest inherited attribute and that of what the
+// type's reference leads to, each 0 for none as in the rows of fixed memory.
 #[derive(Clone, Copy)]
 pub struct Bonds {
-    pub ruling: Ruling,
     pub slot: usize,
     pub base: usize,
     pub target: usize,
@@ -54,49 +48,48 @@ fn name_ruling(
     class: usize,
     extended: bool,
     place: usize,
-) -> Ruling
+) -> Result<(), Ruling>
     requires { (slot ≤ in_hand) × (in_hand ≤ most) × Hand hand.now }
-    ensures { (result.number ≡ 0 → slot ≡ 0 → in_hand < most)
+    ensures { OnOk result (slot ≡ 0 → in_hand < most)
         × ((ms : List Attribute) (c : Def) (n : R.Name) (o : Opened ms hand.now in_hand c) → Apart c
         → class ≡ c.number
         → place ≡ n.offset → slot ≡ slot_of n.bytes o.hand → result ≡ ruling_of (name_rules c n extended)) }
 {
     if slot == 0 {
         if MOST <= in_hand {
-            return Ruling { number: 4, place };
+            return Err(Ruling { number: 4, place });
         }
-        return fine();
+        return Ok(());
     }
-    if members::is_own(hand, slot, class) {
-        return Ruling { number: 9, place };
+    if members::is_own(hand, slot, class) || !extended {
+        return Err(Ruling { number: 9, place });
     }
-    if extended {
-        return fine();
-    }
-    Ruling { number: 9, place }
+    Ok(())
 }
 
 // The same, and the slot.
-fn slot_of(text: &[u8], work: &[u16], hand: &[u32], st: State, a: AttributeUnit) -> Slotted
-    requires { Inside text.now a.name × Ample st (length work.now) × (st.context.in_hand ≤ most)
-        × Hand hand.now }
-    ensures { (result.slot ≤ st.context.in_hand)
-        × (result.ruling.number ≡ 0 → result.slot ≡ 0 → st.context.in_hand < most)
-        × ((s : D.State) (c : Def) (n : R.Name) (p : List (List ℕ)) (w : G.Written) (o rs : List ℕ)
-        → Kept text.now s st o work.now hand.now → s.open_class ≡ some c
-        → Given text.now n p w rs a
-        → SlotIs s c n (has_extended p) hand.now st.context.in_hand result) }
+fn slot_of(desk: &Desk, st: State, a: AttributeUnit) -> Result<usize, Ruling>
+    requires { Inside desk.now.text.now a.name × Roomy desk.now st × (st.context.in_hand ≤ most)
+        × Hand desk.now.hand.now }
+    ensures { IfOk result (Slots st.context.in_hand)
+        × ((s : D.State) (c : Def) (n : R.Name) (p : List (List ℕ)) (w : G.Written) (rs : List ℕ)
+        → Kept desk.now s st → s.open_class ≡ some c → Given desk.now.text.now n p w rs a
+        → SlotIs s c n (has_extended p) desk.now.hand.now st.context.in_hand result) }
 {
     let name = a.name;
-    let p = a.properties;
-    let i = st.listing.layout.index;
-    let m = st.listing.layout.rows;
-    let c = st.listing.layout.chains;
     let n = st.context.in_hand;
-    let slot = members::find_attribute(text, &work[m..c], st.listing.total, hand, n, name);
-    let class = names::number_of(&work[i..m], st.listing.count + 1);
-    let ruling = name_ruling(hand, n, slot, class, p.extended, name.offset);
-    Slotted { ruling, slot }
+    let total = st.listing.total;
+    let slot = members::find_attribute(desk.text, desk.rows, total, desk.hand, n, name);
+    let class = names::number_of(desk.index, st.listing.count + 1);
+    name_ruling(
+        desk.hand,
+        n,
+        slot,
+        class,
+        a.properties.extended,
+        name.offset,
+    )?;
+    Ok(slot)
 }
 
 // ---- 10 and 11
@@ -110,22 +103,8 @@ fn found_at(hand: &[u32], total: usize, slot: usize) -> usize
     if slot == 0 {
         return 0;
     }
-    let i = slot - 1;
-    let q = ground::wide4(hand[MOST + i]);
-    if q <= total {
-        return q;
-    }
-    0
-}
-
-// EXTENDED without an inherited attribute.
-fn is_lost(extended: bool, base: usize) -> bool
-    ensures { result ≡ (extended && eqb base 0) }
-{
-    if extended {
-        return base == 0;
-    }
-    false
+    let q = hand[MOST + (slot - 1)] as usize;
+    if q <= total { q } else { 0 }
 }
 
 fn reference_ruling(
@@ -135,96 +114,62 @@ fn reference_ruling(
     base: usize,
     target: usize,
     place: usize,
-) -> Ruling
+) -> Result<(), Ruling>
     requires { Rows index.now target }
     ensures { (t : List ℕ) (ks : List Def) (count : ℕ) (ms : List Attribute) (v : Option WrittenType)
         → Known t ks index.now count → target ≤ count → base ≤ length ms → w.meant ≡ any_of v
         → w.reference ≡ optional_of (reference_in v) → (reference_in v ≡ none → entry ks target ≡ none)
         → result ≡ ruling_of (reference_rules place extended (is_found (entry ms base)) v (entry ks target)) }
 {
-    if is_lost(extended, base) {
-        return Ruling { number: 10, place };
+    if extended && base == 0 {
+        return Err(Ruling { number: 10, place });
     }
-    let m = w.meant;
-    let r = w.reference;
-    state::target_ruling(index, m, r, target)
+    state::target_ruling(index, w.meant, w.reference, target)
 }
 
 // The same, and what the name in the slot and the reference reach; no own attribute has the name.
-fn reach(text: &[u8], work: &[u16], hand: &[u32], st: State, a: AttributeUnit, slot: usize) -> Bonds
-    requires inside { Inside text.now st.context.model × Ample st (length work.now) × (slot ≤ most)
-        × Hand hand.now }
+fn reach(desk: &Desk, st: State, a: AttributeUnit, slot: usize) -> Result<Bonds, Ruling>
+    requires inside { Inside desk.now.text.now st.context.model × Roomy desk.now st × (slot ≤ most)
+        × Hand desk.now.hand.now }
     requires reference_value { (b : Option Reference) × (a.written.reference ≡ optional_of b)
-        × AnyIs (FairReference text.now) b }
-    ensures { (result.slot ≡ slot) × (result.base ≤ st.listing.total) × (result.target ≤ st.listing.count)
-        × ((s : D.State) (c : Def) (n : R.Name) (p : List (List ℕ)) (w : G.Written) (o rs : List ℕ)
-        → Kept text.now s st o work.now hand.now → s.open_class ≡ some c
-        → Given text.now n p w rs a
+        × AnyIs (FairReference desk.now.text.now) b }
+    ensures { IfOk result (λ e. (e.slot ≡ slot) × (e.base ≤ st.listing.total) × (e.target ≤ st.listing.count))
+        × ((s : D.State) (c : Def) (n : R.Name) (p : List (List ℕ)) (w : G.Written) (rs : List ℕ)
+        → Kept desk.now s st → s.open_class ≡ some c → Given desk.now.text.now n p w rs a
         → is_found (attribute_at n.bytes c.own) ≡ false
-        → ((q : Opened (attributes_in s) hand.now st.context.in_hand c)
+        → ((q : Opened (attributes_in s) desk.now.hand.now st.context.in_hand c)
         → slot ≡ slot_of n.bytes q.hand)
-        → (result.ruling ≡ ruling_of (references_in s c n (has_extended p) w.type)) × Reaches s c n w.type result) }
+        → Ruled result (references_in s c n (has_extended p) w.type) (Reaches s c n w.type)) }
 {
-    let name = a.name;
-    let p = a.properties;
     let w = a.written;
-    let base = found_at(hand, st.listing.total, slot);
-    let r = w.reference;
-    let target = state::target(text, work, st, r);
-    let i = st.listing.layout.index;
-    let e = st.listing.layout.rows;
-    let ruling = reference_ruling(&work[i..e], w, p.extended, base, target, name.offset);
-    Bonds {
-        ruling,
-        slot,
-        base,
-        target,
-    }
+    let base = found_at(desk.hand, st.listing.total, slot);
+    let target = desk.target(st, w.reference);
+    let extended = a.properties.extended;
+    reference_ruling(desk.index, w, extended, base, target, a.name.offset)?;
+    Ok(Bonds { slot, base, target })
 }
 
 // ---- 9 of elements, and all
-fn stopped(ruling: Ruling) -> Bonds
-    ensures { result ≡ record { ruling = ruling; slot = 0; base = 0; target = 0 } }
-{
-    Bonds {
-        ruling,
-        slot: 0,
-        base: 0,
-        target: 0,
-    }
-}
-
 // 4 to 11.
-pub fn judge_name(
-    text: &[u8],
-    work: &[u16],
-    hand: &[u32],
-    scratch: &[u8],
-    tables: &mut [u32],
-    st: State,
-    a: AttributeUnit,
-) -> Bonds
-    requires inside { Inside text.now st.context.model × Inside text.now a.name × Ample st (length work.now) }
-    requires in_hand_bound { (st.context.in_hand ≤ most) × Hand hand.now }
-    requires scratch_len_bound { (length scratch.now ≤ 262144) × TableFor (length scratch.now) (length tables.old) }
+pub fn judge_name(desk: &mut Desk, st: State, a: AttributeUnit) -> Result<Bonds, Ruling>
+    requires inside { Inside desk.old.text.now st.context.model × Inside desk.old.text.now a.name
+        × Roomy desk.old st }
+    requires in_hand_bound { (st.context.in_hand ≤ most) × Hand desk.old.hand.now }
+    requires scratch_len_bound { (length desk.old.scratch.now ≤ 262144)
+        × TableFor (length desk.old.scratch.now) (length desk.old.tables.now) }
     requires reference_value { (b : Option Reference) × (a.written.reference ≡ optional_of b)
-        × AnyIs (FairReference text.now) b }
-    ensures { Within st result
-        × ((s : D.State) (c : Def) (n : R.Name) (p : List (List ℕ)) (w : G.Written) (o : List ℕ)
-        → Kept text.now s st o work.now hand.now → s.open_class ≡ some c
-        → Given text.now n p w scratch.now a
-        → BondsAre s c n (has_extended p) w.type hand.now st.context.in_hand result) }
+        × AnyIs (FairReference desk.old.text.now) b }
+    ensures stays { Stays desk.old desk.new }
+    ensures only { desk.new ≡ with_tables desk.old desk.new.tables.now }
+    ensures bonds { IfOk result (Within st)
+        × ((s : D.State) (c : Def) (n : R.Name) (p : List (List ℕ)) (w : G.Written)
+        → Kept desk.old s st → s.open_class ≡ some c → Given desk.old.text.now n p w desk.old.scratch.now a
+        → BondsAre s c n (has_extended p) w.type desk.old.hand.now st.context.in_hand result) }
 {
-    let w = a.written;
-    let m = w.meant;
-    let first = slot_of(text, work, hand, st, a);
-    let r = first.ruling;
-    if 0 < r.number {
-        return stopped(r);
-    }
-    let e = types::element_ruling(text, scratch, m, tables);
-    if 0 < e.number {
-        return stopped(e);
-    }
-    reach(text, work, hand, st, a, first.slot)
+    let slot = slot_of(desk, st, a)?;
+    let text = desk.text;
+    let scratch = &mut *desk.scratch;
+    let tables = &mut *desk.tables;
+    types::element_ruling(text, scratch, a.written.meant, tables)?;
+    reach(desk, st, a, slot)
 }

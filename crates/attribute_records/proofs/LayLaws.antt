@@ -1,6 +1,5 @@
 -- 14 to 18 and 22 of what types an attribute, and its records.
 use mathlib.Core.Path.{◌≡◌, refl, sym, ap, ◌∙◌, subst}
-use mathlib.Core.Logic.{⊎_elim}
 use mathlib.Core.Bool.{Bool, true, false, cond, not, ◌&&◌}
 use mathlib.Core.Option.{Option, none, some}
 use mathlib.Core.List.{List, [], ◌∷◌, ◌++◌}
@@ -8,9 +7,7 @@ use Prim.Native.Nat.{ℕ, ◌+◌, ◌≤◌, ◌<◌}
 use native.Mathlib.Omega.{arith}
 use lib.ListN.{length}
 use lib.Dec.{eqb, ltb}
-use borrow.Author.Tests.{eq-eqb, lt-ltb, le-ltb}
-use types.Run.{OneOf}
-use denote.Enum.Declared.{tag_of}
+use borrow.Author.Tests.{eq-eqb}
 use Rattle.wellformed.proofs.TypeLaws.{sort-domain}
 use Rattle.rules.specs.Grammar as G
 use Rattle.rules.specs.Grammar.{WrittenType}
@@ -30,11 +27,7 @@ use Rattle.names.specs.Index.{entry, row, Says, definition_width}
 use Rattle.names.proofs.BaseLaws.{entry-there}
 use Rattle.members.specs.Held.{Held, use_for}
 use Rattle.enumerations.specs.Records.{size_of}
-use Rattle.parts.specs.Forms.{any_of}
-use Rattle.parts.specs.declared.types.Meant.{Meant}
-use Rattle.parts.specs.declared.types.Meant.TheVariants.{Alone}
 use Rattle.parts.specs.declared.types.Written.{Written}
-use Rattle.parts.specs.contracts.types.Meant.{the_type as Meant·the-type}
 use Rattle.rules.specs.All.{AnyIs}
 use Rattle.wellformed.specs.Fairness.{Fair, FairUse}
 use Rattle.ground.specs.Rulings.{ruling_of}
@@ -43,10 +36,10 @@ use Rattle.ground.specs.declared.Ruling.{Ruling}
 use Rattle.types.proofs.TypeLaws.{fits-split}
 use Rattle.types.specs.declared.Over.{Over}
 use Rattle.written.specs.Written.{LaidWhen, written_rules}
-use Rattle.written.specs.declared.Laying.{Laying}
-use Rattle.written.specs.declared.Laying.TheVariants.{Whole, Broken}
-use Rattle.attribute_names.specs.Facts.{Refers}
-use Rattle.attribute_names.proofs.NameLaws.{fair, broken_at, found-is}
+use Rattle.std.specs.Prelude.{⊤, Result, Ok, Err}
+use Rattle.enumerations.specs.declared.Size.{Size}
+use Rattle.ground.proofs.RulingLaws.{ruling-append}
+use Rattle.attribute_names.proofs.NameLaws.{broken_at, found-is}
 use Rattle.attribute_types.specs.Facts.{Ready}
 use Rattle.attribute_records.specs.Stages.{base_rules, use_rules}
 use Rattle.attribute_records.specs.Facts.{Lays, LaidAs}
@@ -54,49 +47,6 @@ use Rattle.attribute_types.proofs.UseLaws.{is-domain, no-domain, def-there, in-p
 use Rattle.attribute_types.proofs.UseLaws.{naming-refers, naming-there, naming-none, fair-use, fair-base}
 use Rattle.wellformed.proofs.UnitLaws.{units-self}
 use Rattle.rules.proofs.Tests.{never}
-
--- ---- MANDATORY alone
-pub alone-is : (m : Meant) → m ≡ Alone → (w : Option WrittenType) → m ≡ any_of w → w ≡ none
-alone-is m e none h = refl
-alone-is m e (some (G.text k none)) h = let z : ◌≡◌ {A = ℕ} 0 1 = cc in absurd (omega arith)
-alone-is m e (some (G.text k (some y))) h = let z : ◌≡◌ {A = ℕ} 0 1 = cc in absurd (omega arith)
-alone-is m e (some (G.numeric none r)) h = let z : ◌≡◌ {A = ℕ} 0 1 = cc in absurd (omega arith)
-alone-is m e (some (G.numeric (some q) r)) h = let z : ◌≡◌ {A = ℕ} 0 1 = cc in absurd (omega arith)
-alone-is m e (some (G.enum x)) h = let z : ◌≡◌ {A = ℕ} 0 1 = cc in absurd (omega arith)
-alone-is m e (some (G.named b)) h = let z : ◌≡◌ {A = ℕ} 0 1 = cc in absurd (omega arith)
-
-tags : (k : ℕ) → OneOf (1 ∷ 2 ∷ 3 ∷ 4 ∷ 5 ∷ 6 ∷ []) k → 0 < k
-tags k o = ⊎_elim (λ e. omega arith) (λ o. ⊎_elim (λ e. omega arith) (λ o. ⊎_elim (λ e. omega arith)
-    (λ o. ⊎_elim (λ e. omega arith) (λ o. ⊎_elim (λ e. omega arith) (λ e. omega arith) o) o) o) o) o
-
-not-alone : (m : Meant) → OneOf (1 ∷ 2 ∷ 3 ∷ 4 ∷ 5 ∷ 6 ∷ []) (tag_of Meant·the-type m) → ¬ (m ≡ Alone)
-not-alone m o e =
-    let t : tag_of Meant·the-type m ≡ 0 = ap (tag_of Meant·the-type) e in
-    let l = tags (tag_of Meant·the-type m) o in
-    omega arith
-
-pub alone-use : (ks : List Def) (u : ℕ) (g : Option Def) (w : Option WrittenType) (v : Use) → w ≡ none
-    → use_for (entry ks u) (ty_of v) ≡ v → use_for (entry ks u) (ty_of (attribute_use w g v)) ≡ attribute_use w g v
-alone-use ks u g w v e h = rw e h
-
-in_place : (w : Option WrittenType) (g : Option Def) (v : Use) → ¬ (w ≡ none) → is_naming w ≡ false
-    → inline (ty_of (attribute_use w g v)) ≡ attribute_use w g v
-in_place none g v z e = absurd (z refl)
-in_place (some (G.text m n)) g v z e = refl
-in_place (some (G.numeric q r)) g v z e = refl
-in_place (some (G.enum x)) g v z e = refl
-in_place (some (G.named b)) g v z e = never (sym e)
-
-pub written-use : (ks : List Def) (p named : ℕ) (m : Meant)
-    → OneOf (1 ∷ 2 ∷ 3 ∷ 4 ∷ 5 ∷ 6 ∷ []) (tag_of Meant·the-type m)
-    → (w : Option WrittenType) → m ≡ any_of w → named ≡ cond (is_naming w) p 0 → Refers w (entry ks p) → (v : Use)
-    → use_for (entry ks named) (ty_of (attribute_use w (entry ks p) v)) ≡ attribute_use w (entry ks p) v
-written-use ks p named m o w e q r v = go (is_naming w) refl q
-  where
-    go : (b : Bool) → is_naming w ≡ b → named ≡ cond b p 0
-        → use_for (entry ks named) (ty_of (attribute_use w (entry ks p) v)) ≡ attribute_use w (entry ks p) v
-    go true i n = let (d, h, y) = naming-refers w (entry ks p) i r in rw (n, h) (sym (named-type w d v i))
-    go false i n = rw n (in_place w (entry ks p) v (λ z. not-alone m o (e ∙ ap any_of z)) i)
 
 -- ---- the record of what is named
 naming-records : (d : Def) → use_records (naming d)
@@ -122,9 +72,9 @@ pub kind-structure : (s : ℕ) (d : Def) → s ≡ sort_number d.sort → ¬ (s 
     → ◌≡◌ {A = ℕ} 12 (cond (is_sort domain d.sort) 17 12)
 kind-structure s d e h = rw (no-domain s d.sort e h)
 
-abbrev Named : Def → ℕ → List ℕ → List ℕ → Laying → Type 0
+abbrev Named : Def → ℕ → List ℕ → List ℕ → Size → Type 0
 Named d i o o₁ r =
-    (r ≡ Whole (size_of (use_records (naming d))))
+    (r ≡ size_of (use_records (naming d)))
     × (i + length (bytes (use_records (naming d))) ≤ length o → o₁ ≡ splice o i (bytes (use_records (naming d))))
 
 module _ (t b : List ℕ) (ks : List Def) (ms : List Attribute) (x : List ℕ) (count : ℕ) (y : List ℕ) (total : ℕ)
@@ -132,16 +82,16 @@ module _ (t b : List ℕ) (ks : List Def) (ms : List Attribute) (x : List ℕ) (
   pub named-laid : (k n : ℕ) (f o₁ : List ℕ)
       → ((u : List ℕ) (d : Def) → Says u d (row definition_width x p) → k ≡ cond (is_sort domain d.sort) 17 12)
       → ((u : List ℕ) (d : Def) → Says u d (row definition_width x p) → n ≡ d.number)
-      → f ≡ length_form k n → o₁ ≡ splice o i f → Named d i o o₁ (Whole (record { bytes = length_size; records = 1 }))
+      → f ≡ length_form k n → o₁ ≡ splice o i f → Named d i o o₁ (record { bytes = length_size; records = 1 })
   named-laid k n f o₁ ek en ef eo =
       let s = (h.def_rows p d e).says in
       let q : f ≡ bytes (use_records (naming d)) = ef ∙ rw (ek t d s, en t d s) (sym (naming-bytes d)) in
-      (ap Whole (sym (naming-size d)), λ w. eo ∙ ap (splice o i) q)
+      (sym (naming-size d), λ w. eo ∙ ap (splice o i) q)
 
   pub named-over : (o₁ : List ℕ) → length o < i + length_size
-      → Named d i o o₁ (Whole (record { bytes = length_size; records = 1 }))
+      → Named d i o o₁ (record { bytes = length_size; records = 1 })
   named-over o₁ w = (
-    ap Whole (sym (naming-size d)),
+    sym (naming-size d),
     λ v.
         let l : length (bytes (use_records (naming d))) ≡ length_size = ap length (naming-bytes d) in
         absurd (omega arith),
@@ -154,17 +104,6 @@ kind-five t (T.text false n) f e = omega arith
 kind-five t (T.numeric r u) f e = omega arith
 kind-five t (T.enum x) f e = omega arith
 kind-five t T.structure f e = f
-
-pub descends-inline : (ks : List Def) (u : ℕ) (d : Def) (v : Use) → u ≡ 0 → use_for (entry ks u) (ty_of v) ≡ v
-    → false ≡ descends (naming d) v
-descends-inline ks u d v z e = go (is_sort domain d.sort) v (sym (ap (λ (j : ℕ). use_for (entry ks j) (ty_of v)) z) ∙ e)
-  where
-    go : (k : Bool) (v : Use) → inline (ty_of v) ≡ v
-        → false ≡ descends (cond k (of_domain (link_of d) d.bases) (of_structure (link_of d) d.bases)) v
-    go true (inline x) q = refl
-    go false (inline x) q = refl
-    go k (of_domain l bs) q = let y : ◌≡◌ {A = ℕ} 0 1 = cc in absurd (omega arith)
-    go k (of_structure l bs) q = let y : ◌≡◌ {A = ℕ} 0 1 = cc in absurd (omega arith)
 
 descends-both : (t : List ℕ) (d e : Def) → (d.sort ≡ domain → Fair t d.type) → (e.sort ≡ domain → Fair t e.type)
     → kind_of (ty_of (naming d)) ≡ kind_of (ty_of (naming e))
@@ -198,28 +137,19 @@ module _ (t b : List ℕ) (ks : List Def) (ms : List Attribute) (x : List ℕ) (
       ∙ ap (λ (j : ℕ). is_among j (link_of d ∷ d.bases)) (en t f k.says) in
       m ∙ descends-both t d f (r.types p d e) (r.types u f q) h ∙ ap (descends (naming d)) i
 
--- ---- 16 to 18 and 22 of what is named
-module _ (p : ℕ) (f : Bool) (u b : Use) where
-  pub descent-none : f ≡ false → fair ≡ ruling_of (base_rules p f true u b)
-  descent-none e = rw e
+-- ---- 16 to 18 and 22 of what is named, over a base of its kind
+module _ (p : ℕ) (f : Bool) (u b : Use) (e : f ≡ true) (k : Bool)
+    (q : k ≡ not (eqb (kind_of (ty_of u)) (kind_of (ty_of b)))) (h : k ≡ false) (a : Bool) (ea : a ≡ descends u b) where
+  pub descent-fine : a ≡ true → Ok tt ≡ ruling_of (base_rules p f true u b)
+  descent-fine ha = rw (e, ← q, h, ← ea, ha)
 
-  module _ (e : f ≡ true) where
-    pub descent-kind : (k : Bool) → k ≡ not (eqb (kind_of (ty_of u)) (kind_of (ty_of b))) → k ≡ true
-        → broken_at 16 p ≡ ruling_of (base_rules p f true u b)
-    descent-kind k q h = rw (e, ← q, h)
+  pub descent-other : a ≡ false → (i : Bool) → i ≡ fits (ty_of u) (ty_of b) → i ≡ true
+      → broken_at 18 p ≡ ruling_of (base_rules p f true u b)
+  descent-other ha i ei hi = rw (e, ← q, h, ← ea, ha, ← ei, hi)
 
-    module _ (k : Bool) (q : k ≡ not (eqb (kind_of (ty_of u)) (kind_of (ty_of b)))) (h : k ≡ false)
-        (a : Bool) (ea : a ≡ descends u b) where
-      pub descent-fine : a ≡ true → fair ≡ ruling_of (base_rules p f true u b)
-      descent-fine ha = rw (e, ← q, h, ← ea, ha)
-
-      pub descent-other : a ≡ false → (i : Bool) → i ≡ fits (ty_of u) (ty_of b) → i ≡ true
-          → broken_at 18 p ≡ ruling_of (base_rules p f true u b)
-      descent-other ha i ei hi = rw (e, ← q, h, ← ea, ha, ← ei, hi)
-
-      pub descent-unfit : a ≡ false → (i : Bool) → i ≡ fits (ty_of u) (ty_of b) → i ≡ false
-          → broken_at 17 p ≡ ruling_of (base_rules p f true u b)
-      descent-unfit ha i ei hi = rw (e, ← q, h, ← ea, ha, ← ei, hi)
+  pub descent-unfit : a ≡ false → (i : Bool) → i ≡ fits (ty_of u) (ty_of b) → i ≡ false
+      → broken_at 17 p ≡ ruling_of (base_rules p f true u b)
+  descent-unfit ha i ei hi = rw (e, ← q, h, ← ea, ha, ← ei, hi)
 
 pub any-fair : (t : List ℕ) (o : Option Attribute) → AnyIs (λ a. FairUse t a.use_of) o
     → FairOrNone t (ty_of (or_no_attribute o).use_of)
@@ -227,15 +157,6 @@ any-fair t none f = tt
 any-fair t (some a) f = fair-use t a.use_of f
 
 -- ---- laying
-laid-broken : (q : Ruling) (l : List Record) (i : ℕ) (o o₁ : List ℕ) → 0 < q.number
-    → LaidWhen (ltb 0 q.number) q l i o o₁ (Broken q)
-laid-broken q l i o o₁ h = rw (lt-ltb 0 q.number h)
-
-laid-whole : (q : Ruling) (l : List Record) (i : ℕ) (o o₁ : List ℕ) (r : Laying) → q.number ≤ 0
-    → (r ≡ Whole (size_of l)) × (i + length (bytes l) ≤ length o → o₁ ≡ splice o i (bytes l))
-    → LaidWhen (ltb 0 q.number) q l i o o₁ r
-laid-whole q l i o o₁ r h k = rw (le-ltb 0 q.number h) k
-
 -- what is named has no other rules
 named-rules : (p : ℕ) (f : Bool) (v : Option WrittenType) (d : Def) (b : Use) → is_naming v ≡ true
     → use_rules p f v (attribute_use v (some d) b) b ≡ base_rules p f true (naming d) b
@@ -246,22 +167,24 @@ named-rules p f (some (G.enum m)) d b e = never e
 named-rules p f (some (G.named m)) d b e = refl
 
 module _ (p : ℕ) (v : Option WrittenType) (d : Def) (o : Option Attribute) (e : is_naming v ≡ true)
-    (q : Ruling) (eq : q ≡ ruling_of (base_rules p (is_found o) true (naming d) (or_no_attribute o).use_of))
     (i : ℕ) (out out₁ : List ℕ) where
   rule-is : ruling_of
-      (use_rules p (is_found o) v (attribute_use v (some d) (or_no_attribute o).use_of) (or_no_attribute o).use_of) ≡ q
-  rule-is = ap ruling_of (named-rules p (is_found o) v d (or_no_attribute o).use_of e) ∙ sym eq
+      (use_rules p (is_found o) v (attribute_use v (some d) (or_no_attribute o).use_of) (or_no_attribute o).use_of)
+      ≡ ruling_of (base_rules p (is_found o) true (naming d) (or_no_attribute o).use_of)
+  rule-is = ap ruling_of (named-rules p (is_found o) v d (or_no_attribute o).use_of e)
 
-  lay-broken-by : 0 < q.number → LaidAs p v (some d) o i out out₁ (Broken q)
-  lay-broken-by h = rw rule-is (laid-broken q _ i out out₁ h)
+  lay-broken-by : (q : Ruling) → Err q
+      ≡ ruling_of (base_rules p (is_found o) true (naming d) (or_no_attribute o).use_of)
+      → LaidAs p v (some d) o i out out₁ (Err q)
+  lay-broken-by q h = rw (rule-is, ← h)
 
-  lay-named-by : q.number ≤ 0 → (r : Laying) → Named d i out out₁ r → LaidAs p v (some d) o i out out₁ r
-  lay-named-by h r k =
-      rw (rule-is, named-type v d (or_no_attribute o).use_of e) (laid-whole q (use_records (naming d)) i out out₁ r h k)
+  lay-named-by : Ok tt ≡ ruling_of (base_rules p (is_found o) true (naming d) (or_no_attribute o).use_of)
+      → (r : Size) → Named d i out out₁ r → LaidAs p v (some d) o i out out₁ (Ok r)
+  lay-named-by h r k = rw (rule-is, ← h, named-type v d (or_no_attribute o).use_of e) (ap Ok k.0, k.1)
 
 -- what is kept of the base with MANDATORY alone breaks nothing
 unbroken : (p : ℕ) (f : Bool) (t : List ℕ) (b : Use) → FairOrNone t (ty_of b)
-    → ruling_of (use_rules p f none b b) ≡ fair
+    → ruling_of (use_rules p f none b b) ≡ Ok tt
 unbroken p false t b h = refl
 unbroken p true t b h =
     rw (
@@ -272,8 +195,7 @@ unbroken p true t b h =
 
 -- in place, the rules are those of a written type
 rules-on : (l m m' : List Rule) → ruling_of m ≡ ruling_of m' → ruling_of (l ++ m) ≡ ruling_of (l ++ m')
-rules-on [] m m' e = e
-rules-on (r ∷ l) m m' e = ap (cond r.broken (record { number = r.number; place = r.place })) (rules-on l m m' e)
+rules-on l m m' e = rw (ruling-append l m, ruling-append l m', e)
 
 -- 18 is for what is named
 last-rules : (p : ℕ) (f : Bool) (x y : Ty)
@@ -296,8 +218,8 @@ naming-inline d x = go (is_sort domain d.sort)
     go true e = let y : ◌≡◌ {A = ℕ} 0 1 = cc in omega arith
     go false e = let y : ◌≡◌ {A = ℕ} 0 1 = cc in omega arith
 
-laid_as : (q q' : Ruling) → q ≡ q' → (l l' : List Record) → l ≡ l' → (i : ℕ) (o o₁ : List ℕ) (r : Laying)
-    → LaidWhen (ltb 0 q'.number) q' l' i o o₁ r → LaidWhen (ltb 0 q.number) q l i o o₁ r
+laid_as : (q q' : Result ⊤ Ruling) → q ≡ q' → (l l' : List Record) → l ≡ l' → (i : ℕ) (o o₁ : List ℕ)
+    (r : Result Size Ruling) → LaidWhen q' l' i o o₁ r → LaidWhen q l i o o₁ r
 laid_as q q' e l l' f i o o₁ r h = rw (e, f) h
 
 -- ---- each way to lay
@@ -341,17 +263,16 @@ module _ {t b : List ℕ} {ks : List Def} {ms : List Attribute} {x : List ℕ} {
       typed-naming = subst (λ (k : Use). Typed t b (ty_of k) over.own)
           (ap (λ (g : Option Def). attribute_use v g kept) at_target ∙ named-type v d kept is-naming) (l.typed_named z)
 
-      module _ (q : Ruling)
-          (eq : q ≡ ruling_of (base_rules w.place (is_found (entry ms base)) true (naming d) kept)) where
-        pub lay-broken : (i : ℕ) (out out₁ : List ℕ) → 0 < q.number
-            → LaidAs w.place v (entry ks target) (entry ms base) i out out₁ (Broken q)
-        lay-broken i out out₁ h =
-            rw at_target (lay-broken-by w.place v d (entry ms base) is-naming q eq i out out₁ h)
+      pub lay-broken : (i : ℕ) (out out₁ : List ℕ) (q : Ruling)
+          → Err q ≡ ruling_of (base_rules w.place (is_found (entry ms base)) true (naming d) kept)
+          → LaidAs w.place v (entry ks target) (entry ms base) i out out₁ (Err q)
+      lay-broken i out out₁ q h = rw at_target (lay-broken-by w.place v d (entry ms base) is-naming i out out₁ q h)
 
-        pub lay-reference : (i : ℕ) (out out₁ : List ℕ) → q.number ≤ 0 → (r : Laying) → Named d i out out₁ r
-            → LaidAs w.place v (entry ks target) (entry ms base) i out out₁ r
-        lay-reference i out out₁ h r k =
-            rw at_target (lay-named-by w.place v d (entry ms base) is-naming q eq i out out₁ h r k)
+      pub lay-reference : (i : ℕ) (out out₁ : List ℕ)
+          → Ok tt ≡ ruling_of (base_rules w.place (is_found (entry ms base)) true (naming d) kept)
+          → (r : Size) → Named d i out out₁ r → LaidAs w.place v (entry ks target) (entry ms base) i out out₁ (Ok r)
+      lay-reference i out out₁ h r k =
+          rw at_target (lay-named-by w.place v d (entry ms base) is-naming i out out₁ h r k)
 
   -- none is
   module _ (z : named ≤ 0) (k : ℕ) (ek : use_for (entry ks k) (ty_of own) ≡ own) where
@@ -361,14 +282,14 @@ module _ {t b : List ℕ} {ks : List Def} {ms : List Attribute} {x : List ℕ} {
     pub kept_there : 0 < k → k ≤ count → (d : Def) × (entry ks k ≡ some d)
     kept_there h c = let a = l.ready.held.all_defs in entry-there ks k h (omega arith)
 
-    pub lay-kept : (d : Def) → entry ks k ≡ some d → (i : ℕ) (out out₁ : List ℕ) (r : Laying) → Named d i out out₁ r
-        → LaidAs w.place v (entry ks target) (entry ms base) i out out₁ r
+    pub lay-kept : (d : Def) → entry ks k ≡ some d → (i : ℕ) (out out₁ : List ℕ) (r : Size) → Named d i out out₁ r
+        → LaidAs w.place v (entry ks target) (entry ms base) i out out₁ (Ok r)
     lay-kept d e i out out₁ r h =
         go v in-place-here (sym (ap (λ (g : Option Def). use_for g (ty_of own)) e) ∙ ek)
       where
         go : (v : Option WrittenType) → is_naming v ≡ false → naming d ≡ attribute_use v (entry ks target) kept
-            → LaidAs w.place v (entry ks target) (entry ms base) i out out₁ r
-        go none n q = rw (unbroken w.place (is_found (entry ms base)) t kept base-fair, ← q) h
+            → LaidAs w.place v (entry ks target) (entry ms base) i out out₁ (Ok r)
+        go none n q = rw (unbroken w.place (is_found (entry ms base)) t kept base-fair, ← q) (ap Ok h.0, h.1)
         go (some (G.text m c)) n q = absurd (naming-inline d _ q)
         go (some (G.numeric m c)) n q = absurd (naming-inline d _ q)
         go (some (G.enum m)) n q = absurd (naming-inline d _ q)
@@ -393,9 +314,8 @@ module _ {t b : List ℕ} {ks : List Def} {ms : List Attribute} {x : List ℕ} {
     abbrev rules : List Rule
     rules = written_rules over.based w.place v (entry ks target) (ty_of kept)
 
-    pub lay-in-place : k ≤ 0 → (i : ℕ) (out out₁ : List ℕ) (r : Laying)
-        → LaidWhen (ltb 0 (ruling_of rules).number) (ruling_of rules)
-        (type_records (domain_type v (entry ks target) (ty_of kept))) i out out₁ r
+    pub lay-in-place : k ≤ 0 → (i : ℕ) (out out₁ : List ℕ) (r : Result Size Ruling)
+        → LaidWhen (ruling_of rules) (type_records (domain_type v (entry ks target) (ty_of kept))) i out out₁ r
         → LaidAs w.place v (entry ks target) (entry ms base) i out out₁ r
     lay-in-place h i out out₁ r q =
         let n : k ≡ 0 = omega arith in

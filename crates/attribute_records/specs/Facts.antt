@@ -1,5 +1,6 @@
 -- What types an attribute, before its records are laid and after.
 use Rattle.std.specs.Prelude.{◌≡◌, true, false, cond, List, ℕ, ◌≤◌, ◌<◌, ltb}
+use Rattle.std.specs.declared.result.Result.{Result}
 use Rattle.std.proofs.Math.Option.{Option, none}
 use Rattle.rules.specs.Grammar.{WrittenType}
 use Rattle.rules.specs.Types.{keeps_unit}
@@ -12,12 +13,13 @@ use Rattle.members.specs.Held.{use_for}
 use Rattle.parts.specs.Forms.{any_of}
 use Rattle.parts.specs.declared.types.Written.{Written}
 use Rattle.wellformed.specs.Fairness.{Begins}
+use Rattle.enumerations.specs.declared.Size.{Size}
+use Rattle.ground.specs.declared.Ruling.{Ruling}
 use Rattle.ground.specs.Rulings.{ruling_of}
 use Rattle.fitting.specs.Values.{Valued, Typed}
 use Rattle.types.specs.Writing.{Scratched, Once}
 use Rattle.types.specs.declared.Over.{Over}
 use Rattle.written.specs.Written.{LaidWhen}
-use Rattle.written.specs.declared.Laying.{Laying}
 use Rattle.attribute_names.specs.Facts.{Refers}
 use Rattle.attribute_types.specs.Facts.{Ready}
 use Rattle.attribute_records.specs.Stages.{use_rules}
@@ -48,8 +50,9 @@ pub record Lays (t b : List ℕ) (ks : List Def) (ms : List Attribute) (x : List
 
 -- the rule of 14 to 18 and 22 that is broken, or the records at the place i; the type's reference leads to g, o is the
 -- base
-abbrev pub LaidAs : ℕ → Option WrittenType → Option Def → Option Attribute → ℕ → List ℕ → List ℕ → Laying → Type 0
+abbrev pub LaidAs : ℕ → Option WrittenType → Option Def → Option Attribute → ℕ → List ℕ → List ℕ
+    → Result Size Ruling → Type 0
 LaidAs p v g o i out out₁ r =
-    let q =
-    ruling_of (use_rules p (is_found o) v (attribute_use v g (or_no_attribute o).use_of) (or_no_attribute o).use_of) in
-    LaidWhen (ltb 0 q.number) q (use_records (attribute_use v g (or_no_attribute o).use_of)) i out out₁ r
+    LaidWhen
+    (ruling_of (use_rules p (is_found o) v (attribute_use v g (or_no_attribute o).use_of) (or_no_attribute o).use_of))
+    (use_records (attribute_use v g (or_no_attribute o).use_of)) i out out₁ r

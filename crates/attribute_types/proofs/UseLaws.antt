@@ -1,21 +1,15 @@
 -- What types an attribute and its base, by the rows of definitions and attributes.
 use mathlib.Core.Path.{◌≡◌, refl, sym, ap, ◌∙◌, subst}
-use mathlib.Core.Bool.{Bool, true, false, cond, ◌&&◌}
+use mathlib.Core.Bool.{Bool, true, false, cond, ◌&&◌, ◌||◌}
+use Rattle.std.specs.Prelude.{Ok}
 use mathlib.Core.Option.{Option, none, some}
-use mathlib.Core.List.{List, [], ◌∷◌}
+use mathlib.Core.List.{List, ◌∷◌}
 use Prim.Native.Nat.{ℕ, ◌≤◌, ◌<◌}
 use native.Mathlib.Omega.{arith}
 use lib.ListN.{length, get_or, take}
 use borrow.Author.Tests.{eq-eqb, ne_eqb}
-use types.Run.{OneOf}
-use denote.Enum.Declared.{tag_of}
 use Rattle.rules.proofs.Tests.{never}
 use Rattle.rules.proofs.AllLaws.{apart, any-map}
-use Rattle.parts.specs.Forms.{any_of}
-use Rattle.parts.specs.declared.types.Meant.{Meant}
-use Rattle.parts.specs.declared.types.Meant.TheVariants.{Named}
-use Rattle.parts.specs.contracts.types.Meant.{the_type as Meant·the-type}
-use Rattle.state.proofs.TargetLaws.{stands-domain, stands_unit}
 use Rattle.wellformed.proofs.TypeLaws.{sort-domain}
 use Rattle.rules.specs.Grammar as G
 use Rattle.rules.specs.Grammar.{WrittenType}
@@ -42,7 +36,7 @@ use Rattle.fitting.proofs.ValueLaws.{sized_base, fair-or-none}
 use Rattle.types.proofs.TypeLaws.{sized-meant}
 use Rattle.attribute_types.specs.Stages.{abstract_domain, head_rules}
 use Rattle.attribute_names.specs.Facts.{Refers}
-use Rattle.attribute_names.proofs.NameLaws.{fair, broken_at}
+use Rattle.attribute_names.proofs.NameLaws.{broken_at}
 use Rattle.attribute_types.specs.Facts.{Ready}
 use Rattle.book.specs.Places.{Stands}
 use Rattle.book.specs.Sizes.{head_size}
@@ -94,18 +88,6 @@ module _ (t b : List ℕ) (ks : List Def) (ms : List Attribute) (x : List ℕ) (
       let (a, p, r) = attribute-there q w z in
       let k = r.use_known in
       let n = h.all_defs in omega arith
-
-pub no-use : (ks : List Def) (ms : List Attribute) (q : ℕ) → q ≡ 0
-    → use_for (entry ks 0) (ty_of (or_no_attribute (entry ms q)).use_of) ≡ (or_no_attribute (entry ms q)).use_of
-no-use ks ms q e = rw e
-
-pub absent-def : {A : Type 0} (f : Def → A) (ks : List Def) (p : ℕ) → p ≡ 0
-    → f (or_no_def none) ≡ f (or_no_def (entry ks p))
-absent-def f ks p e = rw e
-
-pub absent-attribute : {A : Type 0} (f : Attribute → A) (ms : List Attribute) (q : ℕ) → q ≡ 0
-    → f (or_no_attribute none) ≡ f (or_no_attribute (entry ms q))
-absent-attribute f ms q e = rw e
 
 -- ---- types
 struct-typed : (t b : List ℕ) (d : Def) (c : Typing) → is_sort domain d.sort ≡ false → c ≡ Structure
@@ -171,10 +153,6 @@ module _ (t b : List ℕ) (ks : List Def) (ms : List Attribute) (x : List ℕ) (
         let (d, e, i) = use-named t b ks a (row attribute_width y q) k (omega arith) in
         rw p (subst (λ (v : Use). Typed t b (ty_of v) c) i (g d (ap (entry ks) n ∙ e)))
 
-pub no-type : (t b : List ℕ) (ms : List Attribute) (q : ℕ) → q ≡ 0
-    → Typed t b (ty_of (or_no_attribute (entry ms q)).use_of) Structure
-no-type t b ms q e = rw e
-
 -- ---- what is named in place of a type
 pub naming-refers : (w : Option WrittenType) (g : Option Def) → is_naming w ≡ true → Refers w g
     → (d : Def) × (g ≡ some d) × (may_type d.sort ≡ true)
@@ -190,27 +168,6 @@ unit-no-domain D.class e = refl
 unit-no-domain D.struct e = refl
 unit-no-domain D.domain e = never e
 unit-no-domain D.unit e = refl
-
-pub named-is : (m : Meant) → m ≡ Named → (w : Option WrittenType) → m ≡ any_of w → is_naming w ≡ true
-named-is m e w h = go (is_naming w) (sym (stands-domain m w h 3 domain refl e refl))
-  where
-    go : (b : Bool) → cond b true false ≡ true → b ≡ true
-    go true q = refl
-    go false q = never q
-
-pub none_named : (m : Meant) → OneOf (0 ∷ 1 ∷ 2 ∷ 3 ∷ 4 ∷ 5 ∷ []) (tag_of Meant·the-type m) → (w : Option WrittenType)
-    → m ≡ any_of w → is_naming w ≡ false
-none_named m o w h = go (is_naming w) (sym (stands_unit m w h 4 unit refl o))
-  where
-    go : (b : Bool) → cond b false true ≡ true → b ≡ false
-    go true q = never q
-    go false q = refl
-
-pub at_target : (p : ℕ) (w : Option WrittenType) → is_naming w ≡ true → p ≡ cond (is_naming w) p 0
-at_target p w e = rw e
-
-pub at_none : (p : ℕ) (w : Option WrittenType) → is_naming w ≡ false → 0 ≡ cond (is_naming w) p 0
-at_none p w e = rw e
 
 module _ (p named : ℕ) (w : Option WrittenType) (e : named ≡ cond (is_naming w) p 0) where
   -- a definition is named
@@ -287,23 +244,13 @@ module _ (p : ℕ) (f twice : Bool) (w : Option WrittenType) (g : Option Def) (b
   abbrev own : Use
   own = attribute_use w g b
 
-  pub head-final : (v : Bool) → v ≡ f → v ≡ true → broken_at 12 p ≡ ruling_of (head_rules p f twice own g)
-  head-final v e h = rw (← e, h)
+  pub head-last : (v : Bool) → v ≡ f → v ≡ true → broken_at 12 p ≡ ruling_of (head_rules p f twice own g)
+  head-last v e h = rw (← e, h)
 
-  module _ (v : Bool) (ev : v ≡ f) (hv : v ≡ false) where
-    pub head-twice : twice ≡ true → broken_at 13 p ≡ ruling_of (head_rules p f twice own g)
-    head-twice h = rw (← ev, hv, h)
-
-    module _ (ht : twice ≡ false) (n : Bool) (en : n ≡ is_numeric (ty_of own)) where
-      pub head-numeric : n ≡ true → broken_at 13 p ≡ ruling_of (head_rules p f twice own g)
-      head-numeric h = rw (← ev, hv, ht, ← en, h)
-
-      module _ (hn : n ≡ false) (a : Bool) (ea : a ≡ abstract_domain g) where
-        pub head-abstract : a ≡ true → broken_at 13 p ≡ ruling_of (head_rules p f twice own g)
-        head-abstract h = rw (← ev, hv, ht, ← en, hn, abstract-is w g b r, ← ea, h)
-
-        pub head-fine : a ≡ false → fair ≡ ruling_of (head_rules p f twice own g)
-        head-fine h = rw (← ev, hv, ht, ← en, hn, abstract-is w g b r, ← ea, h)
+  pub head-rest : (v : Bool) → v ≡ f → v ≡ false → (u : Bool)
+      → (twice || (is_numeric (ty_of own) || abstract_domain g)) ≡ u
+      → cond u (broken_at 13 p) (Ok tt) ≡ ruling_of (head_rules p f twice own g)
+  head-rest v e h u q = rw (← e, h, abstract-is w g b r, q)
 
 -- an ABSTRACT domain, of a definition that is there
 module _ (t b : List ℕ) (ks : List Def) (ms : List Attribute) (x : List ℕ) (count : ℕ) (y : List ℕ) (total : ℕ)

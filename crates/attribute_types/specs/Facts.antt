@@ -1,5 +1,6 @@
 -- What judging an attribute's type hands on.
 use Rattle.std.specs.Prelude.{◌≡◌, Bool, false, cond, List, ℕ, ◌≤◌, ◌<◌, ltb}
+use Rattle.std.specs.declared.result.Result.{Result}
 use Rattle.std.proofs.Math.Option.{Option, some}
 use Rattle.rules.specs.Grammar.{WrittenType}
 use Rattle.rules.specs.Types.{Ty, keeps_unit}
@@ -8,12 +9,12 @@ use Rattle.rules.specs.Judge.{attribute_use, is_naming, or_no_attribute}
 use Rattle.names.specs.Index.{entry}
 use Rattle.members.specs.Held.{Held, use_for}
 use Rattle.wellformed.specs.Fairness.{Fair, FairUse, UnitIn, Rising}
-use Rattle.ground.specs.Rulings.{ruling_of}
+use Rattle.ground.specs.declared.Ruling.{Ruling}
 use Rattle.fitting.specs.Values.{Valued, Typed, Sized, UnitNumbered}
+use Rattle.state.specs.Targets.{Ruled}
 use Rattle.attribute_names.specs.declared.Bonds.{Bonds}
 use Rattle.attribute_types.specs.Stages.{head_rules}
 use Rattle.attribute_types.specs.declared.Uses.{Uses}
-use Rattle.attribute_types.specs.declared.Typings.{Typings}
 
 -- rows whose definitions and attributes have types that are fair, of units that are declared, each with a number of its
 -- own that takes four bytes
@@ -34,21 +35,26 @@ pub record Binds (b : Bonds) (count : ℕ) (u : Uses) : Type 0 where
   pub kept : u.kept ≤ count
   pub based : u.over.based ≡ ltb 0 b.base
 
--- 12 and 13; the types of the attribute and of its base, o, where b is the book and the type's reference leads to the
+-- the types of the attribute and of its base, o, where b is the book and the type's reference leads to the
 -- definition at a position
-pub record TypingsAre (t b : List ℕ) (ks : List Def) (p : ℕ) (twice : Bool) (w : Option WrittenType) (target : ℕ)
-    (o : Option Attribute) (r : Typings) : Type 0 where
-  pub ruling : r.ruling ≡ ruling_of
-      (head_rules p (or_no_attribute o).final twice (attribute_use w (entry ks target) (or_no_attribute o).use_of)
-      (entry ks target))
-  pub named : r.uses.named ≡ cond (is_naming w) target 0
-  pub kept : use_for (entry ks r.uses.kept) (ty_of (or_no_attribute o).use_of) ≡ (or_no_attribute o).use_of
-  pub base : Typed t b (ty_of (or_no_attribute o).use_of) r.uses.over.base
-  pub own : Valued (ty_of (attribute_use w (entry ks target) (or_no_attribute o).use_of)) r.uses.over.own
-  pub typed_named : 0 < r.uses.named
-      → Typed t b (ty_of (attribute_use w (entry ks target) (or_no_attribute o).use_of)) r.uses.over.own
-  pub keeps : is_naming w ≡ false → r.uses.over.keeps
+pub record UsesAre (t b : List ℕ) (ks : List Def) (w : Option WrittenType) (target : ℕ) (o : Option Attribute)
+    (u : Uses) : Type 0 where
+  pub named : u.named ≡ cond (is_naming w) target 0
+  pub kept : use_for (entry ks u.kept) (ty_of (or_no_attribute o).use_of) ≡ (or_no_attribute o).use_of
+  pub base : Typed t b (ty_of (or_no_attribute o).use_of) u.over.base
+  pub own : Valued (ty_of (attribute_use w (entry ks target) (or_no_attribute o).use_of)) u.over.own
+  pub typed_named : 0 < u.named
+      → Typed t b (ty_of (attribute_use w (entry ks target) (or_no_attribute o).use_of)) u.over.own
+  pub keeps : is_naming w ≡ false → u.over.keeps
       ≡ keeps_unit (ty_of (attribute_use w (entry ks target) (or_no_attribute o).use_of))
       (ty_of (or_no_attribute o).use_of)
-  pub sized_own : Sized r.uses.over.own
-  pub sized_base : Sized r.uses.over.base
+  pub sized_own : Sized u.over.own
+  pub sized_base : Sized u.over.base
+
+-- 12 and 13; behind them the types
+abbrev pub TypingsAre : List ℕ → List ℕ → List Def → ℕ → Bool → Option WrittenType → ℕ → Option Attribute
+    → Result Uses Ruling → Type 0
+TypingsAre t b ks p twice w target o r =
+    Ruled r
+    (head_rules p (or_no_attribute o).final twice (attribute_use w (entry ks target) (or_no_attribute o).use_of)
+    (entry ks target)) (UsesAre t b ks w target o)

@@ -1,7 +1,7 @@
 // What types an attribute and its base; 12 and 13.
 #![tactic(auto)]
 
-ghost use Rattle.std.specs.Prelude.{◌≡◌, cond, List, ℕ, ◌≤◌, ◌<◌, length, get_or, take};
+ghost use Rattle.std.specs.Prelude.{◌≡◌, cond, List, ℕ, ◌≤◌, ◌<◌, length, get_or, take, IfOk};
 ghost use Rattle.std.proofs.Math.Option.{Option, some};
 ghost use Rattle.rules.specs.Grammar.{WrittenType};
 ghost use Rattle.rules.specs.Declarations.{Use, ty_of, Def, Attribute};
@@ -14,34 +14,28 @@ ghost use Rattle.parts.specs.Forms.{any_of};
 ghost use Rattle.wellformed.specs.Fairness.{FairType};
 ghost use Rattle.ground.specs.Rulings.{ruling_of};
 ghost use Rattle.fitting.specs.Values.{Valued, Typed};
-ghost use Rattle.state.specs.Parts.{index_in, rows_in, Ample};
+ghost use Rattle.state.specs.Desks.{Roomy};
 ghost use Rattle.attribute_names.specs.Facts.{Refers, Within};
 ghost use Rattle.attribute_types.specs.Stages.{abstract_domain, head_rules};
 ghost use Rattle.attribute_types.specs.Facts.{Ready, Binds, TypingsAre};
 
 use attribute_names::Bonds;
 use fitting::Typing;
-use ground::{Ruling, fine, sorts};
+use ground::{Ruling, sorts};
 use parts::types::Meant;
 use state::State;
+use state::desk::Desk;
 use types::Over;
 use units::AttributeUnit;
 
 // The positions of an attribute's base, of the definition that it names and of the one that its base names, each 0 for
-// none; its type over its base's, a structure's where there is no base.
+// none as in the rows of fixed memory; its type over its base's, a structure's where there is no base.
 #[derive(Clone, Copy)]
 pub struct Uses {
     pub base: usize,
     pub named: usize,
     pub kept: usize,
     pub over: Over,
-}
-
-// The rule of 12 and 13 that is broken, and what types the attribute.
-#[derive(Clone, Copy)]
-pub struct Typings {
-    pub ruling: Ruling,
-    pub uses: Uses,
 }
 
 // The domain or structure that the attribute at a position names; 0 for a type in place, and for no attribute.
@@ -57,10 +51,7 @@ fn kept_by(rows: &[u16], count: usize, q: usize) -> usize
         return 0;
     }
     let u = members::member_use(rows, q);
-    if u <= count {
-        return u;
-    }
-    0
+    if u <= count { u } else { 0 }
 }
 
 // The type that the domain or structure at a position gives.
@@ -133,10 +124,7 @@ fn is_last(rows: &[u16], q: usize) -> bool
     ensures { (t b : List ℕ) (ks : List Def) (ms : List Attribute) (x : List ℕ) (count total : ℕ)
         → Held t b ks ms x count rows.now total → q ≤ total → result ≡ (or_no_attribute (entry ms q)).final }
 {
-    if q == 0 {
-        return false;
-    }
-    names::is_final(members::member_flags(rows, q))
+    q != 0 && names::is_final(members::member_flags(rows, q))
 }
 
 // An ABSTRACT domain.
@@ -146,13 +134,9 @@ fn is_abstract_domain(index: &[u16], p: usize) -> bool
         → Held t b ks ms index.now count y total → p ≤ count
         → result ≡ abstract_domain (entry ks p) }
 {
-    if p == 0 {
-        return false;
-    }
-    if names::sort_of(index, p) == sorts::DOMAIN {
-        return names::is_abstract(names::flags_of(index, p));
-    }
-    false
+    p != 0
+        && names::sort_of(index, p) == sorts::DOMAIN
+        && names::is_abstract(names::flags_of(index, p))
 }
 
 fn head_ruling(
@@ -163,7 +147,7 @@ fn head_ruling(
     own: Typing,
     twice: bool,
     place: usize,
-) -> Ruling
+) -> Result<(), Ruling>
     requires { AttributeRows rows.now q × Rows index.now target }
     ensures { (t b : List ℕ) (ks : List Def) (ms : List Attribute) (count total : ℕ) (w : Option WrittenType)
         → Held t b ks ms index.now count rows.now total → q ≤ total → target ≤ count
@@ -173,21 +157,15 @@ fn head_ruling(
         (attribute_use w (entry ks target) (or_no_attribute (entry ms q)).use_of) (entry ks target)) }
 {
     if is_last(rows, q) {
-        return Ruling { number: 12, place };
+        return Err(Ruling { number: 12, place });
     }
-    if twice {
-        return Ruling { number: 13, place };
+    if twice || fitting::is_numeric(own) || is_abstract_domain(index, target) {
+        return Err(Ruling { number: 13, place });
     }
-    if fitting::is_numeric(own) {
-        return Ruling { number: 13, place };
-    }
-    if is_abstract_domain(index, target) {
-        return Ruling { number: 13, place };
-    }
-    fine()
+    Ok(())
 }
 
-// The types, and both rules.
+// Both rules, and the types.
 fn types_of(
     front: &[u8],
     index: &[u16],
@@ -195,60 +173,47 @@ fn types_of(
     count: usize,
     a: AttributeUnit,
     b: Bonds,
-) -> Typings
+) -> Result<Uses, Ruling>
     requires { AttributeRows rows.now b.base × (b.target ≤ count) × Rows index.now count }
-    ensures { Binds b count result.uses × ((t : List ℕ) (ks : List Def) (ms : List Attribute) (total : ℕ)
+    ensures { IfOk result (Binds b count) × ((t : List ℕ) (ks : List Def) (ms : List Attribute) (total : ℕ)
         (w : Option WrittenType)
         → Ready t front.now ks ms index.now count rows.now total → b.base ≤ total
         → a.written.meant ≡ any_of w → AnyIs (FairType t) w → Refers w (entry ks b.target)
         → TypingsAre t front.now ks a.name.offset a.properties.twice w b.target
         (entry ms b.base) result) }
 {
-    let name = a.name;
     let p = a.properties;
-    let w = a.written;
-    let m = w.meant;
+    let m = a.written.meant;
+    let place = a.name.offset;
     let kept = kept_by(rows, count, b.base);
     let base = base_type(front, index, rows, b.base, kept);
     let named = named_at(m, b.target);
     let own = own_type(front, index, m, b.target, named, base);
-    let ruling = head_ruling(index, rows, b.base, b.target, own, p.twice, name.offset);
+    head_ruling(index, rows, b.base, b.target, own, p.twice, place)?;
     let over = Over {
         based: 0 < b.base,
         own,
         base,
         keeps: types::keeps_unit(index, count, m, b.target, base),
     };
-    let uses = Uses {
+    Ok(Uses {
         base: b.base,
         named,
         kept,
         over,
-    };
-    Typings { ruling, uses }
+    })
 }
 
-pub fn judge_types(book: &[u8], work: &[u16], st: State, a: AttributeUnit, b: Bonds) -> Typings
-    requires { (st.extent.used ≤ length book.now) × Ample st (length work.now) × Within st b }
-    ensures { Binds b st.listing.count result.uses
+pub fn judge_types(desk: &Desk, st: State, a: AttributeUnit, b: Bonds) -> Result<Uses, Ruling>
+    requires { (st.extent.used ≤ length desk.now.book.now) × Roomy desk.now st × Within st b }
+    ensures { IfOk result (Binds b st.listing.count)
         × ((t : List ℕ) (ks : List Def) (ms : List Attribute) (w : Option WrittenType)
-        → Ready t (take st.extent.used book.now) ks ms
-        (index_in st.listing.layout work.now) st.listing.count
-        (rows_in st.listing.layout work.now) st.listing.total
+        → Ready t (take st.extent.used desk.now.book.now) ks ms
+        desk.now.index.now st.listing.count desk.now.rows.now st.listing.total
         → a.written.meant ≡ any_of w → AnyIs (FairType t) w → Refers w (entry ks b.target)
-        → TypingsAre t (take st.extent.used book.now) ks a.name.offset a.properties.twice w
+        → TypingsAre t (take st.extent.used desk.now.book.now) ks a.name.offset a.properties.twice w
         b.target (entry ms b.base) result) }
 {
-    let used = st.extent.used;
-    let i = st.listing.layout.index;
-    let m = st.listing.layout.rows;
-    let c = st.listing.layout.chains;
-    types_of(
-        &book[..used],
-        &work[i..m],
-        &work[m..c],
-        st.listing.count,
-        a,
-        b,
-    )
+    let front = &desk.book[..st.extent.used];
+    types_of(front, desk.index, desk.rows, st.listing.count, a, b)
 }

@@ -34,8 +34,7 @@ use Rattle.wellformed.specs.Fairness.{FairOpen}
 use Rattle.types.proofs.TypeLaws.{laid-book}
 use Rattle.units.specs.declared.AttributeUnit.{AttributeUnit}
 use Rattle.state.specs.declared.State as code
-use Rattle.state.specs.declared.Judged as code-judged
-use Rattle.state.specs.declared.Judged.TheVariants.{Fine, Refused}
+use Rattle.std.specs.Prelude.{Ok, Err}
 use Rattle.state.specs.Keeping.{OpenIs, JudgedAs}
 use Rattle.state.specs.Next.{member_by}
 use Rattle.state.proofs.KeepLaws as keep
@@ -162,14 +161,16 @@ module _ {t : List ℕ} {s : State} {st : code.State} {b b₁ x z y hs rs : List
   held-front = h.keeps.held
 
   pub end-over : leb (st.extent.used + head_size + size.bytes) (length b₁) ≡ false → (o : ℕ) → o ≡ a.name.offset
-      → (r : code-judged.Judged) → r ≡ Refused 19 o → (o' x' z' y' hs' : List ℕ)
-      → JudgedAs t (room (lent (length b)) n.offset (ok (after_attribute s c n p w))) st r o' x' z' y' hs'
-  end-over e o eo r er o' x' z' y' hs' =
+      → (o' x' z' y' hs' : List ℕ)
+      → JudgedAs t (room (lent (length b)) n.offset (ok (after_attribute s c n p w)))
+      (Err (record { number = 19; place = o }))
+      o' x' z' y' hs'
+  end-over e o eo o' x' z' y' hs' =
       let v = leb-false (st.extent.used + head_size + size.bytes) (length b₁) e in
       let i = whole in
       let k : o ≡ n.offset = eo ∙ ap (λ (u : AttributeUnit). u.name.offset) h.given.is in
       rw (room-over (length b) n.offset (after_attribute s c n p w) (omega arith) (omega arith))
-      (er ∙ ap (Refused 19) k)
+      (ap (λ (i : ℕ). Err (record { number = 19; place = i })) k)
 
   module _ (e : leb (st.extent.used + head_size + size.bytes) (length b₁) ≡ true) (f : ℕ)
       (ef : f ≡ flags_in p w (entry (known s.decls) bs.target) (entry (attributes_in s) bs.base)) (b₂ : List ℕ)
@@ -269,9 +270,9 @@ module _ {t : List ℕ} {s : State} {st : code.State} {b b₁ x z y hs rs : List
           (λ g q u.
           held (attributes_in s ++ (new· ∷ [])) g new· v (h.keeps.numbered ∙ sym (new-number s c n p w)) (slots g q) q)
 
-      pub end-fine : used ≤ st.listing.count → AttributeRows y (st.listing.total + 1) → (r : code-judged.Judged)
-          → r ≡ Fine (member_by st (head_size + size.bytes) (1 + size.records) k)
-          → JudgedAs t (room (lent (length b)) n.offset (ok (after_attribute s c n p w))) st r b₂ x' z' y' hs'
+      pub end-fine : used ≤ st.listing.count → AttributeRows y (st.listing.total + 1) → (r : code.State)
+          → r ≡ member_by st (head_size + size.bytes) (1 + size.records) k
+          → JudgedAs t (room (lent (length b)) n.offset (ok (after_attribute s c n p w))) (Ok r) b₂ x' z' y' hs'
       end-fine hu hy r er =
           let i = whole in
           let d = room-is in
@@ -288,7 +289,6 @@ module _ {t : List ℕ} {s : State} {st : code.State} {b b₁ x z y hs rs : List
           (rw j (row_is hu)) own-off few-off hk opens h.fair in
           rw (room_within (length b) n.offset (after_attribute s c n p w) (omega arith) (omega arith), ex, ez) (
             member_by st (head_size + size.bytes) (1 + size.records) k,
-            er,
+            ap Ok er,
             m,
-            refl,
           )

@@ -1,6 +1,6 @@
 -- The head of an attribute: its flags, and the record number of its base.
-use mathlib.Core.Path.{◌≡◌, refl, sym, ap, ◌∙◌}
-use mathlib.Core.Bool.{Bool, true, false, ◌||◌}
+use mathlib.Core.Path.{◌≡◌, sym, ap, ◌∙◌}
+use mathlib.Core.Bool.{Bool, false, ◌||◌}
 use mathlib.Core.Option.{Option, some}
 use mathlib.Core.List.{List}
 use Prim.Native.Nat.{ℕ, suc, ◌-◌}
@@ -19,17 +19,6 @@ use Rattle.members.proofs.OpenLaws.{slot-finds}
 use Rattle.units.specs.declared.AttributeUnit.{AttributeUnit}
 use Rattle.attribute_names.specs.Facts.{Given}
 use Rattle.attribute_names.proofs.NameLaws.{found_some}
-
--- ---- mandatory in effect
-pub mandatory-written : (w n i : Bool) → w ≡ true → true ≡ (w || (n || i))
-mandatory-written w n i e = rw e
-
-pub mandatory-named : (w n i : Bool) → true ≡ n → true ≡ (w || (n || i))
-mandatory-named true n i e = refl
-mandatory-named false n i e = rw (sym e)
-
-pub mandatory-inherited : (w n i : Bool) → w ≡ false → false ≡ n → (v : Bool) → v ≡ i → v ≡ (w || (n || i))
-mandatory-inherited w n i e q v h = rw (e, sym q) h
 
 -- ---- the base in a slot
 module _ (ms h : List Attribute) (hs : List ℕ) (k : ℕ) (n : List ℕ) (f : Filled ms hs k h)

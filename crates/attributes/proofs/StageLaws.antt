@@ -2,24 +2,19 @@
 use mathlib.Core.Path.{◌≡◌, sym, ap, ◌∙◌}
 use mathlib.Core.Option.{Option, some}
 use mathlib.Core.List.{List, [], ◌∷◌, ◌++◌, append_assoc, append-nil}
-use Prim.Native.Nat.{ℕ, ◌≤◌, ◌<◌}
-use native.Mathlib.Omega.{arith}
-use borrow.Author.Tests.{lt-ltb, le-ltb}
+use Prim.Native.Nat.{ℕ}
 use Rattle.rules.specs.Names as R
 use Rattle.rules.specs.Grammar as G
 use Rattle.rules.specs.Units as U
 use Rattle.rules.specs.Declarations.{ty_of, Attribute, Def, attribute_at, is_found, State}
-use Rattle.rules.specs.Judge.{Rule, Judged, ok, refused, first_broken_or, judge, member_rules, after_member}
+use Rattle.rules.specs.Judge.{Rule, ok, first_broken_or, judge, member_rules, after_member}
 use Rattle.rules.specs.Judge.{attribute_rules}
 use Rattle.rules.specs.Judge.{attribute_to_16, attribute_from_17, new_attribute, or_no_attribute, has_extended}
 use Rattle.rules.specs.Judge.{has_twice}
-use Rattle.rules.specs.Judge.{reference_in, is_naming, resolved, element_rule, type_rules, kind_rule}
+use Rattle.rules.specs.Judge.{reference_in, is_naming, resolved, type_rules, kind_rule}
 use Rattle.ground.specs.Rulings.{ruling_of, judged_by}
-use Rattle.ground.specs.declared.Ruling.{Ruling}
-use Rattle.ground.proofs.RulingLaws.{Positive, first-broken-by, positive-append}
-use Rattle.written.proofs.WrittenLaws.{type-positive}
-use Rattle.attribute_names.specs.Stages.{reference_rules, rules_to_11}
-use Rattle.attribute_names.proofs.BondLaws.{element-positive}
+use Rattle.ground.proofs.RulingLaws.{first-broken-by}
+use Rattle.attribute_names.specs.Stages.{rules_to_11}
 use Rattle.attribute_types.specs.Stages.{head_rules}
 use Rattle.attribute_records.specs.Stages.{use_rules}
 use Rattle.attributes.specs.Facts.{use_in, after_attribute}
@@ -48,43 +43,17 @@ module _ (s : State) (c : Def) (n : R.Name) (p : List (List ℕ)) (w : G.Written
       (ty_of (use_in s c n w)) (ty_of (or_no_attribute base·).use_of) ∷ []) (attribute_from_17 w.place (is_found base·)
       (is_naming w.type) (use_in s c n w) (or_no_attribute base·).use_of))
 
-  positive-11 : Positive to-11
-  positive-11 = (
-    omega arith,
-    (
-      omega arith,
-      positive-append (element_rule w.type ∷ [])
-          (reference_rules n.offset (has_extended p) (is_found base·) w.type target·)
-          (element-positive w.type) (omega arith, (omega arith, (omega arith, tt))),
-    ),
-  )
-
-  positive-13 : Positive to-13
-  positive-13 = (omega arith, (omega arith, tt))
-
-  positive-22 : Positive to-22
-  positive-22 = positive-append (type_rules (is_found base·) w.place w.type) _
-      (type-positive (is_found base·) w.place w.type)
-      (omega arith, (omega arith, (omega arith, (omega arith, tt))))
-
   all-rules : first_broken_or (attribute_rules s c n p w base· target·) (after_attribute s c n p w) ≡ judged_by
       (ruling_of to-11) (judged_by (ruling_of to-13) (judged_by (ruling_of to-22) (ok (after_attribute s c n p w))))
   all-rules =
       ap (λ (l : List Rule). first_broken_or l (after_attribute s c n p w)) in-stages
-      ∙ first-broken-by to-11 (to-13 ++ to-22) (after_attribute s c n p w) positive-11
-      ∙ ap (judged_by (ruling_of to-11)) (first-broken-by to-13 to-22 (after_attribute s c n p w) positive-13
+      ∙ first-broken-by to-11 (to-13 ++ to-22) (after_attribute s c n p w)
+      ∙ ap (judged_by (ruling_of to-11)) (first-broken-by to-13 to-22 (after_attribute s c n p w)
       ∙ ap (judged_by (ruling_of to-13)) (ap (λ (l : List Rule). first_broken_or l (after_attribute s c n p w))
-      (sym (append-nil to-22)) ∙ first-broken-by to-22 [] (after_attribute s c n p w) positive-22))
+      (sym (append-nil to-22)) ∙ first-broken-by to-22 [] (after_attribute s c n p w)))
 
   pub judged-in-stages : s.open_class ≡ some c → judge s (U.attribute n p w) ≡ judged_by (ruling_of to-11)
       (judged_by (ruling_of to-13) (judged_by (ruling_of to-22) (ok (after_attribute s c n p w))))
   unfolding judge
   judged-in-stages e =
       ap (λ (o : Option Def). first_broken_or (member_rules s n p w o) (after_member s n p w o)) e ∙ all-rules
-
--- one stage
-pub stage-broken : (r : Ruling) (j : Judged) → 0 < r.number → judged_by r j ≡ refused r.number r.place
-stage-broken r j h = rw (lt-ltb 0 r.number h)
-
-pub stage-passed : (r : Ruling) (j : Judged) → r.number ≤ 0 → judged_by r j ≡ j
-stage-passed r j h = rw (le-ltb 0 r.number h)

@@ -1,5 +1,5 @@
 -- An attribute that breaks no rule, and the state after it.
-use Rattle.std.specs.Prelude.{◌≡◌, false, ◌||◌, List, ℕ, ◌+◌, ◌≤◌, length}
+use Rattle.std.specs.Prelude.{◌≡◌, false, ◌||◌, List, ℕ, ◌+◌, ◌≤◌, length, Ok}
 use Rattle.std.proofs.Math.Option.{Option, some}
 use Rattle.rules.specs.Names as R
 use Rattle.rules.specs.Grammar as G
@@ -20,7 +20,7 @@ use Rattle.ground.specs.Rulings.{ruling_of}
 use Rattle.units.specs.declared.AttributeUnit.{AttributeUnit}
 use Rattle.state.specs.declared.State as code
 use Rattle.state.specs.Keeping.{Keeps}
-use Rattle.state.specs.Parts.{index_in, chains_in, rows_in}
+use Rattle.state.specs.declared.desk.Desk.{Desk}
 use Rattle.attribute_names.specs.Stages.{name_rules}
 use Rattle.attribute_names.specs.Facts.{Given, Reaches}
 use Rattle.attribute_names.specs.declared.Bonds.{Bonds}
@@ -48,7 +48,7 @@ pub record Passes (t : List ℕ) (s : State) (st : code.State) (b b₁ x z y hs 
   pub keeps : Keeps t s st b x z y hs
   pub open_is : s.open_class ≡ some c
   pub given : Given t n p w rs a
-  pub new : (ruling_of (name_rules c n (has_extended p))).number ≡ 0
+  pub new : ruling_of (name_rules c n (has_extended p)) ≡ Ok tt
   pub at_slot : (o : Opened (attributes_in s) hs st.context.in_hand c) → e.slot ≡ slot_of n.bytes o.hand
   pub reaches : Reaches s c n w.type e
   pub uses : use_for (entry (known s.decls) used) (ty_of (use_in s c n w)) ≡ use_in s c n w
@@ -57,9 +57,9 @@ pub record Passes (t : List ℕ) (s : State) (st : code.State) (b b₁ x z y hs 
       → b₁ ≡ splice b (st.extent.used + head_size) (bytes (use_records (use_in s c n w)))
   pub fair : FairState t (after_attribute s c n p w)
 
--- with the rows and chains in the one slice v
-abbrev pub PassesIn : List ℕ → State → code.State → List ℕ → List ℕ → List ℕ → List ℕ → List ℕ → Def → R.Name
-    → List (List ℕ) → G.Written → AttributeUnit → Bonds → ℕ → Size → Type 0
-PassesIn t s st b b₁ v hs rs c n p w a e used size =
-    let l = st.listing.layout in
-    Passes t s st b b₁ (index_in l v) (chains_in l v) (rows_in l v) hs rs c n p w a e used size
+-- of a desk, whose buffer was b
+abbrev pub PassesIn : Desk → State → code.State → List ℕ → Def → R.Name → List (List ℕ) → G.Written → AttributeUnit
+    → Bonds → ℕ → Size → Type 0
+PassesIn d s st b c n p w a e used size =
+    Passes d.text.now s st b d.book.now d.index.now d.chains.now d.rows.now d.hand.now d.scratch.now c n p w a e used
+    size

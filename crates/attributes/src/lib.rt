@@ -18,7 +18,7 @@ ghost use Rattle.members.specs.Held.{Held};
 ghost use Rattle.tables.specs.Tables.{TablesFor};
 ghost use Rattle.units.specs.declared.Unit.TheVariants.{Attribute as V-as-Attribute};
 ghost use Rattle.state.specs.Keeping.{Kept, Answered, Comes, Small, verdict};
-ghost use Rattle.state.specs.Parts.{index_in, rows_in, Ample};
+ghost use Rattle.state.specs.Desks.{Roomy, Stays, with_book};
 ghost use Rattle.attribute_names.specs.Facts.{Given, Within};
 ghost use Rattle.attributes.specs.Facts.{PassesIn, after_attribute, flags_in};
 
@@ -26,10 +26,12 @@ use attribute_names::{Bonds, judge_name};
 use attribute_records::{lay_use, use_at};
 use attribute_types::judge_types;
 use enumerations::Size;
+use ground::Ruling;
 use members::NewAttribute;
-use state::{Judged, NO_BASE, State, refused};
+use state::desk::Desk;
+use state::{NO_BASE, State};
 use units::AttributeUnit;
-use written::{Laying, has_room};
+use written::has_room;
 
 // ---- the head
 fn names_mandatory(index: &[u16], p: usize) -> bool
@@ -37,10 +39,7 @@ fn names_mandatory(index: &[u16], p: usize) -> bool
     ensures { (t b : List ℕ) (ks : List Def) (ms : List Attribute) (count : ℕ) (y : List ℕ) (total : ℕ)
         → Held t b ks ms index.now count y total → p ≤ count → result ≡ (or_no_def (entry ks p)).mandatory }
 {
-    if p == 0 {
-        return false;
-    }
-    names::is_mandatory(names::flags_of(index, p))
+    p != 0 && names::is_mandatory(names::flags_of(index, p))
 }
 
 fn inherits_mandatory(rows: &[u16], q: usize) -> bool
@@ -48,10 +47,7 @@ fn inherits_mandatory(rows: &[u16], q: usize) -> bool
     ensures { (t b : List ℕ) (ks : List Def) (ms : List Attribute) (x : List ℕ) (count total : ℕ)
         → Held t b ks ms x count rows.now total → q ≤ total → result ≡ (or_no_attribute (entry ms q)).mandatory }
 {
-    if q == 0 {
-        return false;
-    }
-    names::is_mandatory(members::member_flags(rows, q))
+    q != 0 && names::is_mandatory(members::member_flags(rows, q))
 }
 
 // MANDATORY: written here, or of the domain that is named, or of the base; units have none.
@@ -62,13 +58,7 @@ fn is_mandatory(index: &[u16], rows: &[u16], written: bool, base: usize, target:
         → result ≡ (written
         || ((or_no_def (entry ks target)).mandatory || (or_no_attribute (entry ms base)).mandatory)) }
 {
-    if written {
-        return true;
-    }
-    if names_mandatory(index, target) {
-        return true;
-    }
-    inherits_mandatory(rows, base)
+    written || names_mandatory(index, target) || inherits_mandatory(rows, base)
 }
 
 // The record number of the attribute in a slot, as the book writes it: that of a base.
@@ -79,41 +69,34 @@ fn base_number(hand: &[u32], slot: usize) -> usize
         → result ≡ number_or (base_of_attribute (attribute_at n h)) }
 {
     if slot == 0 {
-        return NO_BASE;
+        NO_BASE
+    } else {
+        hand[slot - 1] as usize
     }
-    let i = slot - 1;
-    ground::wide4(hand[i])
 }
 
 // The head, where the book ends; its flags are handed on.
-fn put_head(
-    book: &mut [u8],
-    work: &[u16],
-    hand: &[u32],
-    st: State,
-    a: AttributeUnit,
-    b: Bonds,
-) -> u8
-    requires { (st.extent.used + head_size ≤ length book.old) × Ample st (length work.now) × Within st b
-        × (b.slot ≤ most) × Hand hand.now }
-    ensures { (result < 16) × ((t o : List ℕ) (ks : List Def) (ms h : List Attribute) (k : ℕ) (n : R.Name)
+fn put_head(desk: &mut Desk, st: State, a: AttributeUnit, b: Bonds) -> u8
+    requires { (st.extent.used + head_size ≤ length desk.old.book.now) × Roomy desk.old st × Within st b
+        × (b.slot ≤ most) × Hand desk.old.hand.now }
+    ensures stays { Stays desk.old desk.new }
+    ensures only { desk.new ≡ with_book desk.old desk.new.book.now }
+    ensures value { (result < 16) × ((t o : List ℕ) (ks : List Def) (ms h : List Attribute) (k : ℕ) (n : R.Name)
         (p : List (List ℕ)) (w : G.Written) (rs : List ℕ)
-        → Held t o ks ms (index_in st.listing.layout work.now) st.listing.count
-        (rows_in st.listing.layout work.now)
-        st.listing.total → Given t n p w rs a → Filled ms hand.now k h → b.slot ≡ slot_of n.bytes h
+        → Held t o ks ms desk.old.index.now st.listing.count desk.old.rows.now st.listing.total
+        → Given t n p w rs a → Filled ms desk.old.hand.now k h → b.slot ≡ slot_of n.bytes h
         → (result ≡ flags_in p w (entry ks b.target) (entry ms b.base))
-        × (book.new ≡ splice book.old st.extent.used
+        × (desk.new.book.now ≡ splice desk.old.book.now st.extent.used
         (head_record 6 n (flags_in p w (entry ks b.target) (entry ms b.base))
         (number_or (base_of_attribute (attribute_at n.bytes h)))))) }
 {
     let name = a.name;
     let p = a.properties;
-    let w = a.written;
-    let i = st.listing.layout.index;
-    let e = st.listing.layout.rows;
-    let c = st.listing.layout.chains;
-    let m = is_mandatory(&work[i..e], &work[e..c], w.mandatory, b.base, b.target);
+    let index = &mut *desk.index;
+    let rows = &mut *desk.rows;
+    let m = is_mandatory(index, rows, a.written.mandatory, b.base, b.target);
     let f = state::flags(false, p.is_final, p.extended, m);
+    let hand = &mut *desk.hand;
     let head = book::head_record(
         book::kinds::ATTRIBUTE,
         name.offset,
@@ -121,90 +104,67 @@ fn put_head(
         f,
         base_number(hand, b.slot),
     );
+    let book = &mut *desk.book;
     ground::put(book, st.extent.used, &head);
     f
 }
 
 // ---- 19; the attribute is written, and becomes one of the open class
 fn end_attribute(
-    book: &mut [u8],
-    work: &mut [u16],
-    hand: &mut [u32],
+    desk: &mut Desk,
     st: State,
     a: AttributeUnit,
     b: Bonds,
     use_of: usize,
     size: Size,
-) -> Judged
-    requires used_in_bounds { (st.extent.used ≤ length book.old) × (length book.old ≤ 65535) × Small st
-        × Ample st (length work.old) × Hand hand.old }
-    requires within { Within st b × (b.ruling.number ≡ 0) × (st.context.in_hand ≤ most)
-        × (use_of ≤ st.listing.count) }
+) -> Result<State, Ruling>
+    requires used_in_bounds { (st.extent.used ≤ length desk.old.book.now) × (length desk.old.book.now ≤ 65535)
+        × Small st × Roomy desk.old st × Hand desk.old.hand.now }
+    requires within { Within st b × (st.context.in_hand ≤ most) × (use_of ≤ st.listing.count) }
     requires len_bound { (a.name.offset + a.name.len ≤ 65535) × (size.records ≤ size.bytes) }
-    ensures { (t : List ℕ) (s : D.State) (o rs : List ℕ) (c : Def) (n : R.Name) (p : List (List ℕ))
-        (w : G.Written) → length o ≡ length book.old
-        → PassesIn t s st o book.old work.old hand.old rs c n p w a b use_of size
-        → Answered t (room (lent (length o)) n.offset (ok (after_attribute s c n p w))) st result book.new
-        work.new hand.new }
+    ensures stays { Stays desk.old desk.new }
+    ensures judged { (s : D.State) (o : List ℕ) (c : Def) (n : R.Name) (p : List (List ℕ)) (w : G.Written)
+        → length o ≡ length desk.old.book.now → PassesIn desk.old s st o c n p w a b use_of size
+        → Answered desk.new (room (lent (length o)) n.offset (ok (after_attribute s c n p w))) result }
 {
     let name = a.name;
     let used = st.extent.used;
-    if has_room(book.len(), used, size.bytes) {
-        let f = put_head(book, work, hand, st, a, b);
-        let number = st.extent.records;
-        let new = NewAttribute {
-            name,
-            number,
-            place: used,
-            flags: ground::wide(f),
-            use_of,
-        };
-        state::work::enter_member(work, st, new);
-        let q = st.listing.total + 1;
-        let n = members::hold(hand, st.context.in_hand, b.slot, number, q);
-        return Judged::Fine(st.with_member(book::HEAD_SIZE + size.bytes, 1 + size.records, n));
+    let place = name.offset;
+    if !has_room(desk.book.len(), used, size.bytes) {
+        return Err(Ruling { number: 19, place });
     }
-    refused(19, name.offset)
+    let f = put_head(desk, st, a, b);
+    let number = st.extent.records;
+    let new = NewAttribute {
+        name,
+        number,
+        place: used,
+        flags: usize::from(f),
+        use_of,
+    };
+    desk.enter_attribute(st, new);
+    let q = st.listing.total + 1;
+    let hand = &mut *desk.hand;
+    let n = members::hold(hand, st.context.in_hand, b.slot, number, q);
+    Ok(st.with_member(book::HEAD_SIZE + size.bytes, 1 + size.records, n))
 }
 
 // An attribute.
-pub fn judge_attribute(
-    text: &[u8],
-    book: &mut [u8],
-    work: &mut [u16],
-    hand: &mut [u32],
-    scratch: &[u8],
-    tables: &mut [u32],
-    st: State,
-    a: AttributeUnit,
-) -> Judged
-    requires text_len_bound { (length text.now ≤ 65535) × (length book.old ≤ 65535) × (length scratch.now ≤ 262144)
-        × Ample st (length work.old) × Hand hand.old }
-    requires tables_for { TablesFor (length scratch.now) (length book.old) (length tables.old) }
-    requires by_index { (s : D.State) × (n : R.Name) × (p : List (List ℕ)) × (w : G.Written)
-        × Kept text.now s st book.old work.old hand.old
-        × Comes text.now s (U.attribute n p w) (V-as-Attribute a) scratch.now }
-    ensures { (s : D.State) (n : R.Name) (p : List (List ℕ)) (w : G.Written)
-        → Kept text.now s st book.old work.old hand.old
-        → Comes text.now s (U.attribute n p w) (V-as-Attribute a) scratch.now
-        → Answered text.now (verdict s (U.attribute n p w) book.old) st result book.new
-        work.new hand.new }
+pub fn judge_attribute(desk: &mut Desk, st: State, a: AttributeUnit) -> Result<State, Ruling>
+    requires text_len_bound { (length desk.old.text.now ≤ 65535) × (length desk.old.book.now ≤ 65535)
+        × (length desk.old.scratch.now ≤ 262144) × Roomy desk.old st × Hand desk.old.hand.now }
+    requires tables_for { TablesFor (length desk.old.scratch.now) (length desk.old.book.now)
+        (length desk.old.tables.now) }
+    requires comes { (s : D.State) × (n : R.Name) × (p : List (List ℕ)) × (w : G.Written) × Kept desk.old s st
+        × Comes desk.old.text.now s (U.attribute n p w) (V-as-Attribute a) desk.old.scratch.now }
+    ensures stays { Stays desk.old desk.new }
+    ensures judged { (s : D.State) (n : R.Name) (p : List (List ℕ)) (w : G.Written) → Kept desk.old s st
+        → Comes desk.old.text.now s (U.attribute n p w) (V-as-Attribute a) desk.old.scratch.now
+        → Answered desk.new (verdict s (U.attribute n p w) desk.old.book.now) result }
 {
-    let b = judge_name(text, work, hand, scratch, tables, st, a);
-    if 0 < b.ruling.number {
-        return refused(b.ruling.number, b.ruling.place);
-    }
-    let k = judge_types(book, work, st, a, b);
-    if 0 < k.ruling.number {
-        return refused(k.ruling.number, k.ruling.place);
-    }
-    let u = k.uses;
-    let l = lay_use(text, book, work, scratch, tables, st, a, u);
-    match l {
-        Laying::Broken(r) => refused(r.number, r.place),
-        Laying::Whole(size) => {
-            let d = use_at(a, u.named, u.kept);
-            end_attribute(book, work, hand, st, a, b, d, size)
-        }
-    }
+    let b = judge_name(desk, st, a)?;
+    let u = judge_types(desk, st, a, b)?;
+    let size = lay_use(desk, st, a, u)?;
+    let d = use_at(a, u.named, u.kept);
+    end_attribute(desk, st, a, b, d, size)
 }

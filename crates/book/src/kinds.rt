@@ -1,4 +1,5 @@
-// The kinds of records: document 01, "The book", and document 02, No. 1.
+// The kinds of records: document 01, "The book", and document 02, No. 1. Numbers, as an enum is no plainer: a book is
+// any bytes, so that each reader would match on a byte first, and each writer turn the kind back into one.
 pub const MODEL: u8 = 1;
 
 pub const TOPIC: u8 = 2;

@@ -9,6 +9,8 @@ ghost use Rattle.book.specs.Sizes.{name_size};
 ghost use Rattle.book.specs.Forms.{name_form, head_form, range_form, length_form};
 ghost use Rattle.book.specs.Names.{Written};
 
+use ground::Name;
+
 // ---- what the kind of a record fixes
 // Where the parts of a name stand in a record that has one.
 pub const OFFSET: usize = 1;
@@ -52,33 +54,20 @@ pub const LIST_END_SIZE: usize = 1;
 // The end of a class or structure.
 pub const CLASS_END_SIZE: usize = 1;
 
-// ---- what is sought
-// A place, or that there is none.
-#[derive(Clone, Copy)]
-pub enum Found {
-    At(usize),
-    Nothing,
-}
-
 // ---- the name that a record has
-// A part of a text.
-#[derive(Clone, Copy)]
-pub struct Part {
-    pub start: usize,
-    pub len: usize,
-}
-
 // The name that is written in the record at a place.
-pub fn written_name(book: &[u8], at: usize) -> Part
+pub fn written_name(book: &[u8], at: usize) -> Name
     requires { at + name_size ≤ length book.now }
     ensures { Written book.now at result }
 {
-    let start = ground::wide4(ground::get4(book, at + OFFSET));
-    let len = ground::wide(book[at + LENGTH]);
-    Part { start, len }
+    Name {
+        offset: ground::get4(book, at + OFFSET) as usize,
+        len: usize::from(book[at + LENGTH]),
+    }
 }
 
 // ---- the bytes of new records
+// Byte by byte, as a copy of each part to its place is no plainer.
 pub fn name_record(kind: u8, offset: usize, len: usize) -> [u8; NAME_SIZE]
     ensures { result ≡ name_form kind offset len }
 {

@@ -6,8 +6,9 @@ use mathlib.Core.List.{List, [], ◌∷◌, ◌++◌, append-nil}
 use Prim.Native.Nat.{ℕ, ◌+◌, ◌*◌, ◌≤◌, ◌<◌}
 use native.Mathlib.Omega.{arith}
 use lib.ListN.{length}
-use borrow.Author.Tests.{ne_eqb, lt-ltb}
-use Rattle.state.proofs.SharedLaws.{extends-positive}
+use borrow.Author.Tests.{ne_eqb}
+use Rattle.std.specs.Prelude.{⊤, Result, Ok, Err}
+use Rattle.std.specs.Result.{result_and}
 use Rattle.rules.specs.Names as R
 use Rattle.rules.specs.Grammar as G
 use Rattle.rules.specs.Units as U
@@ -43,12 +44,9 @@ use Rattle.wellformed.specs.Fairness.{FairState, FairUnit, MayStand}
 use Rattle.wellformed.proofs.KeepLaws.{judge-fair}
 use Rattle.ground.specs.declared.Ruling.{Ruling}
 use Rattle.ground.specs.Rulings.{ruling_of, judged_by}
-use Rattle.ground.proofs.RulingLaws.{first-broken-by}
+use Rattle.ground.proofs.RulingLaws.{first-broken-by, ruling-append}
 use Rattle.state.specs.declared.State as code
-use Rattle.state.specs.declared.Extension.{Extension}
-use Rattle.state.specs.declared.Judged as code-judged
-use Rattle.state.specs.declared.Judged.TheVariants.{Fine, Refused}
-use Rattle.state.specs.Keeping.{Keeps, OpenIs, PartsStay, JudgedAs, Comes, verdict, Small}
+use Rattle.state.specs.Keeping.{Keeps, OpenIs, JudgedAs, Comes, verdict, Small}
 use Rattle.state.specs.Next.{opened_by, declared_by}
 use Rattle.state.proofs.KeepLaws.{Written, written-splice, book-grown, records-opened, records-declared}
 use Rattle.state.proofs.KeepLaws.{keeps-opened, keeps-declared}
@@ -65,18 +63,6 @@ taken-by t s n m v e h q =
     let b : bytes_of t m ≡ n.bytes = ap (bytes_of t) e ∙ h.there in
     sym (q ∙ ap (λ (l : List ℕ). is_found (at_hand s l)) b)
 
-pub le-zero : (n : ℕ) → n ≤ 0 → n ≡ 0
-le-zero n h = omega arith
-
-pub not-zero : (n : ℕ) → 0 < n → ¬ (n ≡ 0)
-not-zero n h e = omega arith
-
-broken-on : (r : Ruling) (i j : J.Judged) → 0 < r.number → judged_by r i ≡ judged_by r j
-broken-on r i j h = rw (lt-ltb 0 r.number h)
-
-whole-on : (r : Ruling) (i : J.Judged) → r.number ≡ 0 → judged_by r i ≡ i
-whole-on r i h = rw (h)
-
 module _ (s : State) (c : Sort) (n : R.Name) (p : List (List ℕ)) (b : Option G.Reference) where
   abbrev mixed : Bool
   mixed = has_twice p || (has_abstract p && has_final p)
@@ -84,39 +70,27 @@ module _ (s : State) (c : Sort) (n : R.Name) (p : List (List ℕ)) (b : Option G
   abbrev among : List Rule
   among = extends_rules c b (resolved s b)
 
-  pub ruled-taken : (r : Extension) → r.ruling.number ≡ 9 → r.ruling.place ≡ n.offset
-      → is_found (at_hand s n.bytes) ≡ true → RuledTo13 s c n p b r
+  pub ruled-taken : (k : ℕ) → k ≡ n.offset → is_found (at_hand s n.bytes) ≡ true
+      → RuledTo13 s c n p b (Err (record { number = 9; place = k }))
   unfolding class_rules
-  ruled-taken r er ep e = record { ruling = λ x. rw (e, er, ep); base = λ z. absurd (omega arith) }
+  ruled-taken k ek e = rw (e, ek)
 
   module _ (free : is_found (at_hand s n.bytes) ≡ false) where
-    rest : (x : State) (u : Ruling) → u ≡ ruling_of among → first_broken_or
-        (class_rules s c n p b (resolved s b)) x ≡ judged_by u (cond mixed (refused 13 n.offset) (ok x))
+    rest : ruling_of (class_rules s c n p b (resolved s b))
+        ≡ result_and (ruling_of among) (ruling_of (rule 13 n.offset mixed ∷ []))
     unfolding class_rules
-    rest x u e = rw (free, e)
-        (first-broken-by among (rule 13 n.offset mixed ∷ []) x (extends-positive c b (resolved s b)))
+    rest = rw free (ruling-append among (rule 13 n.offset mixed ∷ []))
 
-    pub ruled-extends : (r : Extension) → r.ruling ≡ ruling_of among → 0 < r.ruling.number → RuledTo13 s c n p b r
-    ruled-extends r e h = record {
-      ruling = λ x. rest x r.ruling e ∙ broken-on r.ruling (cond mixed (refused 13 n.offset) (ok x)) (ok x) h;
-      base = λ z. absurd (omega arith);
-    }
+    pub ruled-extends : (u : Ruling) → ruling_of among ≡ Err u → RuledTo13 s c n p b (Err u)
+    ruled-extends u e = rw (rest, e)
 
-    pub ruled-mixed : (u : Ruling) → u ≡ ruling_of among → u.number ≡ 0 → true ≡ mixed → (r : Extension)
-        → r.ruling.number ≡ 13 → r.ruling.place ≡ n.offset → RuledTo13 s c n p b r
-    ruled-mixed u e z m r er ep = record {
-      ruling = λ x. rest x u e ∙ whole-on u (cond mixed (refused 13 n.offset) (ok x)) z
-          ∙ ap (λ (v : Bool). cond v (refused 13 n.offset) (ok x)) (sym m) ∙ rw (er, ep);
-      base = λ y. absurd (omega arith);
-    }
+    pub ruled-mixed : ruling_of among ≡ Ok tt → true ≡ mixed → (k : ℕ) → k ≡ n.offset
+        → RuledTo13 s c n p b (Err (record { number = 13; place = k }))
+    ruled-mixed e m k ek = rw (rest, e, ← m, ek)
 
-    pub ruled-fine : (r : Extension) → r.ruling ≡ ruling_of among → r.ruling.number ≡ 0 → false ≡ mixed
-        → entry (known s.decls) r.base ≡ resolved s b → RuledTo13 s c n p b r
-    ruled-fine r e z m f = record {
-      ruling = λ x. rest x r.ruling e
-          ∙ ap (λ (v : Bool). judged_by r.ruling (cond v (refused 13 n.offset) (ok x))) (sym m);
-      base = λ y. f;
-    }
+    pub ruled-fine : ruling_of among ≡ Ok tt → false ≡ mixed → (q : ℕ) → entry (known s.decls) q ≡ resolved s b
+        → RuledTo13 s c n p b (Ok q)
+    ruled-fine e m q f = (rw (rest, e, ← m), f)
 
 -- ---- the record and the row
 -- the row with the flags f
@@ -172,13 +146,6 @@ kind-structure k e = rw e
 
 pub kind-unit : (k : ℕ) → ¬ (k ≡ 1) → ¬ (k ≡ 2) → 18 ≡ kind_of k
 kind-unit k e f = rw (ne_eqb k 1 e, ne_eqb k 2 f)
-
-pub sort-small : (c : Sort) → sort_number c ≤ 4
-sort-small D.topic = omega arith
-sort-small D.class = omega arith
-sort-small D.struct = omega arith
-sort-small D.domain = omega arith
-sort-small D.unit = omega arith
 
 -- what is first written of the sort c is one record
 pub record Formed (c : Sort) : Type 0 where
@@ -314,48 +281,41 @@ opened-self st st' i e = e ∙ ap (opened_by st) (sym (ap (λ (u : code.State). 
 
 -- ---- 9 to 13 and 19
 module _ (s : State) (c : Sort) (n : R.Name) (p : List (List ℕ)) (b : Option G.Reference) (v : U.Unit)
-    (H : Heads s c n p b v) (o : List ℕ) (m : length o ≤ 65535) (used : ℕ) (eu : used ≡ length (book s))
-    (r : Extension) (u : RuledTo13 s c n p b r) where
-  judged-as : judge s v ≡ judged_by r.ruling (ok (next_state s v))
+    (H : Heads s c n p b v) (o : List ℕ) where
+  judged-as : (r : Result ⊤ Ruling) → ruling_of (class_rules s c n p b (resolved s b)) ≡ r
+      → judge s v ≡ judged_by r (ok (next_state s v))
   unfolding judge
-  judged-as = ap (λ (l : List Rule). first_broken_or l (next_state s v)) H.rules ∙ u.ruling (next_state s v)
+  judged-as r e = let l = class_rules s c n p b (resolved s b) in
+      ap (λ (l : List Rule). first_broken_or l (next_state s v)) H.rules
+      ∙ ap (λ (m : List Rule). first_broken_or m (next_state s v)) (sym (append-nil l))
+      ∙ first-broken-by l [] (next_state s v) ∙ ap (λ (q : Result ⊤ Ruling). judged_by q (ok (next_state s v))) e
 
-  pub head-broken : 0 < r.ruling.number → HeadRuled s b v o r
-  head-broken h = record {
-    ruling =
-        ap (room (lent (length o)) (unit_place v)) judged-as ∙ rw (lt-ltb 0 r.ruling.number h);
-    fine = λ z. absurd (omega arith);
-    base = λ z. absurd (omega arith);
-  }
+  pub head-broken : (r : Ruling) → RuledTo13 s c n p b (Err r) → HeadRuled s b v o (Err r)
+  head-broken r u = ap (room (lent (length o)) (unit_place v)) (judged-as (Err r) u)
 
-  module _ (z : r.ruling.number ≡ 0) where
-    none-broken : judge s v ≡ ok (next_state s v)
-    none-broken = judged-as ∙ whole-on r.ruling (ok (next_state s v)) z
+  module _ (m : length o ≤ 65535) (used : ℕ) (eu : used ≡ length (book s)) (q : ℕ) (u : RuledTo13 s c n p b (Ok q))
+    where
+      none-broken : judge s v ≡ ok (next_state s v)
+      none-broken = judged-as (Ok tt) u.0
 
-    pub head-over : length o < used + head_size → (r' : Extension) → r'.ruling.number ≡ 19
-        → r'.ruling.place ≡ n.offset → HeadRuled s b v o r'
-    head-over w r' en ep =
-        let g = H.grows in
-        record {
-          ruling =
-              ap (room (lent (length o)) (unit_place v)) none-broken
-              ∙ room-over (length o) (unit_place v) (next_state s v) m (omega arith)
-              ∙ rw (en, ep) (ap (refused 19) H.place);
-          fine = λ z. absurd (omega arith);
-          base = λ z. absurd (omega arith);
-        }
+      pub head-over : length o < used + head_size → (k : ℕ) → k ≡ n.offset
+          → HeadRuled s b v o (Err (record { number = 19; place = k }))
+      head-over w k ek =
+          let g = H.grows in
+          ap (room (lent (length o)) (unit_place v)) none-broken
+          ∙ room-over (length o) (unit_place v) (next_state s v) m (omega arith)
+          ∙ rw ek (ap (refused 19) H.place)
 
-    pub head-fine : used + head_size ≤ length o → HeadRuled s b v o r
-    head-fine w =
-        let g = H.grows in
-        record {
-          ruling =
-              ap (room (lent (length o)) (unit_place v)) none-broken
-              ∙ room_within (length o) (unit_place v) (next_state s v) m (omega arith)
-              ∙ sym (whole-on r.ruling (ok (next_state s v)) z);
-          fine = λ i. none-broken;
-          base = u.base;
-        }
+      pub head-fine : used + head_size ≤ length o → HeadRuled s b v o (Ok q)
+      head-fine w =
+          let g = H.grows in
+          record {
+            fits =
+                ap (room (lent (length o)) (unit_place v)) none-broken
+                ∙ room_within (length o) (unit_place v) (next_state s v) m (omega arith);
+            fine = none-broken;
+            base = u.1;
+          }
 
 -- ---- the units
 module _ (s : State) (n : R.Name) (p : List (List ℕ)) (b : Option G.Reference) (c : s.open_class ≡ none) where
@@ -390,31 +350,20 @@ module _ (t : List ℕ) (s : State) (n : R.Name) (p : List (List ℕ)) (b : Opti
   pub unit-is : Comes t s (U.unit n p b) (Measure head) rs → head ≡ head_of D.unit n p b
   unit-is c = let e = c.is in cc
 
-  module _ (c : Sort) (e : head ≡ head_of c n p b) where
-    pub head-inside : InText t n → Inside t head.name
-    head-inside h = rw e h.fits
-
-    pub head-sort : head.sort ≤ 4
-    head-sort = rw e (sort-small c)
-
 -- ---- the answer
-module _ (t : List ℕ) (s : State) (b : Option G.Reference) (v : U.Unit) (o : List ℕ) (r : Extension)
-    (u : HeadRuled s b v o r) where
-  pub answer-fair : r.ruling.number ≡ 0 → FairUnit t v → MayStand s v → FairState t s → FairState t (next_state s v)
-  answer-fair z f m k = judge-fair t s (next_state s v) v f m k (u.fine z)
+pub answer-fair : (t : List ℕ) (s : State) (b : Option G.Reference) (v : U.Unit) (o : List ℕ) (q : ℕ)
+    → HeadRuled s b v o (Ok q) → FairUnit t v → MayStand s v → FairState t s → FairState t (next_state s v)
+answer-fair t s b v o q u f m k = judge-fair t s (next_state s v) v f m k u.fine
 
-  module _ (st : code.State) (a : code-judged.Judged) (o' x' z' y' hs' : List ℕ) where
-    answer : (j : J.Judged) → judged_by r.ruling (ok (next_state s v)) ≡ j → JudgedAs t j st a o' x' z' y' hs'
-        → JudgedAs t (verdict s v o) st a o' x' z' y' hs'
-    answer j e h = subst (λ (i : J.Judged). JudgedAs t i st a o' x' z' y' hs') (sym (u.ruling ∙ e)) h
+module _ (t : List ℕ) (s : State) (b : Option G.Reference) (v : U.Unit) (o : List ℕ)
+    (o' x' z' y' hs' : List ℕ) where
+  answer : (a : Result code.State Ruling) (j : J.Judged) → verdict s v o ≡ j → JudgedAs t j a o' x' z' y' hs'
+      → JudgedAs t (verdict s v o) a o' x' z' y' hs'
+  answer a j e h = subst (λ (i : J.Judged). JudgedAs t i a o' x' z' y' hs') (sym e) h
 
-    pub answer-broken : 0 < r.ruling.number → a ≡ Refused r.ruling.number r.ruling.place
-        → JudgedAs t (verdict s v o) st a o' x' z' y' hs'
-    answer-broken h ea =
-        answer (refused r.ruling.number r.ruling.place) (rw (lt-ltb 0 r.ruling.number h)) ea
+  pub answer-broken : (r : Ruling) → HeadRuled s b v o (Err r) → JudgedAs t (verdict s v o) (Err r) o' x' z' y' hs'
+  answer-broken r u = answer (Err r) (refused r.number r.place) u refl
 
-    pub answer-fine : r.ruling.number ≡ 0 → (st₁ st₂ : code.State) → a ≡ Fine st₁ → st₁ ≡ st₂
-        → Keeps t (next_state s v) st₂ o' x' z' y' hs' → PartsStay st st₂
-        → JudgedAs t (verdict s v o) st a o' x' z' y' hs'
-    answer-fine z st₁ st₂ ea es k g =
-        answer (ok (next_state s v)) (whole-on r.ruling (ok (next_state s v)) z) (st₂, ea ∙ ap Fine es, k, g)
+  pub answer-fine : (q : ℕ) → HeadRuled s b v o (Ok q) → (st₁ st₂ : code.State) → st₁ ≡ st₂
+      → Keeps t (next_state s v) st₂ o' x' z' y' hs' → JudgedAs t (verdict s v o) (Ok st₁) o' x' z' y' hs'
+  answer-fine q u st₁ st₂ es k = answer (Ok st₁) (ok (next_state s v)) u.fits (st₂, ap Ok es, k)

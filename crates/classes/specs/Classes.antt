@@ -1,21 +1,21 @@
 -- Heads of classes, structures and units, as the code has them.
-use Rattle.std.specs.Prelude.{◌≡◌, false, cond, List, ℕ, ◌+◌, length, eqb}
+use Rattle.std.specs.Prelude.{◌≡◌, false, cond, List, ℕ, ◌+◌, length, eqb, Result, Ok, Err}
 use Rattle.std.proofs.Math.Option.{Option}
 use Rattle.rules.specs.Names.{Name}
 use Rattle.rules.specs.Grammar.{Reference}
 use Rattle.rules.specs.Units as U
 use Rattle.rules.specs.Declarations.{Sort, Def, State, known}
 use Rattle.rules.specs.Book.{flags, base_number, book}
-use Rattle.rules.specs.Judge.{ok, first_broken_or, judge, bases_of, resolved, class_rules, rules_of, next_state}
+use Rattle.rules.specs.Judge.{ok, refused, judge, bases_of, resolved, class_rules, rules_of, next_state}
 use Rattle.rules.specs.Check.{unit_place}
 use Rattle.book.specs.Forms.{head_form}
 use Rattle.book.specs.Sizes.{head_size}
 use Rattle.names.specs.declared.NewDefinition.{NewDefinition}
 use Rattle.names.specs.Index.{entry}
 use Rattle.units.specs.declared.Head.{Head}
-use Rattle.ground.specs.Rulings.{judged_by}
+use Rattle.ground.specs.declared.Ruling.{Ruling}
 use Rattle.state.specs.declared.State as code
-use Rattle.state.specs.declared.Extension.{Extension}
+use Rattle.state.specs.Targets.{Ruled}
 use Rattle.state.specs.Keeping.{verdict}
 
 -- the kind of the record of a class, a structure or a unit, by the number of its sort
@@ -40,10 +40,9 @@ head_bytes h o = head_form (kind_of h.sort) h.name.offset h.name.len
     (flags h.properties.is_abstract h.properties.is_final false false) (base_number (bases_of o))
 
 -- the rule that a head of the sort c breaks, if one; where none, the base
-pub record RuledTo13 (s : State) (c : Sort) (n : Name) (p : List (List ℕ)) (b : Option Reference)
-    (r : Extension) : Type 0 where
-  pub ruling : (x : State) → first_broken_or (class_rules s c n p b (resolved s b)) x ≡ judged_by r.ruling (ok x)
-  pub base : r.ruling.number ≡ 0 → entry (known s.decls) r.base ≡ resolved s b
+abbrev pub RuledTo13 : State → Sort → Name → List (List ℕ) → Option Reference → Result ℕ Ruling → Type 0
+RuledTo13 s c n p b r =
+    Ruled r (class_rules s c n p b (resolved s b)) (λ (q : ℕ). entry (known s.decls) q ≡ resolved s b)
 
 -- the unit v is such a head
 pub record Heads (s : State) (c : Sort) (n : Name) (p : List (List ℕ)) (b : Option Reference)
@@ -52,8 +51,13 @@ pub record Heads (s : State) (c : Sort) (n : Name) (p : List (List ℕ)) (b : Op
   pub place : unit_place v ≡ n.offset
   pub grows : length (book (next_state s v)) ≡ length (book s) + head_size
 
+-- none is broken, with the buffer o; the base is at q
+pub record HeadFine (s : State) (b : Option Reference) (v : U.Unit) (o : List ℕ) (q : ℕ) : Type 0 where
+  pub fits : verdict s v o ≡ ok (next_state s v)
+  pub fine : judge s v ≡ ok (next_state s v)
+  pub base : entry (known s.decls) q ≡ resolved s b
+
 -- the rule of these and 19 that it breaks with the buffer o, if one; where none, the base
-pub record HeadRuled (s : State) (b : Option Reference) (v : U.Unit) (o : List ℕ) (r : Extension) : Type 0 where
-  pub ruling : verdict s v o ≡ judged_by r.ruling (ok (next_state s v))
-  pub fine : r.ruling.number ≡ 0 → judge s v ≡ ok (next_state s v)
-  pub base : r.ruling.number ≡ 0 → entry (known s.decls) r.base ≡ resolved s b
+abbrev pub HeadRuled : State → Option Reference → U.Unit → List ℕ → Result ℕ Ruling → Type 0
+HeadRuled s b v o (Ok q) = HeadFine s b v o q
+HeadRuled s b v o (Err r) = verdict s v o ≡ refused r.number r.place

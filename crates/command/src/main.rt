@@ -2,76 +2,80 @@
 // finds to standard output. Its exit status is the one that `check` is to have.
 #![tactic(auto)]
 
-use answers::Answer;
-use arguments::{Asked, Word};
-use console::Input;
+use arguments::{Asked, Misuse, Telling};
+use std::fmt::InlineText;
 use std::fs::File;
-use std::io::{Error, Read};
+use std::io::{Error, ErrorKind, Read};
 use std::process::ExitCode;
 use std::rt::Env;
-use telling::Told;
 
 // The system's numbers of two errors: a name that is longer than any, and bytes that are no text.
 const ENAMETOOLONG: i32 = 36;
 
 const EILSEQ: i32 = 84;
 
+// As many bytes as a folder, a slash and a number have.
+const PATH: usize = 4128;
+
 // How a check ends, the greater before the less; after the last two no file is looked at.
-const ACCEPTED: u8 = 0;
+#[derive(Clone, Copy, PartialEq, Eq, PartialOrd, Ord)]
+enum Status {
+    Accepted,
+    Refused,
+    Trouble,
+    Stopped,
+    Unread,
+}
 
-const REFUSED: u8 = 1;
-
-const TROUBLE: u8 = 2;
-
-const STOPPED: u8 = 3;
-
-const UNREAD: u8 = 4;
-
-// The status of a program that is ended as nobody reads what it writes.
-const PIPE: u8 = 141;
-
-fn status_of(a: Answer) -> u8 {
-    match a {
-        Answer::Accepted { .. } => ACCEPTED,
-        Answer::Refused { .. } => REFUSED,
+// The status that `check` is to have; the last is that of a program which is ended as nobody reads what it writes.
+impl From<Status> for ExitCode {
+    fn from(status: Status) -> ExitCode {
+        match status {
+            Status::Accepted => ExitCode::from(0),
+            Status::Refused => ExitCode::from(1),
+            Status::Trouble | Status::Stopped => ExitCode::from(2),
+            Status::Unread => ExitCode::from(141),
+        }
     }
 }
 
-fn status_told(t: Told, a: Answer) -> u8 {
-    match t {
-        Told::All => status_of(a),
-        Told::Unread => UNREAD,
-        Told::Failed => STOPPED,
-    }
-}
-
-fn check(rt: &HostRuntime, name: &[u8], text: &[u8], asked: Asked) -> u8 {
+fn check(rt: &HostRuntime, name: &[u8], text: &[u8], asked: Asked) -> Status {
     let mut book = [0u8; auzuplens::LARGE];
-    let a = auzuplens::check_text(text, &mut book);
-    if asked.quiet {
-        return status_of(a);
+    let answer = auzuplens::check_text(text, &mut book);
+    let status = match answer {
+        Ok(_) => Status::Accepted,
+        Err(_) => Status::Refused,
+    };
+    if asked.telling == Telling::Nothing {
+        return status;
     }
-    let t = telling::tell_answer(rt, &rt.stderr(), name, text, &book, a, asked);
-    status_told(t, a)
+    match telling::tell_answer(rt, name, text, &book, answer, asked) {
+        Ok(()) => status,
+        // nobody reads on, of which nothing is told
+        Err(e) if e.kind() == ErrorKind::BrokenPipe => Status::Unread,
+        Err(e) => {
+            telling::tell_trouble(&rt.stderr(), b"standard output", e);
+            Status::Stopped
+        }
+    }
 }
 
 // ---- files
 
-fn trouble(rt: &HostRuntime, name: &[u8], e: Error) -> u8 {
+fn trouble(rt: &HostRuntime, name: &[u8], e: Error) -> Status {
     telling::tell_trouble(&rt.stderr(), name, e);
-    TROUBLE
+    Status::Trouble
 }
 
-fn check_input(rt: &HostRuntime, from: &mut impl Read, name: &[u8], asked: Asked) -> u8 {
+fn check_input(rt: &HostRuntime, from: &mut impl Read, name: &[u8], asked: Asked) -> Status {
     let mut text = [0u8; console::ROOM];
-    let i = console::read_text(from, &mut text);
-    match i {
-        Input::Failed(e) => trouble(rt, name, e),
-        Input::Read(n) => check(rt, name, &text[..n], asked),
+    match console::read_text(from, &mut text) {
+        Err(e) => trouble(rt, name, e),
+        Ok(n) => check(rt, name, &text[..n], asked),
     }
 }
 
-fn check_opened(rt: &HostRuntime, path: &str, name: &[u8], asked: Asked) -> u8 {
+fn check_opened(rt: &HostRuntime, path: &str, name: &[u8], asked: Asked) -> Status {
     match File::open(rt, path) {
         Err(e) => trouble(rt, name, e),
         Ok(mut file) => check_input(rt, &mut file, name, asked),
@@ -79,120 +83,72 @@ fn check_opened(rt: &HostRuntime, path: &str, name: &[u8], asked: Asked) -> u8 {
 }
 
 // The argument i whose name is no UTF-8, which the library can't open: by its link in the folder that `check` names.
-fn check_linked(rt: &HostRuntime, i: usize, name: &[u8], asked: Asked) -> u8 {
+fn check_linked(rt: &HostRuntime, i: usize, name: &[u8], asked: Asked) -> Status {
     let mut folder = [0u8; arguments::ROOM];
-    let n = match rt.var("AUZUPLENS_LINKS", &mut folder) {
-        Err(_) => 0,
-        Ok(n) => n,
-    };
+    let n = rt.var("AUZUPLENS_LINKS", &mut folder).unwrap_or(0);
     match str::from_utf8(&folder[..n]) {
-        Ok(folder) if 0 < n => check_link(rt, folder, i, name, asked),
+        Ok(folder) if !folder.is_empty() => {
+            let path = InlineText::<{ PATH }>::of(format_args!("{folder}/{i}"));
+            check_opened(rt, path.as_str(), name, asked)
+        }
         _ => trouble(rt, name, Error::from_raw_os_error(EILSEQ)),
     }
 }
 
-fn check_link(rt: &HostRuntime, folder: &str, i: usize, name: &[u8], asked: Asked) -> u8 {
-    let mut path = [0u8; arguments::ROOM];
-    let n = console::text_of(format_args!("{folder}/{i}"), &mut path);
-    match str::from_utf8(&path[..n]) {
-        Err(_) => trouble(rt, name, Error::from_raw_os_error(ENAMETOOLONG)),
-        Ok(path) => check_opened(rt, path, name, asked),
-    }
-}
-
-fn check_file(rt: &HostRuntime, i: usize, name: &[u8], asked: Asked) -> u8 {
-    if arguments::is_same(name, b"-") {
-        return check_input(rt, &mut rt.stdin(), name, asked);
-    }
+fn check_file(rt: &HostRuntime, i: usize, name: &[u8], asked: Asked) -> Status {
     match str::from_utf8(name) {
-        Err(_) => check_linked(rt, i, name, asked),
+        Ok("-") => check_input(rt, &mut rt.stdin(), name, asked),
         Ok(path) => check_opened(rt, path, name, asked),
+        Err(_) => check_linked(rt, i, name, asked),
     }
 }
 
-// Whether the argument i is no name of a file.
-fn is_option(i: usize, word: &[u8], asked: Asked) -> bool {
-    if asked.end <= i {
-        return i == asked.end;
-    }
-    let w = arguments::meaning(word);
-    match w {
-        Word::Name => false,
-        _ => true,
-    }
-}
-
-fn check_argument(rt: &HostRuntime, i: usize, asked: Asked) -> u8 {
+fn check_argument(rt: &HostRuntime, i: usize, asked: Asked) -> Status {
     let mut word = [0u8; arguments::ROOM];
     match rt.arg(i, &mut word) {
         Err(_) => {
             // longer than any name: its beginning tells which it is
-            let m = console::within(64, &word);
+            let m = word.len().min(64);
             trouble(rt, &word[..m], Error::from_raw_os_error(ENAMETOOLONG))
         }
-        Ok(n) => {
-            if is_option(i, &word[..n], asked) {
-                return ACCEPTED;
-            }
-            check_file(rt, i, &word[..n], asked)
-        }
+        Ok(n) if asked.is_name(i, &word[..n]) => check_file(rt, i, &word[..n], asked),
+        Ok(_) => Status::Accepted,
     }
 }
 
-fn check_files(rt: &HostRuntime, asked: Asked) -> u8 {
-    let mut status = ACCEPTED;
-    let mut i = 1;
-    while i < asked.count {
-        let s = check_argument(rt, i, asked);
-        if s == UNREAD {
-            return UNREAD;
+fn check_files(rt: &HostRuntime, asked: Asked) -> Status {
+    let mut status = Status::Accepted;
+    for i in 1..asked.count {
+        status = status.max(check_argument(rt, i, asked));
+        if Status::Trouble < status {
+            break;
         }
-        if s == STOPPED {
-            return TROUBLE;
-        }
-        if status < s {
-            status = s;
-        }
-        i += 1;
     }
     status
 }
 
-fn unknown(rt: &HostRuntime, i: usize) -> u8 {
-    let mut word = [0u8; arguments::ROOM];
-    let n = match rt.arg(i, &mut word) {
-        Err(_) => 0,
-        Ok(n) => n,
-    };
-    telling::tell_unknown(&rt.stderr(), &word[..n]);
-    TROUBLE
-}
+// ---- what the arguments ask for
 
-fn run(rt: &HostRuntime, asked: Asked) -> u8 {
-    if 0 < asked.unknown {
-        return unknown(rt, asked.unknown);
-    }
-    if asked.list {
-        if asked.quiet {
-            telling::tell_both(&rt.stderr());
-            return TROUBLE;
+fn refuse(rt: &HostRuntime, misuse: Misuse) -> Status {
+    match misuse {
+        Misuse::Unknown(i) => {
+            let mut word = [0u8; arguments::ROOM];
+            let n = rt.arg(i, &mut word).unwrap_or(0);
+            telling::tell_unknown(&rt.stderr(), &word[..n]);
         }
+        Misuse::Both => telling::tell_both(&rt.stderr()),
     }
-    if asked.named {
-        return check_files(rt, asked);
-    }
-    check_input(rt, &mut rt.stdin(), b"standard input", asked)
+    Status::Trouble
 }
 
-// The status that `check` is to have.
-fn hand_on(status: u8) -> ExitCode {
-    match status {
-        ACCEPTED | REFUSED => ExitCode::from(status),
-        UNREAD => ExitCode::from(PIPE),
-        _ => ExitCode::from(TROUBLE),
+fn run(rt: &HostRuntime) -> Status {
+    match arguments::all(rt) {
+        Err(misuse) => refuse(rt, misuse),
+        Ok(asked) if asked.named => check_files(rt, asked),
+        Ok(asked) => check_input(rt, &mut rt.stdin(), b"standard input", asked),
     }
 }
 
 fn main(rt: HostRuntime) -> ExitCode {
-    hand_on(run(&rt, arguments::all(&rt)))
+    run(&rt).into()
 }

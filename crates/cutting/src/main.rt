@@ -5,43 +5,31 @@
 use std::io::Result;
 use symbols::{Cursor, Symbol};
 
-fn end_line(rt: &impl Print) -> Result<()> {
-    println!(rt; "")
-}
-
-fn put_behind(rt: &impl Print, n: usize) -> Result<()> {
-    print!(rt; " {n}")
-}
-
 fn show(rt: &impl Print, y: Symbol) -> Result<()> {
     let position = symbols::position_of(y);
-    let code = y.code;
-    print!(rt; "{code}")?;
-    put_behind(rt, y.place)?;
-    put_behind(rt, symbols::length_of(y))?;
-    put_behind(rt, position.line)?;
-    put_behind(rt, position.column)?;
+    let len = symbols::length_of(y);
+    print!(rt;
+        "{} {} {len} {} {}",
+        y.code, y.place, position.line, position.column
+    )?;
     if y.refusal != 5 {
-        print!(rt; " fault")?;
-        put_behind(rt, y.refusal as usize)?;
+        print!(rt; " fault {}", y.refusal)?;
     }
-    end_line(rt)
+    println!(rt; "")
 }
 
 // Up to the first symbol of no bytes; a blank line ends the text.
 fn cut(rt: &impl Print, text: &[u8]) -> Result<()> {
-    let mut c = Cursor::start();
-    let mut turns: u32 = 0;
-    while turns < 40 {
-        turns += 1;
-        let y = c.next(text);
+    let mut cursor = Cursor::start();
+    for _ in 0..40 {
+        let y = cursor.next(text);
         show(rt, y)?;
         if symbols::length_of(y) == 0 {
             break;
         }
-        c = y.next;
+        cursor = y.next;
     }
-    end_line(rt)
+    println!(rt; "")
 }
 
 fn numbers(rt: &impl Print) -> Result<()> {

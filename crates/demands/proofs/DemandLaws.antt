@@ -24,9 +24,8 @@ use Rattle.claims.proofs.DistinctLaws.{all-distinct}
 use Rattle.computed.proofs.ShutLaws.{shut}
 use Rattle.claims.proofs.Demand3Laws.{demand3}
 use Rattle.claims.proofs.RunLaws.{Ending, Ended, run_ends}
-use Rattle.answers.specs.declared.Answer.{Answer}
-use Rattle.answers.specs.declared.Answer.TheVariants.{Accepted, Refused}
-use Rattle.answers.specs.Answers.{answer_of}
+use Rattle.std.specs.Prelude.{Ok, Err}
+use Rattle.answers.specs.Answers.{Coded, accepted_as, refused_as, answer_of}
 use Rattle.answers.specs.Handing.{handed, taken}
 use Rattle.running.specs.Running.{refused_in}
 use Rattle.demands.specs.Demands.{Gives, Locates, Demand1, Demand2, NumbersRead, Demand3, Demands}
@@ -36,32 +35,33 @@ use Rattle.demands.proofs.ReadLaws.{numbers-read}
 
 -- ---- the program's answers
 -- each of document 01's is one of them, and only one
-coded : (a : C.Answer) → (r : Answer) × (answer_of r ≡ a)
-coded (accepted a) = (Accepted a.length a.definitions, refl)
-coded (refusal r) = (Refused r.number r.place r.line r.column, refl)
+coded : (a : C.Answer) → (r : Coded) × (answer_of r ≡ a)
+coded (accepted a) = (accepted_as a.length a.definitions, refl)
+coded (refusal r) = (refused_as r.number r.place r.line r.column, refl)
 
-same_answer : (r s : Answer) → answer_of r ≡ answer_of s → r ≡ s
-same_answer (Accepted n k) (Accepted m j) e = let (p, q) = same-accepted e in rw (p, q)
-same_answer (Accepted n k) (Refused m q i d) e = absurd (let z : ◌≡◌ {A = ℕ} 0 1 = cc in omega arith)
-same_answer (Refused n p l c) (Accepted m j) e = absurd (let z : ◌≡◌ {A = ℕ} 0 1 = cc in omega arith)
-same_answer (Refused n p l c) (Refused m q i d) e = let (w, x, y, z) = same-refused e in rw (w, x, y, z)
+same_answer : (r s : Coded) → answer_of r ≡ answer_of s → r ≡ s
+same_answer (Ok a) (Ok b) e = let (p, q) = same-accepted e in λ i. Ok (record { length = p i; definitions = q i })
+same_answer (Ok a) (Err s) e = absurd (let z : ◌≡◌ {A = ℕ} 0 1 = cc in omega arith)
+same_answer (Err r) (Ok b) e = absurd (let z : ◌≡◌ {A = ℕ} 0 1 = cc in omega arith)
+same_answer (Err r) (Err s) e =
+    let (w, x, y, z) = same-refused e in λ i. Err (record { number = w i; place = x i; line = y i; column = z i })
 
 same_kept : {x y : State} → kept x ≡ kept y → x ≡ y
 same_kept e = cc
 
 module _ (t : List ℕ) (m : ℕ) where
   -- what `check` answers is given
-  gives : (r : Answer) → (check t (lent m)).answer ≡ answer_of r → (b : List ℕ) × Gives t m r b
+  gives : (r : Coded) → (check t (lent m)).answer ≡ answer_of r → (b : List ℕ) × Gives t m r b
   gives r e = (_, record { answer = sym e; buffer = refl })
 
   -- a refusal is the definition's, whose line and column are those of its place
-  refuses : {n p l c : ℕ} {b : List ℕ} → Gives t m (Refused n p l c) b → (check t (lent m)).answer ≡ refusing t n p
+  refuses : {n p l c : ℕ} {b : List ℕ} → Gives t m (refused_as n p l c) b → (check t (lent m)).answer ≡ refusing t n p
   refuses h = let a = located.refused t (lent m) _ (sym h.answer) in rw (a.line, a.column) at (sym h.answer)
 
-  numbered : {n p l c : ℕ} {b : List ℕ} → Gives t m (Refused n p l c) b → Numbered t n p
+  numbered : {n p l c : ℕ} {b : List ℕ} → Gives t m (refused_as n p l c) b → Numbered t n p
   numbered h = refused-numbered t (lent m) _ _ (refuses h)
 
-  stands : {n p l c : ℕ} {b : List ℕ} → Gives t m (Refused n p l c) b → Locates t p l c
+  stands : {n p l c : ℕ} {b : List ℕ} → Gives t m (refused_as n p l c) b → Locates t p l c
   stands {n} {p} {l} {c} h =
       let a = located.refused t (lent m) _ (sym h.answer) in
       let e : position l c ≡ position_of t p = λ i. record { line = a.line i; column = a.column i } in
@@ -89,18 +89,18 @@ module _ (t : List ℕ) (m : ℕ) where
     small = λ n k b h. accepted-small t (lent m) n k (sym h.answer);
     taken_back = λ r b h.
         ap (λ (a : C.Answer). taken (handed a)) (sym h.answer)
-        ∙ takes-answer r (λ n p l c e. (numbered (subst (λ (x : Answer). Gives t m x b) e h)).number);
+        ∙ takes-answer r (λ n p l c e. (numbered (subst (λ (x : Coded). Gives t m x b) e h)).number);
   }
 
   demand-2 : Demand2 t m
   demand-2 = record {
     follows = (
       λ h. let (n, k, b, g) = h in let r = accepted-book t (lent m) n k b g in (r.state, r.runs),
-      λ h. let (b, g) = gives (Accepted _ _) (ap (C.answer_of t) h.1) in (_, _, b, g),
+      λ h. let (b, g) = gives (accepted_as _ _) (ap (C.answer_of t) h.1) in (_, _, b, g),
     );
     first = λ n p. (
       λ h. let (l, c, b, g) = h in (texts-ranked.refused t (lent m) n p).0 (refuses g),
-      λ h. let (b, g) = gives (Refused n p _ _) ((texts-ranked.refused t (lent m) n p).1 h) in (_, _, b, g),
+      λ h. let (b, g) = gives (refused_as n p _ _) ((texts-ranked.refused t (lent m) n p).1 h) in (_, _, b, g),
     );
     book = λ n k b h. accepted-book t (lent m) n k b h;
   }
@@ -112,15 +112,15 @@ module _ (t : List ℕ) (m : ℕ) where
       let k : EveryReading s = subst EveryReading (same_kept (sym r.runs ∙ e)) r.reads in
       numbers-read t s (reached-fair t m h.reaches).0 (reached-typed t m h.reaches) k
 
-  refused-there : (s : State) (u : U.Unit) (k : ℕ) (r : Answer) (b : List ℕ) → Gives t m r b
+  refused-there : (s : State) (u : U.Unit) (k : ℕ) (r : Coded) (b : List ℕ) → Gives t m r b
       → RefusedThere t (lent m) s u k
-      → (n p l c : ℕ) × (r ≡ Refused n p l c) × (judge s u ≡ refused n p) × (rank n ≤ rank k)
+      → (n p l c : ℕ) × (r ≡ refused_as n p l c) × (judge s u ≡ refused n p) × (rank n ≤ rank k)
   refused-there s u k r b h v = (
     v.number,
     v.place,
     (position_of t v.place).line,
     (position_of t v.place).column,
-    same_answer r (refused_in t v.number v.place) (h.answer ∙ v.answers),
+    same_answer r (Err (refused_in t v.number v.place)) (h.answer ∙ v.answers),
     v.refuses,
     v.by,
   )

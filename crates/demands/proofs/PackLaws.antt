@@ -18,9 +18,8 @@ use Rattle.claims.specs.Ranking.{is_in}
 use Rattle.claims.specs.Numbered.{table}
 use Rattle.claims.specs.Finding.{name_of, shown_at}
 use Rattle.claims.proofs.FindingLaws.{found_shown}
-use Rattle.answers.specs.declared.Answer.{Answer}
-use Rattle.answers.specs.declared.Answer.TheVariants.{Accepted, Refused}
-use Rattle.answers.specs.Answers.{answer_of}
+use Rattle.std.specs.Prelude.{Ok, Err}
+use Rattle.answers.specs.Answers.{Coded, refused_as, answer_of}
 use Rattle.answers.specs.Handing.{handed, taken}
 use Rattle.records.specs.Packing.{packed_found, packed_part, unpacked_found, unpacked_part}
 
@@ -30,12 +29,12 @@ table-from-1 : (n : ℕ) → is_in n table ≡ true → 0 < n
 table-from-1 zero h = never h
 table-from-1 (suc n) h = omega arith
 
-pub takes-answer : (r : Answer) → ((n p l c : ℕ) → r ≡ Refused n p l c → is_in n table ≡ true)
+pub takes-answer : (r : Coded) → ((n p l c : ℕ) → r ≡ refused_as n p l c → is_in n table ≡ true)
     → taken (handed (answer_of r)) ≡ answer_of r
-takes-answer (Accepted n k) h = refl
-takes-answer (Refused n p l c) h =
-    let from-1 = table-from-1 n (h n p l c refl) in
-    rw (ne_eqb n 0 (omega arith))
+takes-answer (Ok a) h = refl
+takes-answer (Err r) h =
+    let from-1 = table-from-1 r.number (h r.number r.place r.line r.column refl) in
+    rw (ne_eqb r.number 0 (omega arith))
 
 -- ---- parts
 unpacks-part : (p : Part) → p.start < 4294967296 → p.length < 256 → unpacked_part (packed_part p) ≡ p

@@ -22,9 +22,8 @@ use Rattle.rules.specs.Judge.{is_domain}
 use Rattle.rules.specs.All.{All, In}
 use Rattle.rules.proofs.Tests.{never, split}
 use Rattle.rules.proofs.AllLaws.{apart, any-is, any-lookup, all-attribute, in-append, all_in_lem}
-use Rattle.numbers.specs.declared.Reading.{Reading}
-use Rattle.numbers.specs.declared.Reading.TheVariants as R
-use Rattle.numbers.specs.Answer.{Promised}
+use Rattle.std.specs.Prelude.{Ok}
+use Rattle.numbers.specs.Answer.{Reading, Promised}
 use Rattle.numbers.proofs.ReadLaws.{one_answer}
 use Rattle.wellformed.specs.Fairness.{Fair, FairRange, FairUse, FairAttribute, FairDef, FairState}
 use Rattle.claims.specs.Steps as S
@@ -74,7 +73,7 @@ Reads x y = (v : Value) → legal x v ≡ true → (w : Value) × (reading y v �
 range-reads : (r q : Range) (i j : Option Measure) → FairRange r → FairRange q → Reads (ranged r i) (ranged q j) →
     (v : ℤ) (u : Option Measure) → legal (ranged r i) (number r.decimals v u) ≡ true
     → (a : Reading) → Promised v r.decimals q.decimals a
-    → (w : ℤ) × (a ≡ R.Value w) × (reading (ranged q j) (number r.decimals v u) ≡ some (number q.decimals w u))
+    → (w : ℤ) × (a ≡ Ok w) × (reading (ranged q j) (number r.decimals v u) ≡ some (number q.decimals w u))
     × (legal (ranged q j) (number q.decimals w u) ≡ true)
 range-reads r q i j f g h v u e a p =
     let w = N.reading r.decimals q.decimals v in
@@ -84,7 +83,7 @@ range-reads r q i j f g h v u e a p =
     subst (λ (x : Value). legal (ranged q j) x ≡ true) z o in
     let b = range_small r i v u f e in
     let n = read_small v r.decimals q.decimals f.0 g.0 b (range_small q j w u g l) in
-    (w, one_answer v r.decimals q.decimals a (R.Value w) p (record { number = rw n; value = rw n }), refl, l)
+    (w, one_answer v r.decimals q.decimals a (Ok w) p (record { number = rw n; value = rw n }), refl, l)
 
 -- a range is fair
 abbrev Ranged : List ℕ → Ty → Type 0

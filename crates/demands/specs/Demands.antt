@@ -3,7 +3,7 @@
 -- every text and every buffer gets an answer (`answer` in this crate's code has the promise in these words). `run` is
 -- document 01 with No. 1 and No. 2 of document 02 as a definition (crate rules): it keeps a state where no unit is
 -- refused; `check` adds the line and the column of a refusal (No. 6).
-use Rattle.std.specs.Prelude.{◌≡◌, ◌↔◌, true, false, List, ℕ, ◌^◌, ◌≤◌, ◌<◌, length, ℤ}
+use Rattle.std.specs.Prelude.{◌≡◌, ◌↔◌, true, false, List, ℕ, ◌^◌, ◌≤◌, ◌<◌, length, ℤ, Ok}
 use Rattle.std.proofs.Math.Option.{Option, some}
 use Rattle.rules.specs.Numbers.{Range}
 use Rattle.rules.specs.Units as U
@@ -29,16 +29,12 @@ use Rattle.claims.specs.Demand3.{ModelReads, Extends, Misnumbered, Mismeasured}
 use Rattle.claims.specs.Distinct.{AllDistinct}
 use Rattle.claims.specs.Finding.{name_of, FoundShown}
 use Rattle.computed.specs.Shut.{Shut}
-use Rattle.numbers.specs.declared.Reading.{Reading}
-use Rattle.numbers.specs.declared.Reading.TheVariants.{Value}
-use Rattle.numbers.specs.Answer.{Promised}
-use Rattle.answers.specs.declared.Answer.{Answer}
-use Rattle.answers.specs.declared.Answer.TheVariants.{Accepted, Refused}
-use Rattle.answers.specs.Answers.{answer_of}
+use Rattle.numbers.specs.Answer.{Reading, Promised}
+use Rattle.answers.specs.Answers.{Coded, accepted_as, refused_as, answer_of}
 use Rattle.answers.specs.Handing.{handed, taken}
 use Rattle.records.specs.Packing.{packed_found, packed_part, unpacked_found, unpacked_part}
 
-abbrev pub Gives : List ℕ → ℕ → Answer → List ℕ → Type 0
+abbrev pub Gives : List ℕ → ℕ → Coded → List ℕ → Type 0
 Gives t m r b = Promise t (lent m) (answer_of r) b
 
 -- l and c are the line and the column of the place p of the text t, and of no other place of it
@@ -50,15 +46,15 @@ pub record Locates (t : List ℕ) (p l c : ℕ) : Type 0 where
 -- ---- 1: every text, with a buffer of every length, gets one answer: accepted, or one numbered refusal with its place
 -- and this place's line and column; after a refusal the whole buffer is zero
 pub record Demand1 (t : List ℕ) (m : ℕ) : Type 0 where
-  pub answered : (r : Answer) × (b : List ℕ) × Gives t m r b
-  pub one : (r s : Answer) (b c : List ℕ) → Gives t m r b → Gives t m s c → (r ≡ s) × (b ≡ c)
-  pub numbered : (n p l c : ℕ) (b : List ℕ) → Gives t m (Refused n p l c) b → Numbered t n p
-  pub located : (n p l c : ℕ) (b : List ℕ) → Gives t m (Refused n p l c) b → Locates t p l c
-  pub zeros : (n p l c : ℕ) (b : List ℕ) → Gives t m (Refused n p l c) b → (length b ≡ m) × Zeros b
-  pub small : (n k : ℕ) (b : List ℕ) → Gives t m (Accepted n k) b → Small n k
+  pub answered : (r : Coded) × (b : List ℕ) × Gives t m r b
+  pub one : (r s : Coded) (b c : List ℕ) → Gives t m r b → Gives t m s c → (r ≡ s) × (b ≡ c)
+  pub numbered : (n p l c : ℕ) (b : List ℕ) → Gives t m (refused_as n p l c) b → Numbered t n p
+  pub located : (n p l c : ℕ) (b : List ℕ) → Gives t m (refused_as n p l c) b → Locates t p l c
+  pub zeros : (n p l c : ℕ) (b : List ℕ) → Gives t m (refused_as n p l c) b → (length b ≡ m) × Zeros b
+  pub small : (n k : ℕ) (b : List ℕ) → Gives t m (accepted_as n k) b → Small n k
   -- `auzuplens_check` leaves `handed` of the definition's answer in the caller's eight numbers, and from them the
   -- program's answer can be taken back
-  pub taken_back : (r : Answer) (b : List ℕ) → Gives t m r b → taken (handed (check t (lent m)).answer) ≡ answer_of r
+  pub taken_back : (r : Coded) (b : List ℕ) → Gives t m r b → taken (handed (check t (lent m)).answer) ≡ answer_of r
 
 -- ---- 2: accepted exactly when the text follows document 01, else refused by the first in the stated order; the book
 -- is the one the text means
@@ -66,9 +62,9 @@ pub record Demand1 (t : List ℕ) (m : ℕ) : Type 0 where
 -- reader stops (rules `Readers`), or the first rule that a unit breaks, in the ranking of the numbers; of one number
 -- the first symbol is named
 pub record Demand2 (t : List ℕ) (m : ℕ) : Type 0 where
-  pub follows : ((n k : ℕ) × (b : List ℕ) × Gives t m (Accepted n k) b) ↔ ((s : State) × (run t (lent m) ≡ kept s))
-  pub first : (n p : ℕ) → ((l c : ℕ) × (b : List ℕ) × Gives t m (Refused n p l c) b) ↔ R.Refused t (lent m) n p
-  pub book : (n k : ℕ) (b : List ℕ) → Gives t m (Accepted n k) b → Booked t (lent m) n k b
+  pub follows : ((n k : ℕ) × (b : List ℕ) × Gives t m (accepted_as n k) b) ↔ ((s : State) × (run t (lent m) ≡ kept s))
+  pub first : (n p : ℕ) → ((l c : ℕ) × (b : List ℕ) × Gives t m (refused_as n p l c) b) ↔ R.Refused t (lent m) n p
+  pub book : (n k : ℕ) (b : List ℕ) → Gives t m (accepted_as n k) b → Booked t (lent m) n k b
 
 -- ---- numbers: of two ranges, `read_number`, which promises Promised, answers a legal number of x, in a unit or
 -- without one, with its reading at y, which has the same unit; and never 20 or 21
@@ -77,7 +73,7 @@ ReadBy x y =
     (r q : Range) (i j : Option Measure) → x ≡ numeric (some r) i → y ≡ numeric (some q) j
     → (v : ℤ) (u : Option Measure) → legal x (number r.decimals v u) ≡ true
     → (a : Reading) → Promised v r.decimals q.decimals a
-    → (w : ℤ) × (a ≡ Value w) × (reading y (number r.decimals v u) ≡ some (number q.decimals w u))
+    → (w : ℤ) × (a ≡ Ok w) × (reading y (number r.decimals v u) ≡ some (number q.decimals w u))
     × (legal y (number q.decimals w u) ≡ true)
 
 -- the numbers of a state's domains, and of its attributes with a type in place, each read at its base
@@ -91,16 +87,16 @@ pub record NumbersRead (s : State) : Type 0 where
 -- legal value has an illegal reading, what puts it there is refused: by 17 or what comes before it where the value's
 -- number shows it, by 22 or what comes before it where only its unit does
 pub record Demand3 (t : List ℕ) (m : ℕ) : Type 0 where
-  pub reads : (n k : ℕ) (b : List ℕ) → Gives t m (Accepted n k) b → ModelReads t (lent m)
+  pub reads : (n k : ℕ) (b : List ℕ) → Gives t m (accepted_as n k) b → ModelReads t (lent m)
   pub numbers : (s : State) → run t (lent m) ≡ kept s → NumbersRead s
-  pub number_witness : (p l c : ℕ) (b : List ℕ) → Gives t m (Refused 17 p l c) b → Misnumbered t (lent m) p
-  pub unit_witness : (p l c : ℕ) (b : List ℕ) → Gives t m (Refused 22 p l c) b → Mismeasured t (lent m) p
+  pub number_witness : (p l c : ℕ) (b : List ℕ) → Gives t m (refused_as 17 p l c) b → Misnumbered t (lent m) p
+  pub unit_witness : (p l c : ℕ) (b : List ℕ) → Gives t m (refused_as 22 p l c) b → Mismeasured t (lent m) p
   pub refuses : (s : State) (u : U.Unit) → Judges t (lent m) s u → (x y : Ty) → Extends s u x y → Outside x y →
-      (r : Answer) (b : List ℕ) → Gives t m r b
-      → (n p l c : ℕ) × (r ≡ Refused n p l c) × (judge s u ≡ refused n p) × (rank n ≤ rank 22)
+      (r : Coded) (b : List ℕ) → Gives t m r b
+      → (n p l c : ℕ) × (r ≡ refused_as n p l c) × (judge s u ≡ refused n p) × (rank n ≤ rank 22)
   pub number_refuses : (s : State) (u : U.Unit) → Judges t (lent m) s u → (x y : Ty) → Extends s u x y
-      → NumberOutside x y → (r : Answer) (b : List ℕ) → Gives t m r b
-      → (n p l c : ℕ) × (r ≡ Refused n p l c) × (judge s u ≡ refused n p) × (rank n ≤ rank 17)
+      → NumberOutside x y → (r : Coded) (b : List ℕ) → Gives t m r b
+      → (n p l c : ℕ) × (r ≡ refused_as n p l c) × (judge s u ≡ refused n p) × (rank n ≤ rank 17)
 
 -- ---- all of it; and what the definitions are held to: every unit's rules stand in order, lines and columns are
 -- counted in one way, the marked examples, elements stand once, units of numbers descend as 22 asks and a reading keeps

@@ -33,8 +33,8 @@ use Rattle.units.specs.declared.DomainUnit.{DomainUnit}
 use Rattle.wellformed.specs.Fairness.{FairState}
 use Rattle.types.proofs.TypeLaws.{laid-book}
 use Rattle.state.specs.declared.State as code
-use Rattle.state.specs.declared.Judged as code-judged
-use Rattle.state.specs.declared.Judged.TheVariants.{Fine, Refused}
+use Rattle.std.specs.Prelude.{Result, Ok, Err}
+use Rattle.ground.specs.declared.Ruling.{Ruling}
 use Rattle.state.specs.Keeping.{JudgedAs}
 use Rattle.state.specs.Next.{declared_by}
 use Rattle.state.proofs.KeepLaws as keep
@@ -156,16 +156,16 @@ module _ {t : List ℕ} {s : State} {st : code.State} {n : Name} {p : List (List
         defined = omega arith;
       }
 
-  pub refused-room : leb (st.extent.used + head_size + size.bytes) (length o₁) ≡ false → (r : code-judged.Judged)
-      → r ≡ Refused 19 d.name.offset → (o₂ x₂ z₂ : List ℕ)
+  pub refused-room : leb (st.extent.used + head_size + size.bytes) (length o₁) ≡ false → (r : Result code.State Ruling)
+      → r ≡ Err (record { number = 19; place = d.name.offset }) → (o₂ x₂ z₂ : List ℕ)
       → JudgedAs t (Check.room (Check.lent (length o)) n.offset
-      (ok (declare s (def (new_domain s n p w (resolved s b) (target_in s w)))))) st r o₂ x₂ z₂ y hs
+      (ok (declare s (def (new_domain s n p w (resolved s b) (target_in s w)))))) r o₂ x₂ z₂ y hs
   refused-room e r g o₂ x₂ z₂ =
       let f = leb-false (st.extent.used + head_size + size.bytes) (length o₁) e in
       let v = long in
       rw (room-over (length o) n.offset
       (declare s (def (new_domain s n p w (resolved s b) (target_in s w)))) (omega arith) (omega arith))
-      (g ∙ ap (λ (i : ℕ). Refused 19 i) (ap (λ (u : DomainUnit). u.name.offset) (is-unit h)))
+      (g ∙ ap (λ (u : DomainUnit). Err (record { number = 19; place = u.name.offset })) (is-unit h))
 
   -- the head is written behind the book, the row behind the last
   module _ (room : leb (st.extent.used + head_size + size.bytes) (length o₁) ≡ true)
@@ -249,9 +249,10 @@ module _ {t : List ℕ} {s : State} {st : code.State} {n : Name} {p : List (List
         ez (known s.decls) new· h.keeps.chained h.keeps.held.all_defs (rw unit h.comes.fair.0.there)
 
     pub kept-domain : FairState t (declare s (def new·)) → (st' : code.State)
-        → st' ≡ declared_by st (head_size + size.bytes) (1 + size.records) 1 → (r : code-judged.Judged) → r ≡ Fine st'
+        → st' ≡ declared_by st (head_size + size.bytes) (1 + size.records) 1
+        → (r : Result code.State Ruling) → r ≡ Ok st'
         → (y₂ : List ℕ) → y₂ ≡ y
-        → JudgedAs t (Check.room (Check.lent (length o)) n.offset (ok (declare s (def new·)))) st r o₂ x₂ z₂ y₂ hs
+        → JudgedAs t (Check.room (Check.lent (length o)) n.offset (ok (declare s (def new·)))) r o₂ x₂ z₂ y₂ hs
     kept-domain fair st' es r er y₂ ey =
         let e = leb-true (st.extent.used + head_size + size.bytes) (length o₁) room in
         let v = size-bytes in
@@ -264,9 +265,9 @@ module _ {t : List ℕ} {s : State} {st : code.State} {n : Name} {p : List (List
         (sym (domain-defined new· (new-sort s n p w (resolved s b) (target_in s w)))) book-is
         (rw ex (agree-def x _ st.listing.count (omega arith))) row_is chains-are fair in
         subst (λ (i : List ℕ). JudgedAs t
-        (Check.room (Check.lent (length o)) n.offset (ok (declare s (def new·)))) st r o₂ x₂ z₂ i hs) (sym ey)
+        (Check.room (Check.lent (length o)) n.offset (ok (declare s (def new·)))) r o₂ x₂ z₂ i hs) (sym ey)
         (rw (room_within (length o) n.offset (declare s (def new·)) (omega arith) (omega arith))
-        (st', er, rw es k, rw es refl))
+        (st', er, rw es k))
 
 -- the head is as long
 pub head-fits : (hd : List ℕ) (k i n f c u b m : ℕ) → hd ≡ head_form k i n f c

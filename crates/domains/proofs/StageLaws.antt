@@ -8,9 +8,9 @@ use native.Mathlib.Omega.{arith}
 use lib.ListN.{length, get_or, take}
 use lib.Dec.{ltb}
 use borrow.Author.Tests.{lt-ltb}
-use Rattle.rules.proofs.RuleLaws.{element-nine}
+use Rattle.std.specs.Prelude.{⊤, Result, Ok, Err, Option as code·Option}
 use Rattle.wellformed.proofs.TypeLaws.{sort-domain}
-use Rattle.state.proofs.TargetLaws.{among-positive, earlier-among, earlier-off}
+use Rattle.state.proofs.TargetLaws.{earlier-among, earlier-off, earlier-ruled}
 use Rattle.state.proofs.KeepLaws.{none_open}
 use Rattle.rules.specs.Names.{Name}
 use Rattle.rules.specs.Grammar.{Reference, WrittenType, Written}
@@ -38,7 +38,6 @@ use Rattle.enumerations.specs.declared.Size.{Size}
 use Rattle.enumerations.specs.Records.{size_of}
 use Rattle.readers.specs.Reads.{name_cut}
 use Rattle.parts.specs.Forms.{any_of, flags_of, optional_of, written_of}
-use Rattle.parts.specs.declared.Properties.{Properties}
 use Rattle.parts.specs.declared.types.Meant.{Meant}
 use Rattle.units.specs.declared.DomainUnit.{DomainUnit}
 use Rattle.units.specs.declared.Unit.TheVariants.{Domain}
@@ -55,32 +54,21 @@ use Rattle.ground.specs.Rulings.{ruling_of, judged_by}
 use Rattle.fitting.specs.Values.{Valued, Typed, Sized, UnitNumbered, FairOrNone, unit_number}
 use Rattle.types.specs.declared.Over.{Over}
 use Rattle.types.specs.Writing.{Scratched, Once}
-use Rattle.ground.proofs.RulingLaws.{Positive, first-broken-by}
+use Rattle.ground.proofs.RulingLaws.{first-broken-by}
 use Rattle.fitting.proofs.ValueLaws.{typed-valued, sized_base, fair-or-none}
 use Rattle.types.proofs.TypeLaws.{sized-meant, scratched, once-of}
 use Rattle.state.specs.declared.State as code
-use Rattle.state.specs.declared.Judged as code-judged
-use Rattle.state.specs.declared.Judged.TheVariants.{Refused}
 use Rattle.state.specs.Keeping.{Keeps, JudgedAs, Comes, verdict}
-use Rattle.state.specs.Targets.{target_rules, among_rules, earlier_of}
+use Rattle.state.specs.Targets.{Ruled, target_rules, among_rules, earlier_of}
 use Rattle.written.specs.Written.{written_rules, LaidWhen}
 use Rattle.domains.specs.Stages.{name_rules, Leads, rules_from_13, declared_in, from_rule_13, Extending}
 use Rattle.domains.specs.Stages.{OverIs}
 use Rattle.domains.specs.declared.Reached.{Reached}
-use Rattle.written.specs.declared.Laying as code-laying
-use Rattle.written.specs.declared.Laying.TheVariants.{Whole, Broken}
-use Rattle.written.proofs.WrittenLaws.{written-positive}
 use Rattle.book.specs.Places.{Stands}
 use Rattle.book.specs.Sizes.{head_size}
 
 -- ---- MANDATORY in effect
 module _ (ks : List Def) (base : ℕ) (w : Bool) where
-  pub mandatory-written : w ≡ true → true ≡ (w || (or_no_def (entry ks base)).mandatory)
-  mandatory-written e = rw e
-
-  pub mandatory-none : w ≡ false → base ≡ 0 → false ≡ (w || (or_no_def (entry ks base)).mandatory)
-  mandatory-none e z = rw (e, z)
-
   pub mandatory-base : (t x : List ℕ) (count : ℕ) → base ≤ count → Known t ks x count → w ≡ false → 0 < base
       → (f : ℕ) → ((t : List ℕ) (d : Def) → Says t d (row definition_width x base)
       → f ≡ flags d.abstract d.final false d.mandatory)
@@ -90,96 +78,59 @@ module _ (ks : List Def) (base : ℕ) (w : Bool) where
       let (d, q) = entry-there ks base z (omega arith) in
       rw (e, q) (hr d.abstract d.final false d.mandatory (hf t d (k.says base d q)))
 
--- ---- 13
-module _ (p : Properties) (l : List (List ℕ)) (x : Ty) (e : p ≡ flags_of l) (m : Bool)
-    (h : m ≡ (has_twice l || (has_abstract l && has_final l))) where
-  pub head-mixed : m ≡ true → true
-      ≡ (has_twice l || ((has_abstract l && has_final l) || (is_numeric x && not (has_abstract l))))
-  head-mixed i = go (has_twice l) (has_abstract l && has_final l) (is_numeric x && not (has_abstract l)) (sym h ∙ i)
-    where
-      go : (a b c : Bool) → (a || b) ≡ true → true ≡ (a || (b || c))
-      go true b c q = refl
-      go false true c q = refl
-      go false false c q = never q
-
-  pub head-abstract : m ≡ false → p.is_abstract ≡ true
-      → false ≡ (has_twice l || ((has_abstract l && has_final l) || (is_numeric x && not (has_abstract l))))
-  head-abstract i a =
-      let b : has_abstract l ≡ true = ap (λ (q : Properties). q.is_abstract) (sym e) ∙ a in
-      go (has_twice l) (has_abstract l && has_final l) (is_numeric x) (has_abstract l) (sym h ∙ i) b
-    where
-      go : (a b n c : Bool) → (a || b) ≡ false → c ≡ true → false ≡ (a || (b || (n && not c)))
-      go true b n c q r = never (sym q)
-      go false true n c q r = never (sym q)
-      go false false true c q r = rw r
-      go false false false c q r = refl
-
-  pub head_plain : m ≡ false → p.is_abstract ≡ false → (r : Bool) → r ≡ is_numeric x
-      → r ≡ (has_twice l || ((has_abstract l && has_final l) || (is_numeric x && not (has_abstract l))))
-  head_plain i a r s =
-      let b : has_abstract l ≡ false = ap (λ (q : Properties). q.is_abstract) (sym e) ∙ a in
-      s ∙ go (has_twice l) (has_abstract l && has_final l) (is_numeric x) (has_abstract l) (sym h ∙ i) b
-    where
-      go : (a b n c : Bool) → (a || b) ≡ false → c ≡ false → n ≡ (a || (b || (n && not c)))
-      go true b n c q r = never (sym q)
-      go false true n c q r = never (sym q)
-      go false false true c q r = rw r
-      go false false false c q r = refl
-
 -- ---- 9
 module _ (t : List ℕ) (s : State) (n : Name) (w : Option WrittenType) (a : ground.Name) (e : a ≡ name_cut n)
     (h : InText t n) (k : Bool) (i : k ≡ is_found (at_hand s (bytes_of t a))) where
   at_name : k ≡ is_found (at_hand s n.bytes)
   at_name = i ∙ ap (λ (b : List ℕ). is_found (at_hand s b)) (ap (bytes_of t) e ∙ h.there)
 
-  pub name-taken : k ≡ true → record { number = 9; place = a.offset } ≡ ruling_of (name_rules s n w)
+  pub name-taken : k ≡ true → Err (record { number = 9; place = a.offset }) ≡ ruling_of (name_rules s n w)
   name-taken j = rw (← at_name, j, e)
 
-  pub name_free : k ≡ false → (q : Ruling) → q ≡ ruling_of (element_rule w ∷ []) → q ≡ ruling_of (name_rules s n w)
+  pub name_free : k ≡ false → (q : Result ⊤ Ruling) → q ≡ ruling_of (element_rule w ∷ [])
+      → q ≡ ruling_of (name_rules s n w)
   name_free j q g = g ∙ rw (← at_name, j)
 
-name-positive : (s : State) (n : Name) (w : Option WrittenType) → Positive (name_rules s n w)
-name-positive s n w = let e = element-nine w in (omega arith, (omega arith, tt))
-
 -- where 9 is not broken, no element is there twice
-once-named : (s : State) (n : Name) (w : Option WrittenType) → (ruling_of (name_rules s n w)).number ≡ 0 → Once w
-once-named s n w h = once-of w (go (is_found (at_hand s n.bytes)) h)
+once-named : (s : State) (n : Name) (w : Option WrittenType) → ruling_of (name_rules s n w) ≡ Ok tt → Once w
+once-named s n w h = once-of w tt (go (is_found (at_hand s n.bytes)) h)
   where
-    go : (b : Bool) → (ruling_of (rule 9 n.offset b ∷ element_rule w ∷ [])).number ≡ 0
-        → (ruling_of (element_rule w ∷ [])).number ≡ 0
-    go true e = absurd (omega arith)
+    go : (b : Bool) → ruling_of (rule 9 n.offset b ∷ element_rule w ∷ []) ≡ Ok tt
+        → ruling_of (element_rule w ∷ []) ≡ Ok tt
+    go true e = cc
     go false e = e
 
 -- ---- 10 to 12
-middle : (q : ℕ) (x y z : Bool) → (ruling_of (rule 10 q x ∷ rule 11 q y ∷ rule 12 q z ∷ [])).number ≡ 0 → y ≡ false
-middle q true y z e = absurd (omega arith)
-middle q false true z e = absurd (omega arith)
+middle : (q : ℕ) (x y z : Bool) → ruling_of (rule 10 q x ∷ rule 11 q y ∷ rule 12 q z ∷ []) ≡ Ok tt → y ≡ false
+middle q true y z e = cc
+middle q false true z e = cc
 middle q false false z e = refl
 
 extends-sort : (b : Option Reference) (o : Option Def) (w : Option WrittenType) (target : Option Def)
-    → (ruling_of (among_rules domain b o w target)).number ≡ 0
+    → ruling_of (among_rules domain b o w target) ≡ Ok tt
     → (is_found o && not (is_sort domain (or_no_def o).sort)) ≡ false
 unfolding extends_rules
 extends-sort b o w target h =
-    let e = earlier-among domain b o w target in
     middle (J.place_of b) (is_found b && not (is_found o)) (is_found o && not (is_sort domain (or_no_def o).sort))
-    (or_no_def o).final (earlier-off (ruling_of (extends_rules domain b o)) (ruling_of (target_rules w target))
-    (ap (λ (r : Ruling). r.number) e ∙ h)).0
+    (or_no_def o).final (earlier-off (ruling_of (extends_rules domain b o)) (ruling_of (target_rules w target)) tt
+    (earlier-among domain b o w target ∙ h)).0
 
-pub leads : (s : State) (b : Option Reference) (w : Written) (a q r : Ruling) (base target : ℕ)
-    → a ≡ ruling_of (extends_rules domain b (resolved s b)) → entry (known s.decls) base ≡ resolved s b
+-- of what EXTENDS leads to; and of both, where neither is broken
+abbrev pub Extends : State → Option Reference → Written → Result ℕ Ruling → Type 0
+Extends s b w r =
+    Ruled r (among_rules domain b (resolved s b) w.type (target_in s w))
+    (λ p. entry (known s.decls) p ≡ resolved s b)
+
+pub leads : (s : State) (b : Option Reference) (w : Written) (a : Result ℕ Ruling) (q : Result ⊤ Ruling) (target : ℕ)
+    → Ruled a (extends_rules domain b (resolved s b)) (λ p. entry (known s.decls) p ≡ resolved s b)
     → entry (known s.decls) target ≡ target_in s w
-    → q ≡ ruling_of (target_rules w.type (entry (known s.decls) target)) → r ≡ earlier_of a q
-    → Leads s b w (record { ruling = r; base = base; target = target })
-leads s b w a q r base target ea eb et eq er = record {
-  ruling =
-      er ∙ ap (λ (x : Ruling). earlier_of x q) ea
-      ∙ ap (earlier_of (ruling_of (extends_rules domain b (resolved s b))))
-      (eq ∙ ap (λ (g : Option Def). ruling_of (target_rules w.type g)) et)
-      ∙ earlier-among domain b (resolved s b) w.type (target_in s w);
-  base = eb;
-  target = et;
-}
+    → q ≡ ruling_of (target_rules w.type (entry (known s.decls) target))
+    → Extends s b w (earlier_of a q)
+leads s b w a q target ea et eq =
+    earlier-ruled a q (extends_rules domain b (resolved s b)) (target_rules w.type (target_in s w))
+    (among_rules domain b (resolved s b) w.type (target_in s w)) (λ p. entry (known s.decls) p ≡ resolved s b) ea
+    (eq ∙ ap (λ (g : Option Def). ruling_of (target_rules w.type g)) et)
+    (earlier-among domain b (resolved s b) w.type (target_in s w))
 
 -- ---- the base
 -- of a fair definition, or none, that a domain may extend
@@ -249,8 +200,8 @@ in-stages : (s : State) (n : Name) (p : List (List ℕ)) (b : Option Reference) 
 unfolding domain_rules domain_to_16 new_domain
 in-stages s n p b w o target = simp append_assoc
 
-first-broken-all : (l : List Rule) (s : State) → Positive l → first_broken_or l s ≡ judged_by (ruling_of l) (ok s)
-first-broken-all l s h = ap (λ (m : List Rule). first_broken_or m s) (sym (append-nil l)) ∙ first-broken-by l [] s h
+first-broken-all : (l : List Rule) (s : State) → first_broken_or l s ≡ judged_by (ruling_of l) (ok s)
+first-broken-all l s = ap (λ (m : List Rule). first_broken_or m s) (sym (append-nil l)) ∙ first-broken-by l [] s
 
 module _ (s : State) (n : Name) (p : List (List ℕ)) (b : Option Reference) (w : Written) where
   abbrev names· : List Rule
@@ -268,67 +219,60 @@ module _ (s : State) (n : Name) (p : List (List ℕ)) (b : Option Reference) (w 
   judge-is =
       ap (λ (l : List Rule). first_broken_or l (declared_in s n p b w))
       (in-stages s n p b w (resolved s b) (target_in s w))
-      ∙ (first-broken-by names· (leads· ++ types·) (declared_in s n p b w) (name-positive s n w.type)
-      ∙ ap (judged_by (ruling_of names·)) (first-broken-by leads· types· (declared_in s n p b w)
-      (among-positive domain b (resolved s b) w.type (target_in s w))))
+      ∙ (first-broken-by names· (leads· ++ types·) (declared_in s n p b w)
+      ∙ ap (judged_by (ruling_of names·)) (first-broken-by leads· types· (declared_in s n p b w)))
 
-  passed-both : (ruling_of names·).number ≡ 0 → (ruling_of leads·).number ≡ 0
+  passed-both : ruling_of names· ≡ Ok tt → ruling_of leads· ≡ Ok tt
       → judge s (U.domain n p b w) ≡ from_rule_13 s n p b w
   passed-both e f = judge-is ∙ rw (e, f)
 
-  module _ (t : List ℕ) (st : code.State) (r : code-judged.Judged) (o o₁ x₁ z₁ y hs : List ℕ) (q : Ruling) where
-    pub refused-name : q ≡ ruling_of names· → 0 < q.number → r ≡ Refused q.number q.place
-        → JudgedAs t (verdict s (U.domain n p b w) o) st r o₁ x₁ z₁ y hs
-    refused-name e h g = rw (judge-is, ← e, lt-ltb 0 q.number h) g
+  module _ (t o o₁ x₁ z₁ y hs : List ℕ) where
+    pub refused-name : (q : Ruling) → Err q ≡ ruling_of names·
+        → JudgedAs t (verdict s (U.domain n p b w) o) (Err q) o₁ x₁ z₁ y hs
+    refused-name q e = rw (judge-is, ← e) refl
 
-    pub refused-reference : (ruling_of names·).number ≡ 0 → q ≡ ruling_of leads· → 0 < q.number
-        → r ≡ Refused q.number q.place
-        → JudgedAs t (verdict s (U.domain n p b w) o) st r o₁ x₁ z₁ y hs
-    refused-reference f e h g = rw (judge-is, f, ← e, lt-ltb 0 q.number h) g
+    pub refused-reference : (q : Ruling) → ruling_of names· ≡ Ok tt → ruling_of leads· ≡ Err q
+        → JudgedAs t (verdict s (U.domain n p b w) o) (Err q) o₁ x₁ z₁ y hs
+    refused-reference q f e = rw (judge-is, f, e) refl
 
-  pub judged-late : (t : List ℕ) (st : code.State) (r : code-judged.Judged) (o o₁ x₁ z₁ y hs : List ℕ)
-      → (ruling_of names·).number ≡ 0 → (ruling_of leads·).number ≡ 0
-      → JudgedAs t (room (lent (length o)) n.offset (from_rule_13 s n p b w)) st r o₁ x₁ z₁ y hs
-      → JudgedAs t (verdict s (U.domain n p b w) o) st r o₁ x₁ z₁ y hs
-  judged-late t st r o o₁ x₁ z₁ y hs e f g = rw (passed-both e f) g
+    pub judged-late : (r : Result code.State Ruling) → ruling_of names· ≡ Ok tt → ruling_of leads· ≡ Ok tt
+        → JudgedAs t (room (lent (length o)) n.offset (from_rule_13 s n p b w)) r o₁ x₁ z₁ y hs
+        → JudgedAs t (verdict s (U.domain n p b w) o) r o₁ x₁ z₁ y hs
+    judged-late r e f g = rw (passed-both e f) g
 
 -- ---- 13 to 17 and 22
-pub whole-laid : (u : Bool) (v : Ruling) (l : List Record) (at : ℕ) (o o₂ : List ℕ) (a : code-laying.Laying) (z : Size)
-    → LaidWhen u v l at o o₂ a → a ≡ Whole z
-    → (z ≡ size_of l) × (u ≡ false) × (at + length (bytes l) ≤ length o → o₂ ≡ splice o at (bytes l))
-whole-laid true v l at o o₂ a z h e = let y : ◌≡◌ {A = ℕ} 0 1 = cc in absurd (omega arith)
-whole-laid false v l at o o₂ a z h e = let i = h.0 in (cc, refl, h.1)
+whole-laid : (u : Result ⊤ Ruling) (l : List Record) (at : ℕ) (o o₂ : List ℕ) (z : Size) → LaidWhen u l at o o₂ (Ok z)
+    → (z ≡ size_of l) × (u ≡ Ok tt) × (at + length (bytes l) ≤ length o → o₂ ≡ splice o at (bytes l))
+whole-laid (Err q) l at o o₂ z h = absurd (cc)
+whole-laid (Ok y) l at o o₂ z h = let i = h.0 in (cc, refl, h.1)
+
+broken-laid : (u : Result ⊤ Ruling) (l : List Record) (at : ℕ) (o o₂ : List ℕ) (q : Ruling)
+    → LaidWhen u l at o o₂ (Err q) → u ≡ Err q
+broken-laid (Err p) l at o o₂ q h = let i : q ≡ p = cc in rw i
+broken-laid (Ok y) l at o o₂ q h = let i = h.0 in absurd (cc)
 
 module _ (t : List ℕ) (n : Name) (p : List (List ℕ)) (w : Written) (c target : Option Def) (s' : State) (m : Given)
-    (st : code.State) (r : code-judged.Judged) (o₁ x₁ z₁ y hs : List ℕ)
+    (o₁ x₁ z₁ y hs : List ℕ)
     (k : Bool) (i : k ≡ (has_twice p || ((has_abstract p && has_final p)
     || (is_numeric (domain_type w.type target (or_no_def c).type) && not (has_abstract p))))) where
   abbrev from-14 : List Rule
   from-14 = written_rules (is_found c) w.place w.type target (or_no_def c).type
 
-  pub refused-head : k ≡ true → r ≡ Refused 13 n.offset
-      → JudgedAs t (room m n.offset (first_broken_or (rules_from_13 n p w c target) s')) st r o₁ x₁ z₁ y hs
-  refused-head j g = rw (← i, j) g
+  pub refused-head : (r : Result code.State Ruling) → k ≡ true → r ≡ Err (record { number = 13; place = n.offset })
+      → JudgedAs t (room m n.offset (first_broken_or (rules_from_13 n p w c target) s')) r o₁ x₁ z₁ y hs
+  refused-head r j g = rw (← i, j) g
 
-  module _ (j : k ≡ false) (l : List Record) (at : ℕ) (o o₂ : List ℕ) (a : code-laying.Laying)
-      (h : LaidWhen (ltb 0 (ruling_of from-14).number) (ruling_of from-14) l at o o₂ a) where
+  module _ (j : k ≡ false) (l : List Record) (at : ℕ) (o o₂ : List ℕ) where
     behind-head : first_broken_or (rules_from_13 n p w c target) s' ≡ judged_by (ruling_of from-14) (ok s')
-    behind-head = rw (← i, j) (first-broken-all from-14 s'
-        (written-positive (is_found c) w.place w.type target (or_no_def c).type))
+    behind-head = rw (← i, j) (first-broken-all from-14 s')
 
-    pub refused-type : (q : Ruling) → a ≡ Broken q → r ≡ Refused q.number q.place
-        → JudgedAs t (room m n.offset (first_broken_or (rules_from_13 n p w c target) s')) st r o₁ x₁ z₁ y hs
-    refused-type q e g = rw behind-head (go (ruling_of from-14) (ltb 0 (ruling_of from-14).number) refl h)
-      where
-        go : (v : Ruling) (u : Bool) → ltb 0 v.number ≡ u → LaidWhen u v l at o o₂ a
-            → JudgedAs t (room m n.offset (judged_by v (ok s'))) st r o₁ x₁ z₁ y hs
-        go v true f h = let i : q ≡ v = cc in rw f (g ∙ ap (λ (x : Ruling). Refused x.number x.place) i)
-        go v false f h = let d = h.0 in let z : ◌≡◌ {A = ℕ} 0 1 = cc in absurd (omega arith)
+    pub refused-type : (q : Ruling) → LaidWhen (ruling_of from-14) l at o o₂ (Err q)
+        → JudgedAs t (room m n.offset (first_broken_or (rules_from_13 n p w c target) s')) (Err q) o₁ x₁ z₁ y hs
+    refused-type q h = rw (behind-head, broken-laid _ l at o o₂ q h) refl
 
-    pub fine-type : (z : Size) → a ≡ Whole z → first_broken_or (rules_from_13 n p w c target) s' ≡ ok s'
-    fine-type z e =
-        let u : ltb 0 (ruling_of from-14).number ≡ false = (whole-laid _ _ l at o o₂ a z h e).1 in
-        behind-head ∙ rw u
+    pub fine-type : (z : Size) → LaidWhen (ruling_of from-14) l at o o₂ (Ok z)
+        → first_broken_or (rules_from_13 n p w c target) s' ≡ ok s'
+    fine-type z h = behind-head ∙ ap (λ (u : Result ⊤ Ruling). judged_by u (ok s')) (whole-laid _ l at o o₂ z h).1
 
 -- ---- between the stages
 module _ {t : List ℕ} {s : State} {st : code.State} {n : Name} {p : List
@@ -340,13 +284,10 @@ module _ {t : List ℕ} {s : State} {st : code.State} {n : Name} {p : List
   pub once : Once w.type
   once = once-named s n w.type h.named
 
-  pub leads-off : (ruling_of (among_rules domain b (resolved s b) w.type (target_in s w))).number ≡ 0
-  leads-off = ap (λ (r : Ruling). r.number) (sym h.leads.ruling) ∙ h.reaches
-
   pub a-base : BaseIs t (resolved s b)
   a-base = base-is t (length (records s)) (resolved s b)
       (any-resolved (FairDef t (length (records s))) s h.keeps.fair.defs b)
-      (extends-sort b (resolved s b) w.type (target_in s w) leads-off)
+      (extends-sort b (resolved s b) w.type (target_in s w) h.reaches)
 
   -- the unit of its type
   pub unit-in : UnitIn (known s.decls) (or_no_def (resolved s b)).type
@@ -384,7 +325,7 @@ module _ {t : List ℕ} {s : State} {st : code.State} {n : Name} {p : List
   pub next-fair : from_rule_13 s n p b w ≡ ok (declared_in s n p b w) → FairState t (declared_in s n p b w)
   next-fair f =
       judge-fair t s (declared_in s n p b w) (U.domain n p b w) h.comes.fair
-      h.comes.stands h.keeps.fair (passed-both s n p b w h.named leads-off ∙ f)
+      h.comes.stands h.keeps.fair (passed-both s n p b w h.named h.reaches ∙ f)
 
 -- a base that is not there gives no values
 pub unbased : (c : Option Def) → is_found c ≡ false → (or_no_def c).type ≡ structure
@@ -394,16 +335,10 @@ unbased (some c) f = never (sym f)
 pub based-of : {t : List ℕ} {s : State} {st : code.State} {n : Name} {p : List
     (List ℕ)} {b : Option Reference} {w : Written} {o x z y hs rs : List ℕ} {d : DomainUnit} {e : Reached}
     → Keeps t s st o x z y hs → Comes t s (U.domain n p b w) (Domain d) rs
-    → (q : Ruling) → q ≡ ruling_of (name_rules s n w.type) → q.number ≡ 0
-    → Leads s b w e → e.ruling.number ≡ 0
+    → Ok tt ≡ ruling_of (name_rules s n w.type)
+    → Ruled (Ok e) (among_rules domain b (resolved s b) w.type (target_in s w)) (Leads s b w)
     → Extending t s st n p b w o x z y hs rs d e
-based-of k h q f g i j = record {
-  keeps = k;
-  comes = h;
-  named = ap (λ (r : Ruling). r.number) (sym f) ∙ g;
-  reaches = j;
-  leads = i;
-}
+based-of k h f g = record { keeps = k; comes = h; named = sym f; reaches = g.0; leads = g.1 }
 
 -- ---- its type over the base's
 module _ {t : List ℕ} {s : State} {st : code.State} {n : Name} {p : List
@@ -442,8 +377,8 @@ module _ {t : List ℕ} {s : State} {st : code.State} {n : Name} {p : List
     valued : Valued kind of
     valued = typed-valued t front kind of of_base
 
-    pub over-is : (u : ℕ) → ((t : List ℕ) (ks : List Def) (count : ℕ) → e.target ≤ count → Known t ks x count
-        → u ≡ unit_number (measure_in (entry ks e.target))) → (own' : Typing)
+    pub over-is : (u : code·Option ℕ) → ((t : List ℕ) (ks : List Def) (count : ℕ) → e.target ≤ count
+        → Known t ks x count → u ≡ unit_number (measure_in (entry ks e.target))) → (own' : Typing)
         → ((v : Option WrittenType) (g : Option Def) (k : Ty) → m ≡ any_of v → u ≡ unit_number (measure_in g)
         → Valued k of → Valued (domain_type v g k) own') → (f : Bool)
         → ((t : List ℕ) (ks : List Def) → Known t ks x st.listing.count → Chained ks x → Rising ks
@@ -477,34 +412,32 @@ module _ {t : List ℕ} {s : State} {st : code.State} {n : Name} {p : List
     from-14· c = written_rules c w.place w.type (target_in s w) kind
 
     -- what lay_written ensures of this domain
-    pub laid : (o₂ : List ℕ) (a : code-laying.Laying) → ((u : Option WrittenType) (g : Option Def) (k : Ty)
+    pub laid : (o₂ : List ℕ) (a : Result Size Ruling) → ((u : Option WrittenType) (g : Option Def) (k : Ty)
         → d.written.meant ≡ any_of u → is_naming u ≡ false → AnyIs (Begins d.written.place) u → Scratched t rs u
         → Once u → FairOrNone t k → (r.based ≡ false → k ≡ structure) → Valued (domain_type u g k) r.own
         → Typed t front k r.base → r.keeps ≡ keeps_unit (domain_type u g k) k
-        → LaidWhen (ltb 0 (ruling_of (written_rules r.based d.written.place u g k)).number)
-        (ruling_of (written_rules r.based d.written.place u g k)) (type_records (domain_type u g k))
+        → LaidWhen (ruling_of (written_rules r.based d.written.place u g k)) (type_records (domain_type u g k))
         (st.extent.used + head_size) o o₂ a)
-        → LaidWhen (ltb 0 (ruling_of (from-14· (is_found (resolved s b)))).number)
-        (ruling_of (from-14· (is_found (resolved s b)))) (type_records own) (st.extent.used + head_size) o o₂ a
+        → LaidWhen (ruling_of (from-14· (is_found (resolved s b)))) (type_records own)
+        (st.extent.used + head_size) o o₂ a
     laid o₂ a g =
         let i : d.written.place ≡ w.place = ap (λ (u : DomainUnit). u.written.place) unit in
         let q = g w.type (target_in s w) kind (ap (λ (u : DomainUnit). u.written.meant) unit) h.comes.fair.3
         (rw i h.comes.fair.2.begins) (unit-scratch h.comes) (once h) (a-base h).fair
         (λ f. unbased (resolved s b) (v.based ∙ f)) v.own v.of_base v.keeps in
         subst
-        (λ (u : Bool). LaidWhen (ltb 0 (ruling_of (from-14· u)).number) (ruling_of (from-14· u)) (type_records own)
-        (st.extent.used + head_size) o o₂ a) (sym v.based) (rw i at q)
+        (λ (u : Bool). LaidWhen (ruling_of (from-14· u)) (type_records own) (st.extent.used + head_size) o o₂ a)
+        (sym v.based) (rw i at q)
 
     -- where no rule is broken
-    pub whole : (o₂ : List ℕ) (a : code-laying.Laying)
-        → LaidWhen (ltb 0 (ruling_of (from-14· (is_found (resolved s b)))).number)
-        (ruling_of (from-14· (is_found (resolved s b)))) (type_records own) (st.extent.used + head_size) o o₂ a
-        → (z : Size) → a ≡ Whole z → (z ≡ size_of (type_records own))
+    pub whole : (o₂ : List ℕ) (z : Size) → LaidWhen (ruling_of (from-14· (is_found (resolved s b)))) (type_records own)
+        (st.extent.used + head_size) o o₂ (Ok z)
+        → (z ≡ size_of (type_records own))
         × (st.extent.used + head_size + length (bytes (type_records own)) ≤ length o
         → o₂ ≡ splice o (st.extent.used + head_size) (bytes (type_records own)))
-    whole o₂ a l z q =
-        let u = whole-laid (ltb 0 (ruling_of (from-14· (is_found (resolved s b)))).number)
-        (ruling_of (from-14· (is_found (resolved s b)))) (type_records own) (st.extent.used + head_size) o o₂ a z l q in
+    whole o₂ z l =
+        let u = whole-laid (ruling_of (from-14· (is_found (resolved s b)))) (type_records own)
+        (st.extent.used + head_size) o o₂ z l in
         (u.0, u.2)
 
 -- ---- a lent table or buffer keeps its length

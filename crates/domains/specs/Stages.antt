@@ -1,5 +1,5 @@
 -- The rules of a domain in stages, and what holds between them.
-use Rattle.std.specs.Prelude.{◌≡◌, not, ◌&&◌, ◌||◌, List, [], ◌∷◌, ℕ, ◌+◌, ◌≤◌, length}
+use Rattle.std.specs.Prelude.{◌≡◌, not, ◌&&◌, ◌||◌, List, [], ◌∷◌, ℕ, ◌+◌, ◌≤◌, length, Ok}
 use Rattle.std.proofs.Math.Option.{Option}
 use Rattle.rules.specs.Names.{Name}
 use Rattle.rules.specs.Grammar.{Reference, WrittenType, Written}
@@ -21,7 +21,7 @@ use Rattle.units.specs.declared.DomainUnit.{DomainUnit}
 use Rattle.units.specs.declared.Unit.TheVariants.{Domain}
 use Rattle.ground.specs.Rulings.{ruling_of}
 use Rattle.state.specs.declared.State as code
-use Rattle.state.specs.Parts.{index_in, chains_in, rows_in}
+use Rattle.state.specs.declared.desk.Desk.{Desk}
 use Rattle.state.specs.Keeping.{Keeps, Comes}
 use Rattle.state.specs.Targets.{among_rules}
 use Rattle.fitting.specs.Values.{Valued, Typed}
@@ -33,9 +33,8 @@ use Rattle.domains.specs.declared.Reached.{Reached}
 abbrev pub name_rules : State → Name → Option WrittenType → List Rule
 name_rules s n w = rule 9 n.offset (is_found (at_hand s n.bytes)) ∷ element_rule w ∷ []
 
--- the rule of 10 to 12 that is broken, and the positions of what the references lead to
+-- the positions of what the references lead to
 pub record Leads (s : State) (b : Option Reference) (w : Written) (r : Reached) : Type 0 where
-  pub ruling : r.ruling ≡ ruling_of (among_rules domain b (resolved s b) w.type (target_in s w))
   pub base : entry (known s.decls) r.base ≡ resolved s b
   pub target : entry (known s.decls) r.target ≡ target_in s w
 
@@ -63,8 +62,8 @@ pub record Extending (t : List ℕ) (s : State) (st : code.State) (n : Name) (p 
     (w : Written) (o x z y hs rs : List ℕ) (d : DomainUnit) (e : Reached) : Type 0 where
   pub keeps : Keeps t s st o x z y hs
   pub comes : Comes t s (U.domain n p b w) (Domain d) rs
-  pub named : (ruling_of (name_rules s n w.type)).number ≡ 0
-  pub reaches : e.ruling.number ≡ 0
+  pub named : ruling_of (name_rules s n w.type) ≡ Ok tt
+  pub reaches : ruling_of (among_rules domain b (resolved s b) w.type (target_in s w)) ≡ Ok tt
   pub leads : Leads s b w e
 
 -- its type over its base's, each by value, in the book o
@@ -78,12 +77,11 @@ pub record OverIs (t o : List ℕ) (w : Option WrittenType) (base target : Optio
 abbrev pub records_of : State → Option Reference → Written → List Record
 records_of s b w = type_records (domain_type w.type (target_in s w) (or_no_def (resolved s b)).type)
 
--- Extending, with all rows and chains in the one slice v
-abbrev pub ExtendingIn : List ℕ → State → code.State → Name → List (List ℕ) → Option Reference → Written → List ℕ
-    → List ℕ → List ℕ → List ℕ → DomainUnit → Reached → Type 0
-ExtendingIn t s st n p b w o v hs rs d e =
-    let l = st.listing.layout in
-    Extending t s st n p b w o (index_in l v) (chains_in l v) (rows_in l v) hs rs d e
+-- Extending, over a desk, whose book may have other bytes o
+abbrev pub ExtendingIn : Desk → List ℕ → State → code.State → Name → List (List ℕ) → Option Reference → Written
+    → DomainUnit → Reached → Type 0
+ExtendingIn k o s st n p b w d e =
+    Extending k.text.now s st n p b w o k.index.now k.chains.now k.rows.now k.hand.now k.scratch.now d e
 
 -- the row of a domain
 abbrev pub domain_definition : code.State → code-name.Name → ℕ → ℕ → NewDefinition
@@ -105,13 +103,12 @@ pub record LaidBehind (rs : List Record) (st : code.State) (o o' : List ℕ) (si
       → o' ≡ splice o (st.extent.used + head_size) (bytes rs)
 
 -- some domain is Extending; and the records of its type are of that size
-abbrev pub SomeExtending : List ℕ → code.State → List ℕ → List ℕ → List ℕ → DomainUnit → Reached → Type 0
-SomeExtending t st o v rs d e =
-    (s : State) × (n : Name) × (p : List (List ℕ)) × (b : Option Reference) × (w : Written) × (hs : List ℕ)
-    × ExtendingIn t s st n p b w o v hs rs d e
+abbrev pub SomeExtending : Desk → code.State → DomainUnit → Reached → Type 0
+SomeExtending k st d e =
+    (s : State) × (n : Name) × (p : List (List ℕ)) × (b : Option Reference) × (w : Written)
+    × ExtendingIn k k.book.now s st n p b w d e
 
-abbrev pub SomeSized : List ℕ → code.State → ℕ → List ℕ → DomainUnit → Reached → Size → Type 0
-SomeSized t st m v d e size =
+abbrev pub SomeSized : Desk → code.State → DomainUnit → Reached → Size → Type 0
+SomeSized k st d e size =
     (s : State) × (n : Name) × (p : List (List ℕ)) × (b : Option Reference) × (w : Written) × (o : List ℕ)
-    × (hs : List ℕ) × (rs : List ℕ)
-    × ExtendingIn t s st n p b w o v hs rs d e × (length o ≡ m) × (size ≡ size_of (records_of s b w))
+    × ExtendingIn k o s st n p b w d e × (length o ≡ length k.book.now) × (size ≡ size_of (records_of s b w))

@@ -2,6 +2,7 @@
 #![tactic(auto)]
 
 ghost use Rattle.std.specs.Prelude.{◌≡◌, not, ◌&&◌, ◌||◌, List, [], ◌∷◌, ◌++◌, ℕ, ◌+◌, ◌*◌, ◌≤◌, ◌<◌, length, take};
+ghost use Rattle.std.specs.Prelude.{IfOk};
 ghost use Rattle.std.proofs.Math.Option.{Option, some};
 ghost use Rattle.rules.specs.Names as R;
 ghost use Rattle.rules.specs.Grammar as G;
@@ -26,10 +27,11 @@ ghost use Rattle.ground.specs.Rulings.{ruling_of};
 ghost use Rattle.fitting.specs.Values.{Valued, Typed, UnitNumbered};
 ghost use Rattle.types.specs.Writing.{Scratched};
 ghost use Rattle.state.specs.Keeping.{Comes, verdict, Kept, Answered};
+ghost use Rattle.state.specs.Targets.{among_rules, Ruled};
 ghost use Rattle.domains.specs.Stages.{name_rules, Leads, ExtendingIn, OverIs, domain_definition};
 ghost use Rattle.domains.specs.Stages.{SomeSized, SomeExtending, records_of, declared_in};
 ghost use Rattle.domains.specs.Stages.{LaidBehind, from_rule_13};
-ghost use Rattle.state.specs.Parts.{Loan, index_in, rows_in, chains_in, Ample};
+ghost use Rattle.state.specs.Desks.{Loan, Roomy, Stays, with_index, with_chains, with_tables};
 ghost use Rattle.tables.specs.Tables.{TableFor};
 
 use enumerations::Size;
@@ -38,100 +40,86 @@ use ground::{Name, Ruling, sorts};
 use names::NewDefinition;
 use parts::Properties;
 use parts::types::Meant;
-use state::{Judged, State, work};
+use state::State;
+use state::desk::Desk;
 use types::Over;
 use units::DomainUnit;
-use written::Laying;
 
-// The rule of 10 to 12 that is broken; the positions of what EXTENDS and the type's reference lead to, each 0 for
-// nothing.
+// The positions of what EXTENDS and the type's reference lead to, each 0 for nothing.
 #[derive(Clone, Copy)]
 struct Reached {
-    pub ruling: Ruling,
     pub base: usize,
     pub target: usize,
 }
 
 // 9 of the name and of the elements.
-fn name_ruling(
-    text: &[u8],
-    work: &[u16],
-    scratch: &[u8],
-    tables: &mut [u32],
-    st: State,
-    name: Name,
-    m: Meant,
-) -> Ruling
-    requires inside { Inside text.now name × Ample st (length work.now) }
-    requires scratch_len_bound { (length scratch.now ≤ 262144) × TableFor (length scratch.now) (length tables.old) }
-    ensures { (s : D.State) (n : R.Name) (w : Option G.WrittenType) (o hs : List ℕ)
-        → Kept text.now s st o work.now hs → name ≡ name_cut n → InText text.now n
-        → m ≡ any_of w → Scratched text.now scratch.now w → result ≡ ruling_of (name_rules s n w) }
+fn name_ruling(desk: &mut Desk, st: State, name: Name, m: Meant) -> Result<(), Ruling>
+    requires inside { Inside desk.old.text.now name × Roomy desk.old st }
+    requires scratch_len_bound { (length desk.old.scratch.now ≤ 262144)
+        × TableFor (length desk.old.scratch.now) (length desk.old.tables.now) }
+    ensures stays { Stays desk.old desk.new }
+    ensures only { desk.new ≡ with_tables desk.old desk.new.tables.now }
+    ensures value { (s : D.State) (n : R.Name) (w : Option G.WrittenType)
+        → Kept desk.old s st → name ≡ name_cut n → InText desk.old.text.now n
+        → m ≡ any_of w → Scratched desk.old.text.now desk.old.scratch.now w
+        → result ≡ ruling_of (name_rules s n w) }
 {
-    let listing = st.listing;
-    if state::is_taken(text, work, listing, st.context.home, name) {
-        return Ruling {
+    if desk.is_taken(st, name) {
+        return Err(Ruling {
             number: 9,
             place: name.offset,
-        };
+        });
     }
+    let text = desk.text;
+    let scratch = &mut *desk.scratch;
+    let tables = &mut *desk.tables;
     types::element_ruling(text, scratch, m, tables)
 }
 
 // 10 to 12 of both references.
-fn reach(text: &[u8], work: &[u16], st: State, d: DomainUnit) -> Reached
-    requires inside { Inside text.now st.context.model × Ample st (length work.now) }
-    requires by_index { (s : D.State) × (n : R.Name) × (p : List (List ℕ)) × (b : Option G.Reference) × (w : G.Written)
-        × (rs : List ℕ) × Comes text.now s (U.domain n p b w) (V-as-Domain d) rs }
-    ensures { (result.base ≤ st.listing.count) × (result.target ≤ st.listing.count)
-        × ((s : D.State) (n : R.Name) (p : List (List ℕ)) (b : Option G.Reference) (w : G.Written) (o hs rs : List ℕ)
-        → Kept text.now s st o work.now hs
-        → Comes text.now s (U.domain n p b w) (V-as-Domain d) rs → Leads s b w result) }
+fn reach(desk: &Desk, st: State, d: DomainUnit) -> Result<Reached, Ruling>
+    requires inside { Inside desk.now.text.now st.context.model × Roomy desk.now st }
+    requires comes { (s : D.State) × (n : R.Name) × (p : List (List ℕ)) × (b : Option G.Reference) × (w : G.Written)
+        × (rs : List ℕ) × Comes desk.now.text.now s (U.domain n p b w) (V-as-Domain d) rs }
+    ensures { IfOk result (λ e. (e.base ≤ st.listing.count) × (e.target ≤ st.listing.count))
+        × ((s : D.State) (n : R.Name) (p : List (List ℕ)) (b : Option G.Reference) (w : G.Written) (rs : List ℕ)
+        → Kept desk.now s st → Comes desk.now.text.now s (U.domain n p b w) (V-as-Domain d) rs
+        → Ruled result (among_rules domain b (resolved s b) w.type (target_in s w)) (Leads s b w)) }
 {
-    let b = d.base;
-    let e = state::extends(text, work, st, sorts::DOMAIN, b);
+    let extended = desk.extends(st, sorts::DOMAIN, d.base);
     let w = d.written;
-    let m = w.meant;
-    let r = w.reference;
-    let target = state::target(text, work, st, r);
-    let i = st.listing.layout.index;
-    let j = st.listing.layout.rows;
-    let of_type = state::target_ruling(&work[i..j], m, r, target);
-    Reached {
-        ruling: state::earlier(e.ruling, of_type),
-        base: e.base,
-        target,
-    }
+    let target = desk.target(st, w.reference);
+    let of_type = state::target_ruling(desk.index, w.meant, w.reference, target);
+    let base = state::earlier(extended, of_type)?;
+    Ok(Reached { base, target })
 }
 
 // The type of the domain at a position; a structure where there is none.
-fn base_type(book: &[u8], used: usize, index: &[u16], base: usize) -> Typing
-    requires { (used ≤ length book.now) × (length book.now ≤ 65535) × Rows index.now base }
+fn base_type(desk: &Desk, used: usize, base: usize) -> Typing
+    requires { (used ≤ length desk.now.book.now) × (length desk.now.book.now ≤ 65535) × Rows desk.now.index.now base }
     ensures { (t : List ℕ) (ks : List Def) (ms : List Attribute) (count : ℕ) (y : List ℕ) (total : ℕ)
-        → base ≤ count → Held t (take used book.now) ks ms index.now count y total
+        → base ≤ count → Held t (take used desk.now.book.now) ks ms desk.now.index.now count y total
         → ((d : Def) → entry ks base ≡ some d → (d.sort ≡ domain) × Fair t d.type × UnitNumbered d.type)
-        → Typed t (take used book.now) (or_no_def (entry ks base)).type result }
+        → Typed t (take used desk.now.book.now) (or_no_def (entry ks base)).type result }
 {
     if base == 0 {
         return Typing::Structure;
     }
-    fitting::type_behind(&book[..used], names::place_of(index, base))
+    fitting::type_behind(&desk.book[..used], names::place_of(desk.index, base))
 }
 
 // The type that is written over the base's.
-fn over_base(book: &[u8], work: &[u16], st: State, m: Meant, e: Reached) -> Over
-    requires { (st.extent.used ≤ length book.now) × (length book.now ≤ 65535) × Ample st (length work.now)
+fn over_base(desk: &Desk, st: State, m: Meant, e: Reached) -> Over
+    requires { (st.extent.used ≤ length desk.now.book.now) × (length desk.now.book.now ≤ 65535) × Roomy desk.now st
         × (e.base ≤ st.listing.count) × (e.target ≤ st.listing.count) }
-    ensures { (t : List ℕ) (s : D.State) (n : R.Name) (p : List (List ℕ)) (b : Option G.Reference)
-        (w : G.Written) (hs rs : List ℕ) (d : DomainUnit) → m ≡ d.written.meant
-        → ExtendingIn t s st n p b w book.now work.now hs rs d e
-        → OverIs t (take st.extent.used book.now) w.type (resolved s b) (target_in s w) result }
+    ensures { (s : D.State) (n : R.Name) (p : List (List ℕ)) (b : Option G.Reference) (w : G.Written)
+        (d : DomainUnit) → m ≡ d.written.meant → ExtendingIn desk.now desk.now.book.now s st n p b w d e
+        → OverIs desk.now.text.now (take st.extent.used desk.now.book.now) w.type (resolved s b) (target_in s w)
+        result }
 {
-    let i = st.listing.layout.index;
-    let r = st.listing.layout.rows;
-    let base = base_type(book, st.extent.used, &work[i..r], e.base);
-    let own = types::meant(m, base, fitting::unit_number(&work[i..r], e.target));
-    let keeps = types::keeps_unit(&work[i..r], st.listing.count, m, e.target, base);
+    let base = base_type(desk, st.extent.used, e.base);
+    let own = types::meant(m, base, fitting::unit_number(desk.index, e.target));
+    let keeps = types::keeps_unit(desk.index, st.listing.count, m, e.target, base);
     Over {
         based: 0 < e.base,
         own,
@@ -145,13 +133,7 @@ fn is_bad_head(p: Properties, own: Typing) -> bool
     ensures { (l : List (List ℕ)) (x : Ty) → p ≡ flags_of l → Valued x own
         → result ≡ (has_twice l || ((has_abstract l && has_final l) || (is_numeric x && not (has_abstract l)))) }
 {
-    if state::are_mixed(p) {
-        return true;
-    }
-    if p.is_abstract {
-        return false;
-    }
-    fitting::is_numeric(own)
+    state::are_mixed(p) || (fitting::is_numeric(own) && !p.is_abstract)
 }
 
 // MANDATORY holds if written, or if the base has it.
@@ -160,148 +142,112 @@ fn is_mandatory(index: &[u16], base: usize, written: bool) -> bool
     ensures { (t : List ℕ) (ks : List Def) (count : ℕ) → base ≤ count → Known t ks index.now count
         → result ≡ (written || (or_no_def (entry ks base)).mandatory) }
 {
-    if written {
-        return true;
-    }
-    if base == 0 {
-        return false;
-    }
-    names::is_mandatory(names::flags_of(index, base))
+    written || (base != 0 && names::is_mandatory(names::flags_of(index, base)))
 }
 
 // Its row behind the last, and its name.
-fn enter_domain(text: &[u8], work: &mut [u16], st: State, name: Name, flags: u8, base: usize)
-    requires inside { Inside text.now name × (length text.now ≤ 65535) × Ample st (length work.old) }
+fn enter_domain(desk: &mut Desk, st: State, name: Name, flags: u8, base: usize)
+    requires inside { Inside desk.old.text.now name × (length desk.old.text.now ≤ 65535) × Roomy desk.old st }
     requires home_bound { (st.context.home ≤ 65535) × (st.extent.records ≤ 65535) × (st.extent.used ≤ 65535)
         × (st.listing.count < 65535) × (st.listing.total ≤ 65535) × (base ≤ st.listing.count) }
-    ensures { (index_in st.listing.layout work.new ≡ splice
-        (index_in st.listing.layout work.old)
-        ((st.listing.count + 1) * definition_width) (definition_row (domain_definition st name flags base)))
-        × (rows_in st.listing.layout work.new ≡ rows_in st.listing.layout work.old)
-        × ((ks : List Def) (d : Def) → Chains ks (chains_in st.listing.layout work.old)
-        → st.listing.count ≡ length ks → bytes_of text.now name ≡ d.name.bytes
-        → Chains (ks ++ (d ∷ [])) (chains_in st.listing.layout work.new)) }
+    ensures stays { Stays desk.old desk.new }
+    ensures only { desk.new ≡ with_chains (with_index desk.old (splice desk.old.index.now
+        ((st.listing.count + 1) * definition_width) (definition_row (domain_definition st name flags base))))
+        desk.new.chains.now }
+    ensures chains { (ks : List Def) (d : Def) → Chains ks desk.old.chains.now
+        → st.listing.count ≡ length ks → bytes_of desk.old.text.now name ≡ d.name.bytes
+        → Chains (ks ++ (d ∷ [])) desk.new.chains.now }
 {
     let row = NewDefinition {
-        name: name,
+        name,
         home: st.context.home,
         number: st.extent.records,
         sort: sorts::DOMAIN,
-        flags: ground::wide(flags),
+        flags: usize::from(flags),
         place: st.extent.used,
-        base: base,
+        base,
         first: st.listing.total,
     };
-    work::declare(text, work, st, row);
+    desk.declare(st, row);
 }
 
 // 19, and the domain's records, its row and its name. Its type's records stand behind room for its head.
 fn add_domain(
-    text: &[u8],
-    book: &mut [u8],
-    work: &mut [u16],
+    desk: &mut Desk,
     st: State,
     d: DomainUnit,
     e: Reached,
     size: Size,
-) -> Judged
-    requires text_len_bound { (length text.now ≤ 65535) × (length book.old ≤ 65535) × (e.base ≤ st.listing.count) }
-    requires ample { Ample st (length work.old) }
-    requires some_sized { SomeSized text.now st (length book.old) work.old d e size }
-    ensures { (s : D.State) (n : R.Name) (p : List (List ℕ)) (b : Option G.Reference) (w : G.Written)
-        (o hs rs : List ℕ) → ExtendingIn text.now s st n p b w o work.old hs rs d e
-        → length o ≡ length book.old → LaidBehind (records_of s b w) st o book.old size
-        → FairState text.now (declared_in s n p b w)
-        → Answered text.now (room (lent (length o)) n.offset (ok (declared_in s n p b w)))
-        st result book.new work.new hs }
+) -> Result<State, Ruling>
+    requires text_len_bound { (length desk.old.text.now ≤ 65535) × (length desk.old.book.now ≤ 65535)
+        × (e.base ≤ st.listing.count) }
+    requires ample { Roomy desk.old st }
+    requires some_sized { SomeSized desk.old st d e size }
+    ensures stays { Stays desk.old desk.new }
+    ensures judged { (s : D.State) (n : R.Name) (p : List (List ℕ)) (b : Option G.Reference) (w : G.Written)
+        (o : List ℕ) → ExtendingIn desk.old o s st n p b w d e
+        → length o ≡ length desk.old.book.now → LaidBehind (records_of s b w) st o desk.old.book.now size
+        → FairState desk.old.text.now (declared_in s n p b w)
+        → Answered desk.new (room (lent (length o)) n.offset (ok (declared_in s n p b w))) result }
 {
     let name = d.name;
-    if written::has_room(book.len(), st.extent.used, size.bytes) {
-        let w = d.written;
-        let p = d.properties;
-        let i = st.listing.layout.index;
-        let m = st.listing.layout.rows;
-        let base = e.base;
-        let mandatory = is_mandatory(&work[i..m], base, w.mandatory);
-        let flags = state::flags(p.is_abstract, p.is_final, false, mandatory);
-        let of_base = state::base_number(&work[i..m], base);
-        let head = book::head_record(book::kinds::DOMAIN, name.offset, name.len, flags, of_base);
-        ground::put(book, st.extent.used, &head);
-        enter_domain(text, work, st, name, flags, base);
-        return Judged::Fine(st.declared(book::HEAD_SIZE + size.bytes, 1 + size.records, 1));
+    if !written::has_room(desk.book.len(), st.extent.used, size.bytes) {
+        return Err(Ruling {
+            number: 19,
+            place: name.offset,
+        });
     }
-    state::refused(19, name.offset)
+    let p = d.properties;
+    let index = &mut *desk.index;
+    let mandatory = is_mandatory(index, e.base, d.written.mandatory);
+    let of_base = state::base_number(index, e.base);
+    let flags = state::flags(p.is_abstract, p.is_final, false, mandatory);
+    let head = book::head_record(book::kinds::DOMAIN, name.offset, name.len, flags, of_base);
+    let book = &mut *desk.book;
+    ground::put(book, st.extent.used, &head);
+    enter_domain(desk, st, name, flags, e.base);
+    Ok(st.declared(book::HEAD_SIZE + size.bytes, 1 + size.records, 1))
 }
 
 // 13 to 17, 22 and 19.
-fn typed_domain(
-    text: &[u8],
-    book: &mut [u8],
-    work: &mut [u16],
-    scratch: &[u8],
-    tables: &mut [u32],
-    st: State,
-    d: DomainUnit,
-    e: Reached,
-) -> Judged
-    requires loan { Loan (length text.now) (length book.old) (length scratch.now) (length tables.old) }
-    requires ample { Ample st (length work.old) × (e.base ≤ st.listing.count) × (e.target ≤ st.listing.count) }
-    requires some_extending { SomeExtending text.now st book.old work.old scratch.now d e }
-    ensures { (s : D.State) (n : R.Name) (p : List (List ℕ)) (b : Option G.Reference) (w : G.Written)
-        (hs : List ℕ) → ExtendingIn text.now s st n p b w book.old work.old hs
-        scratch.now d e
-        → Answered text.now (room (lent (length book.old)) n.offset (from_rule_13 s n p b w))
-        st result book.new work.new hs }
+fn typed_domain(desk: &mut Desk, st: State, d: DomainUnit, e: Reached) -> Result<State, Ruling>
+    requires loan { Loan desk.old }
+    requires ample { Roomy desk.old st × (e.base ≤ st.listing.count) × (e.target ≤ st.listing.count) }
+    requires some_extending { SomeExtending desk.old st d e }
+    ensures stays { Stays desk.old desk.new }
+    ensures judged { (s : D.State) (n : R.Name) (p : List (List ℕ)) (b : Option G.Reference) (w : G.Written)
+        → ExtendingIn desk.old desk.old.book.now s st n p b w d e
+        → Answered desk.new (room (lent (length desk.old.book.now)) n.offset (from_rule_13 s n p b w)) result }
 {
-    let name = d.name;
-    let w = d.written;
-    let m = w.meant;
-    let over = over_base(book, work, st, m, e);
-    let own = over.own;
-    if is_bad_head(d.properties, own) {
-        return state::refused(13, name.offset);
+    let over = over_base(desk, st, d.written.meant, e);
+    if is_bad_head(d.properties, over.own) {
+        return Err(Ruling {
+            number: 13,
+            place: d.name.offset,
+        });
     }
-    let l = written::lay_written(text, book, st.extent.used, scratch, w, over, tables);
-    match l {
-        Laying::Broken(r) => state::refused(r.number, r.place),
-        Laying::Whole(size) => add_domain(text, book, work, st, d, e, size),
-    }
+    let text = desk.text;
+    let used = st.extent.used;
+    let book = &mut *desk.book;
+    let scratch = &mut *desk.scratch;
+    let tables = &mut *desk.tables;
+    let size = written::lay_written(text, book, used, scratch, d.written, over, tables)?;
+    add_domain(desk, st, d, e, size)
 }
 
 // A domain.
-pub fn judge_domain(
-    text: &[u8],
-    book: &mut [u8],
-    work: &mut [u16],
-    scratch: &[u8],
-    tables: &mut [u32],
-    st: State,
-    d: DomainUnit,
-) -> Judged
-    requires loan { Loan (length text.now) (length book.old) (length scratch.now) (length tables.old) }
-    requires ample { Ample st (length work.old) }
-    requires by_index { (s : D.State) × (n : R.Name) × (p : List (List ℕ)) × (b : Option G.Reference) × (w : G.Written)
-        × (hs : List ℕ)
-        × Kept text.now s st book.old work.old hs
-        × Comes text.now s (U.domain n p b w) (V-as-Domain d) scratch.now }
-    ensures { (s : D.State) (n : R.Name) (p : List (List ℕ)) (b : Option G.Reference) (w : G.Written)
-        (hs : List ℕ)
-        → Kept text.now s st book.old work.old hs
-        → Comes text.now s (U.domain n p b w) (V-as-Domain d) scratch.now
-        → Answered text.now (verdict s (U.domain n p b w) book.old)
-        st result book.new work.new hs }
+pub fn judge_domain(desk: &mut Desk, st: State, d: DomainUnit) -> Result<State, Ruling>
+    requires loan { Loan desk.old }
+    requires ample { Roomy desk.old st }
+    requires comes { (s : D.State) × (n : R.Name) × (p : List (List ℕ)) × (b : Option G.Reference) × (w : G.Written)
+        × Kept desk.old s st
+        × Comes desk.old.text.now s (U.domain n p b w) (V-as-Domain d) desk.old.scratch.now }
+    ensures stays { Stays desk.old desk.new }
+    ensures judged { (s : D.State) (n : R.Name) (p : List (List ℕ)) (b : Option G.Reference) (w : G.Written)
+        → Kept desk.old s st → Comes desk.old.text.now s (U.domain n p b w) (V-as-Domain d) desk.old.scratch.now
+        → Answered desk.new (verdict s (U.domain n p b w) desk.old.book.now) result }
 {
-    let name = d.name;
-    let w = d.written;
-    let m = w.meant;
-    let q = name_ruling(text, work, scratch, tables, st, name, m);
-    if 0 < q.number {
-        return state::refused(q.number, q.place);
-    }
-    let e = reach(text, work, st, d);
-    let x = e.ruling;
-    if 0 < x.number {
-        return state::refused(x.number, x.place);
-    }
-    typed_domain(text, book, work, scratch, tables, st, d, e)
+    name_ruling(desk, st, d.name, d.written.meant)?;
+    let e = reach(desk, st, d)?;
+    typed_domain(desk, st, d, e)
 }

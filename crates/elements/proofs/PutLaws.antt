@@ -1,12 +1,12 @@
 -- Parts written one after another, and the flag of a list that is set when it closes.
 use mathlib.Core.Path.{◌≡◌, refl, sym, ap, ◌∙◌}
-use mathlib.Core.Logic.{◌⊎◌, ⊎_elim}
-use mathlib.Core.Bool.{Bool}
+use mathlib.Core.Bool.{Bool, true, false}
 use mathlib.Core.List.{List, [], ◌∷◌, ◌++◌, append_assoc}
-use Prim.Native.Nat.{ℕ, suc, ◌+◌, ◌≤◌, ◌<◌}
+use Prim.Native.Nat.{ℕ, suc, ◌+◌, ◌≤◌}
 use native.Mathlib.Omega.{arith}
 use lib.ListN.{length, set, take, drop, length-append}
 use lib.Seq.{length-take-le, set_at}
+use Rattle.std.specs.Int.{from_bool}
 use Rattle.rules.specs.Enumerations.{Enum, end, final}
 use Rattle.rules.specs.Book.{bit}
 use Rattle.ground.specs.Parts.{splice}
@@ -21,13 +21,9 @@ put-put o p q i u v a b l x y h =
     let (f, z) = y (omega arith) in
     (omega arith, z ∙ rw w (splice-splice o i u a b (sym e) (omega arith)))
 
--- two bytes stored one after the other
-pub put_two : (o : List ℕ) (i a b : ℕ) → i + 2 ≤ length o → set (set o i a) (i + 1) b ≡ splice o i (a ∷ b ∷ [])
-put_two o i a b h =
-    let e : set o i a ≡ splice o i (a ∷ []) = set-splice o i a (omega arith) in
-    let l : length (splice o i (a ∷ [])) ≡ length o = length-splice o i (a ∷ []) (omega arith) in
-    ap (λ (x : List ℕ). set x (i + 1) b) e ∙ set-splice (splice o i (a ∷ [])) (i + 1) b (omega arith)
-    ∙ splice-splice o i (i + 1) (a ∷ []) (b ∷ []) refl (omega arith)
+flag_byte : (b : Bool) → from_bool b ≡ bit b 1
+flag_byte true = refl
+flag_byte false = refl
 
 flag-set : (b : List ℕ) (start f : ℕ) (vs : List ℕ) → start ≤ length b
     → set (splice b start (13 ∷ 0 ∷ vs)) (start + 1) f ≡ splice b start (13 ∷ f ∷ vs)
@@ -48,9 +44,10 @@ flag-set b start f vs h =
     len = length-append head (13 ∷ []) ∙ rw (length-take-le start b h)
 
 module _ (o : List ℕ) (start i : ℕ) (last : Bool) where
-  pub close-law : (f : ℕ) → f ≡ bit last 1 → Closed o (set (set o (start + 1) f) i 15) start i (i + 1) (end last)
-  close-law f g b vs e u h =
+  pub close-law : (f : ℕ) → f ≡ from_bool last → Closed o (set (set o (start + 1) f) i 15) start i (i + 1) (end last)
+  close-law f k b vs e u h =
       let x : ℕ = bit last 1 in
+      let g : f ≡ x = k ∙ flag_byte last in
       let h1 : start + length (13 ∷ x ∷ vs) ≤ length b = omega arith in
       let h2 : length (splice b start (13 ∷ x ∷ vs)) ≡ length b = length-splice b start (13 ∷ x ∷ vs) h1 in
       let q : set o (start + 1) f ≡ splice b start (13 ∷ x ∷ vs) = rw (g, e) (flag-set b start x vs (omega arith)) in (
@@ -58,12 +55,6 @@ module _ (o : List ℕ) (start i : ℕ) (last : Bool) where
         ap (λ (l : List ℕ). set l i 15) q ∙ set-splice (splice b start (13 ∷ x ∷ vs)) i 15 (omega arith)
             ∙ splice-splice b start i (13 ∷ x ∷ vs) (15 ∷ []) (sym u) (omega arith),
       )
-
-  -- where the list fits, the close does
-  pub close-not : (length o < i + 1) ⊎ (i ≤ start + 1) → (p : List ℕ) (r : ℕ) → Closed o p start i r (end last)
-  close-not n p r b vs e u h =
-      absurd (let l : length o ≡ length b = rw e (length-splice b start (13 ∷ 0 ∷ vs) (omega arith)) in
-      ⊎_elim (λ k. omega arith) (λ k. omega arith) n)
 
 -- a list that was written up to i, and then closed
 pub put-closed : (o p q : List ℕ) (start i r : ℕ) (vs : List ℕ) (x : Enum) → length p ≡ length o

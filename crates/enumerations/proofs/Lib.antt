@@ -3,4 +3,3 @@ pub mod StandLaws
 pub mod DeepLaws
 pub mod WrittenLaws
 pub mod KeptLaws
-pub mod CopyLaws

@@ -6,15 +6,16 @@ use Prim.Native.Nat.{ℕ, zero, suc, ◌+◌, ◌-◌, ◌≤◌, ◌<◌}
 use native.Mathlib.Omega.{arith}
 use lib.ListN.{length, get_or}
 use lib.Dec.{eqb, leb}
-use borrow.Author.Tests.{le-leb, lt-leb, ne_eqb, leb-true, leb-false, eqb-true}
+use borrow.Author.Tests.{le-leb, lt-leb, ne_eqb, leb-true, eqb-true}
 use Rattle.rules.specs.Bytes.{same}
 use Rattle.rules.specs.Book.{bit}
-use Rattle.rules.proofs.Tests.{split, fail-r}
+use Rattle.rules.proofs.Tests.{split}
 use Rattle.ground.specs.Parts.{part}
-use Rattle.enumerations.specs.Lists.{nowhere, is_element, is_opening, end_from, past_inner, written, same_names}
+use Rattle.std.specs.Prelude.{Some, None}
+use Rattle.enumerations.specs.Lists.{is_element, is_opening, end_from, past_inner, written, same_names}
 use Rattle.enumerations.specs.Lists.{find_from}
 use Rattle.book.specs.Names.{Written}
-use Rattle.book.specs.declared.Part.{Part}
+use Rattle.ground.specs.declared.Name as code
 use Rattle.book.specs.Sizes.{element_size, list_size}
 
 -- ---- the first byte of a record
@@ -28,10 +29,6 @@ pub element-short : (s : List ℕ) (p : ℕ) → length s < p + element_size →
 unfolding is_element
 element-short s p h = rw (lt-leb (p + element_size) (length s) h)
 
-pub element-byte : (s : List ℕ) (p : ℕ) → p + element_size ≤ length s → is_element s p ≡ eqb (get_or s p 0) 14
-unfolding is_element
-element-byte s p h = rw (le-leb (p + element_size) (length s) h)
-
 pub opening-in : (s : List ℕ) (p : ℕ) → is_opening s p ≡ true → (p + list_size ≤ length s) × (get_or s p 0 ≡ 13)
 unfolding is_opening
 opening-in s p h =
@@ -41,10 +38,6 @@ opening-in s p h =
 pub opening-short : (s : List ℕ) (p : ℕ) → length s < p + list_size → is_opening s p ≡ false
 unfolding is_opening
 opening-short s p h = rw (lt-leb (p + list_size) (length s) h)
-
-pub opening-byte : (s : List ℕ) (p : ℕ) → p + list_size ≤ length s → is_opening s p ≡ eqb (get_or s p 0) 13
-unfolding is_opening
-opening-byte s p h = rw (le-leb (p + list_size) (length s) h)
 
 -- the flag of an opening, read again
 pub bit-one : (f : Bool) → eqb (bit f 1) 1 ≡ f
@@ -83,48 +76,35 @@ more s p q F G h l e m zero w = absurd (omega arith)
 more s p q F G h l e m (suc f) w = m f (omega arith) ∙ sym (e f)
 
 -- ---- names
-pub names_in : (t : List ℕ) (a b : Part) → leb (a.start + a.len) (length t) ≡ true
-    → leb (b.start + b.len) (length t) ≡ true
-    → same_names t a b ≡ same (part t a.start a.len) (part t b.start b.len)
+pub names_in : (t : List ℕ) (a b : code.Name) → leb (a.offset + a.len) (length t) ≡ true
+    → leb (b.offset + b.len) (length t) ≡ true
+    → same_names t a b ≡ same (part t a.offset a.len) (part t b.offset b.len)
 unfolding same_names
 names_in t a b p q = rw (p, q)
 
-pub names-out-a : (t : List ℕ) (a b : Part) → leb (a.start + a.len) (length t) ≡ false → same_names t a b ≡ false
-unfolding same_names
-names-out-a t a b p = rw p
-
-pub names-out-b : (t : List ℕ) (a b : Part) → leb (b.start + b.len) (length t) ≡ false → same_names t a b ≡ false
-unfolding same_names
-names-out-b t a b p = fail-r (leb (a.start + a.len) (length t)) (rw p)
-
 -- ---- a step of the search
-pub find-here : (f : ℕ) (t s : List ℕ) (p : ℕ) (n : Part) → is_element s p ≡ true → same_names t n (written s p) ≡ true
-    → find_from (suc f) t s p n ≡ p + element_size
+pub find-here : (f : ℕ) (t s : List ℕ) (p : ℕ) (n : code.Name) → is_element s p ≡ true
+    → same_names t n (written s p) ≡ true
+    → find_from (suc f) t s p n ≡ Some (p + element_size)
 unfolding find_from
 find-here f t s p n e h = rw (e, h)
 
-pub find-next : (f : ℕ) (t s : List ℕ) (p : ℕ) (n : Part) → is_element s p ≡ true → same_names t n (written s p) ≡ false
+pub find-next : (f : ℕ) (t s : List ℕ) (p : ℕ) (n : code.Name) → is_element s p ≡ true
+    → same_names t n (written s p) ≡ false
     → find_from (suc f) t s p n ≡ find_from f t s (past_inner s (p + element_size)) n
 unfolding find_from
 find-next f t s p n e h = rw (e, h)
 
-pub find_none : (f : ℕ) (t s : List ℕ) (p : ℕ) (n : Part) → is_element s p ≡ false → find_from f t s p n ≡ nowhere
+pub find_none : (f : ℕ) (t s : List ℕ) (p : ℕ) (n : code.Name) → is_element s p ≡ false → find_from f t s p n ≡ None
 unfolding find_from
 find_none zero t s p n e = refl
 find_none (suc f) t s p n e = rw e
 
 -- ---- parts of the text
 pub part-is : {a b c d : ℕ} → a ≡ c → b ≡ d
-    → ◌≡◌ {A = Part} (record { start = a; len = b }) (record { start = c; len = d })
+    → ◌≡◌ {A = code.Name} (record { offset = a; len = b }) (record { offset = c; len = d })
 part-is p q = rw (p, q)
 
 -- the name in a record
-pub as_written : {s : List ℕ} {p : ℕ} {n : Part} → Written s p n → n ≡ written s p
+pub as_written : {s : List ℕ} {p : ℕ} {n : code.Name} → Written s p n → n ≡ written s p
 as_written w = part-is w.offset w.length
-
-pub within-leb : (a b n : ℕ) → b ≤ n → leb a (n - b) ≡ leb (a + b) n
-within-leb a b n h = go (leb (a + b) n) refl
-  where
-    go : (c : Bool) → leb (a + b) n ≡ c → leb a (n - b) ≡ c
-    go true e = let l = leb-true (a + b) n e in le-leb a (n - b) (omega arith)
-    go false e = let l = leb-false (a + b) n e in lt-leb a (n - b) (omega arith)

@@ -1,22 +1,24 @@
 -- What the code reads where a list of elements stands: its end, its elements by name, what is inside them.
-use mathlib.Core.Path.{◌≡◌, refl, ap, ◌∙◌}
-use mathlib.Core.Bool.{Bool, true, false, cond, not}
+use mathlib.Core.Path.{◌≡◌, refl, sym, ap, ◌∙◌}
+use mathlib.Core.Bool.{Bool, true, false, cond, not, true≢false}
 use mathlib.Core.Option.{some}
 use mathlib.Core.List.{List}
 use Prim.Native.Nat.{ℕ, zero, suc, ◌+◌, ◌-◌, ◌≤◌, ◌<◌}
 use native.Mathlib.Numerals.{add-one, sub-one}
 use native.Mathlib.Omega.{arith}
 use lib.ListN.{length, get_or}
-use lib.Dec.{ltb, leb}
-use borrow.Author.Tests.{lt-ltb, le-leb}
+use lib.Dec.{leb}
+use borrow.Author.Tests.{le-leb}
 use Rattle.rules.specs.Bytes.{same}
 use Rattle.rules.specs.Names.{Name}
 use Rattle.rules.specs.Enumerations.{Enum, end, elem, final, at, inner, has, or_empty, is_there}
 use Rattle.rules.proofs.Tests.{fail-r}
-use Rattle.enumerations.specs.Lists.{nowhere, is_element, is_opening, end_from, past_inner, inner_at, written}
-use Rattle.enumerations.specs.Lists.{same_names, find_from}
+use Rattle.std.specs.Prelude.{Option, Some, None, is_some, option_and_then}
+use Rattle.enumerations.specs.Lists.{is_element, is_opening, element_at, end_from, past_inner, inner_at, written}
+use Rattle.enumerations.specs.Lists.{list_of, final_of, same_names, find_from, find_of}
 use Rattle.enumerations.specs.Standing.{InText, plain, part_of, end_of, InsideBy, ListAt, InsideAt, ElementsAt}
-use Rattle.enumerations.proofs.ListLaws.{bit-one, element-in, element-short, opening-in, opening-short}
+use Rattle.enumerations.specs.Standing.{ElementAt, ElementsOf, InsideOf}
+use Rattle.enumerations.proofs.ListLaws.{bit-one, element-in, opening-in}
 use Rattle.enumerations.proofs.ListLaws.{end-element, end-opening, end-last, end-close, names_in, find-here}
 use Rattle.enumerations.proofs.ListLaws.{find-next, find_none}
 use Rattle.enumerations.specs.declared.End.{End}
@@ -136,9 +138,9 @@ module _ (t s : List ℕ) where
       names_in t (part_of n) (part_of m) (le-leb _ _ a.fits) (le-leb _ _ b.fits) ∙ rw (a.there, b.there)
 
   -- past the name of the element n of the list that stands at p
-  abbrev pub found : List ℕ → Enum → ℕ → ℕ
-  found n (end f) p = nowhere
-  found n (elem m i r) p = cond (same n m.bytes) (p + element_size) (found n r (next_of i p))
+  abbrev pub found : List ℕ → Enum → ℕ → Option ℕ
+  found n (end f) p = None
+  found n (elem m i r) p = cond (same n m.bytes) (Some (p + element_size)) (found n r (next_of i p))
 
   pub find-elements : (n : Name) → InText t n → (e : Enum) (p : ℕ) → ElementsAt t s e p → (f : ℕ) → length s - p < f →
       find_from f t s p (part_of n) ≡ found n.bytes e p
@@ -152,48 +154,90 @@ module _ (t s : List ℕ) where
     where
       go : (c : Bool) → same_names t (part_of n) (written s p) ≡ c
           → find_from g t s (next_of i p) (part_of n) ≡ found n.bytes r (next_of i p)
-          → find_from (suc g) t s p (part_of n) ≡ cond c (p + element_size) (found n.bytes r (next_of i p))
+          → find_from (suc g) t s p (part_of n) ≡ cond c (Some (p + element_size)) (found n.bytes r (next_of i p))
       go true e k = find-here g t s p _ h.0.there e
       go false e k = find-next g t s p _ h.0.there e ∙ rw (past-inside i (p + element_size) h.1) k
 
-  module _ (short : length s < nowhere) where
-    -- behind the name that is found stands what is inside the element
-    pub found_inside : (n : List ℕ) (e : Enum) (p : ℕ) → ElementsAt t s e p → InsideAt t s (inner n e) (found n e p)
-    found_inside n (end f) p h = opening-short s nowhere (omega arith)
-    found_inside n (elem m i r) p h = go (same n m.bytes) (found_inside n r _ h.2)
-      where
-        go : (c : Bool) → InsideAt t s (inner n r) (found n r (next_of i p)) →
-            InsideAt t s (or_empty (cond c (some i) (at n r))) (cond c (p + element_size) (found n r (next_of i p)))
-        go true k = h.1
-        go false k = k
+  -- behind the name that is found stands what is inside the element
+  found_inside : (n : List ℕ) (e : Enum) (p : ℕ) → ElementsAt t s e p → InsideOf t s (inner n e) (found n e p)
+  found_inside n (end f) p h = refl
+  found_inside n (elem m i r) p h = go (same n m.bytes) (found_inside n r _ h.2)
+    where
+      go : (c : Bool) → InsideOf t s (inner n r) (found n r (next_of i p)) →
+          InsideOf t s (or_empty (cond c (some i) (at n r)))
+          (cond c (Some (p + element_size)) (found n r (next_of i p)))
+      go true k = h.1
+      go false k = k
 
-    pub found-has : (n : List ℕ) (e : Enum) (p : ℕ) → ElementsAt t s e p → ltb (found n e p) nowhere ≡ has n e
-    found-has n (end f) p h = refl
-    found-has n (elem m i r) p h = go (same n m.bytes) (found-has n r _ h.2)
-      where
-        go : (c : Bool) → ltb (found n r (next_of i p)) nowhere ≡ has n r →
-            ltb (cond c (p + element_size) (found n r (next_of i p))) nowhere ≡ is_there (cond c (some i) (at n r))
-        go true k = lt-ltb (p + element_size) nowhere (let u = element-in s p h.0.there in omega arith)
-        go false k = k
+  found-has : (n : List ℕ) (e : Enum) (p : ℕ) → is_some (found n e p) ≡ has n e
+  found-has n (end f) p = refl
+  found-has n (elem m i r) p = go (same n m.bytes) (found-has n r _)
+    where
+      go : (c : Bool) → is_some (found n r (next_of i p)) ≡ has n r →
+          is_some (cond c (Some (p + element_size)) (found n r (next_of i p))) ≡ is_there (cond c (some i) (at n r))
+      go true k = refl
+      go false k = k
 
-    -- ---- what is inside an element
-    pub record Inside (i : Enum) (v : Inner) : Type 0 where
-      pub there : v.there ≡ not (plain i)
-      pub is_final : v.is_final ≡ final i
-      pub list : ElementsAt t s i v.list
+  -- what is found under the name n in the list e
+  pub record Sought (n : Name) (e : Enum) (m : Option ℕ) : Type 0 where
+    pub inside : InsideOf t s (inner n.bytes e) m
+    pub has : is_some m ≡ has n.bytes e
 
-    pub inside_is : (i : Enum) (m : ℕ) → InsideAt t s i m → Inside i (inner_at s m)
-    unfolding inner_at
-    inside_is (end true) m h =
-        rw h.0 (record { there = refl; is_final = rw h.1; list = list-elements t s (end true) (m + 2) h.2 })
-    inside_is (end false) m h =
-        rw h (record { there = refl; is_final = refl; list = element-short s nowhere (omega arith) })
-    inside_is (elem n i r) m h =
-        rw h.0 (record {
-          there = refl;
-          is_final = rw h.1 (bit-one (final r));
-          list = list-elements t s (elem n i r) (m + 2) h.2;
-        })
+  pub sought : (n : Name) → InText t n → (e : Enum) (o : Option ℕ) → ElementsOf t s e o
+      → Sought n e (find_of t s o (part_of n))
+  sought n a (end f) None h = record { inside = refl; has = refl }
+  sought n a (elem m i r) None h = absurd h
+  sought n a e (Some p) h =
+      rw (find-elements n a e p h (length s + 1) (omega arith))
+      (record { inside = found_inside n.bytes e p h; has = found-has n.bytes e p })
+
+  -- ---- the next element
+  pub no-element : (f : Bool) (o : Option ℕ) → ElementsOf t s (end f) o → element_at s o ≡ None
+  no-element f None h = refl
+  no-element f (Some p) h = rw h
+
+  pub record First (n : Name) (i r : Enum) (o : Option ℕ) : Type 0 where
+    pub p : ℕ
+    pub is : o ≡ Some p
+    pub here : element_at s o ≡ Some p
+    pub element : ElementAt t s n p
+    pub inside : InsideAt t s i (p + element_size)
+    pub rest : ElementsOf t s r (Some (past_inner s (p + element_size)))
+
+  pub first-element : (n : Name) (i r : Enum) (o : Option ℕ) → ElementsOf t s (elem n i r) o → First n i r o
+  first-element n i r None h = absurd h
+  first-element n i r (Some p) h = record {
+    p = p;
+    is = refl;
+    here = rw h.0.there;
+    element = h.0;
+    inside = h.1;
+    rest = rw (past-inside i (p + element_size) h.1) h.2;
+  }
+
+  -- ---- what is inside an element
+  pub record Inside (i : Enum) (v : Option Inner) : Type 0 where
+    pub there : is_some v ≡ not (plain i)
+    pub is_final : final_of v ≡ final i
+    pub list : ElementsOf t s i (list_of v)
+
+  pub inside_is : (i : Enum) (m : ℕ) → InsideAt t s i m → Inside i (inner_at s m)
+  unfolding inner_at
+  inside_is (end true) m h =
+      rw h.0 (record { there = refl; is_final = rw h.1; list = list-elements t s (end true) (m + 2) h.2 })
+  inside_is (end false) m h = rw h (record { there = refl; is_final = refl; list = tt })
+  inside_is (elem n i r) m h =
+      rw h.0 (record {
+        there = refl;
+        is_final = rw h.1 (bit-one (final r));
+        list = list-elements t s (elem n i r) (m + 2) h.2;
+      })
+
+  pub inside_of : (i : Enum) (m : Option ℕ) → InsideOf t s i m → Inside i (option_and_then (inner_at s) m)
+  inside_of (end true) None h = absurd (true≢false (sym h))
+  inside_of (end false) None h = record { there = refl; is_final = refl; list = tt }
+  inside_of (elem n i r) None h = absurd (true≢false (sym h))
+  inside_of i (Some m) h = inside_is i m h
 
 -- a list ends within the bytes that it stands in
 pub end-in : (t s : List ℕ) (e : Enum) (p : ℕ) → ListAt t s e p → end_of e p ≤ length s

@@ -13,6 +13,7 @@ use Rattle.rules.specs.Names.{Name}
 use Rattle.rules.specs.Enumerations.{Enum, end, elem, final}
 use Rattle.rules.specs.Book.{Record, bit, name_record, open_record, inner_records, element_records, bytes}
 use Rattle.rules.proofs.Tests.{fail-r, not-both}
+use Rattle.std.specs.Prelude.{Some}
 use Rattle.enumerations.specs.Lists.{is_element, is_opening, end_from, inner_at}
 use Rattle.enumerations.specs.Standing.{InText, Named, plain, Stands, ElementAt, end_of, InsideBy, ListAt}
 use Rattle.enumerations.proofs.ListLaws.{part-is, bit-one}
@@ -208,7 +209,7 @@ module _ (t s : List ℕ) where
 -- ---- what the code reads there
 -- what is read where an enumeration stands
 pub inner-stands : (t s : List ℕ) (e : Enum) (p : ℕ) → Stands t s e p
-    → inner_at s p ≡ record { list = p + list_size; there = true; is_final = final e }
+    → inner_at s p ≡ Some (record { list = p + list_size; is_final = final e })
 unfolding inner_at
 inner-stands t s e p h =
     let w = stands-whole t s e p h in

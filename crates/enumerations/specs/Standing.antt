@@ -1,13 +1,13 @@
 -- Where an enumeration stands as records in the bytes s, with its names in the text t.
 use Rattle.std.specs.Prelude.{◌≡◌, Bool, true, false, cond, not, List, [], ◌∷◌, ◌++◌, ℕ, ◌+◌, ◌-◌, ◌≤◌, ◌<◌, length}
-use Rattle.std.specs.Prelude.{get_or, drop}
+use Rattle.std.specs.Prelude.{get_or, drop, Option, Some, None}
 use Rattle.std.proofs.Math.Option.{none}
 use Rattle.rules.specs.Names.{Name}
 use Rattle.rules.specs.Symbols.{is_name_text}
 use Rattle.rules.specs.Enumerations.{Enum, end, elem, final, twice}
 use Rattle.rules.specs.Book.{bit, open_record, element_records, bytes}
 use Rattle.ground.specs.Parts.{part}
-use Rattle.book.specs.declared.Part.{Part}
+use Rattle.ground.specs.declared.Name as code
 use Rattle.enumerations.specs.Lists.{is_element, is_opening, written}
 use Rattle.book.specs.Sizes.{element_size, list_size}
 
@@ -52,8 +52,8 @@ pub record Kept (t : List ℕ) (e : Enum) : Type 0 where
   pub once : twice e [] ≡ none
 
 -- ---- of its lists
-abbrev pub part_of : Name → Part
-part_of n = record { start = n.offset; len = length n.bytes }
+abbrev pub part_of : Name → code.Name
+part_of n = record { offset = n.offset; len = length n.bytes }
 
 pub record ElementAt (t s : List ℕ) (n : Name) (p : ℕ) : Type 0 where
   pub there : is_element s p ≡ true
@@ -86,3 +86,17 @@ ElementsAt t s (end f) p = is_element s p ≡ false
 ElementsAt t s (elem n i r) p =
     ElementAt t s n p × InsideAt t s i (p + element_size)
     × ElementsAt t s r (cond (plain i) (p + element_size) (end_of i (p + element_size + list_size)))
+
+-- the same in a list, if there is one
+abbrev pub IsEmpty : Enum → Type 0
+IsEmpty (end f) = Unit {0}
+IsEmpty (elem n i r) = ⊥
+
+abbrev pub ElementsOf : List ℕ → List ℕ → Enum → Option ℕ → Type 0
+ElementsOf t s e None = IsEmpty e
+ElementsOf t s e (Some p) = ElementsAt t s e p
+
+-- what is inside an element stands at a place, or it has no records and there is none
+abbrev pub InsideOf : List ℕ → List ℕ → Enum → Option ℕ → Type 0
+InsideOf t s i None = plain i ≡ true
+InsideOf t s i (Some m) = InsideAt t s i m

@@ -3,17 +3,17 @@ use mathlib.Core.Path.{◌≡◌, refl, sym, ap, ◌∙◌}
 use mathlib.Core.Bool.{Bool, true, false, cond}
 use mathlib.Core.Option.{Option, none, some}
 use mathlib.Core.List.{List, [], ◌∷◌, ◌++◌, append_assoc}
-use Prim.Native.Nat.{ℕ, zero, suc, ◌+◌, ◌-◌, ◌*◌, ◌/◌, ◌%◌, ◌≤◌, ◌<◌, ◌^◌}
+use Prim.Native.Nat.{ℕ, suc, ◌+◌, ◌-◌, ◌*◌, ◌/◌, ◌%◌, ◌≤◌, ◌<◌, ◌^◌}
 use native.Mathlib.Nat.{add_assoc, div-add-mod', mod-lt}
 use native.Mathlib.Omega.{arith}
 use lib.ListN.{length, get_or, drop, length-append, length-drop}
 use lib.Seq.{get_or-drop}
-use lib.IntN.{ℤ, pos, negsuc, neg_ℤ, pred_ℤ, nat_abs, ◌-ℤ◌, +ℤ_idl, -ℤ_one}
+use Rattle.std.specs.Prelude.{None, Option as code·Option}
+use lib.IntN.{ℤ, pos, negsuc, nat_abs}
 use mir.Syntax.{w64}
-use mir.Val.{SFits, to_z}
-use mir.Facts.{to_z_pos}
+use mir.Val.{to_z}
 use lib.Dec.{lit<, eqb, leb}
-use borrow.Author.Tests.{lt-ltb, le-ltb, le-leb}
+use borrow.Author.Tests.{lt-ltb, le-leb, ne_eqb}
 use Rattle.rules.specs.Numbers.{magnitude_limit, Range}
 use Rattle.rules.specs.Enumerations.{final}
 use Rattle.rules.specs.Types.{Measure, Ty, text, numeric, structure, enum}
@@ -21,13 +21,13 @@ use Rattle.rules.specs.Book.{bit, low_first, twos, length_or, bytes, number_reco
 use Rattle.rules.specs.Book.{open_record}
 use Rattle.rules.specs.Book.{element_records}
 use Rattle.rules.specs.Show.{read4}
-use Rattle.numbers.proofs.SignedLaws.{held, Holds, holds}
+use Rattle.numbers.proofs.SignedLaws.{kept}
 use Rattle.book.specs.Places.{Stands}
 use Rattle.book.proofs.StandLaws.{stands-behind}
 use Rattle.rules.specs.All.{AnyIs}
 use Rattle.wellformed.specs.Fairness.{FairLimit, Fair}
-use Rattle.fitting.specs.Values.{unit_number, Typed, UnitNumbered}
-use Rattle.fitting.specs.Places.{signed_of, signed_at, text_at, unit_at, range_at, typing_at}
+use Rattle.fitting.specs.Values.{unit_number, limit_by, Typed, UnitNumbered}
+use Rattle.fitting.specs.Places.{signed_of, signed_at, limit_read, text_at, unit_at, range_at, typing_at}
 use Rattle.fitting.specs.declared.Typing.{Typing}
 use Rattle.fitting.specs.declared.Typing.TheVariants as typing
 
@@ -56,55 +56,11 @@ eight : (n : ℕ) → n < 18446744073709551616
     → (low_half n + low_half (rest4 n) * 4294967296 ≡ n) × (low_half n < 4294967296) × (low_half (rest4 n) < 4294967296)
 eight n h = let a = four n in let b = four (rest4 n) in (omega arith, omega arith, omega arith)
 
-signed_low : (l h n : ℕ) → n < magnitude_limit → l + h * 4294967296 ≡ n → signed_of l h ≡ pos n
-signed_low l h n s e = rw (lt-ltb h 2147483648 (omega arith), e)
-
-signed_high : (l h n : ℕ) → suc n < magnitude_limit → l < 4294967296 → h < 4294967296
-    → l + h * 4294967296 ≡ 2 ^ 64 - suc n → signed_of l h ≡ negsuc n
-signed_high l h n s p q e =
-    let z : 4294967295 - l + (4294967295 - h) * 4294967296 ≡ n = omega arith in
-    rw (le-ltb h 2147483648 (omega arith), z)
-
 signed_back : (v : ℤ) → nat_abs v < magnitude_limit → signed_of (low_half (twos v)) (low_half (rest4 (twos v))) ≡ v
-signed_back (pos n) s = signed_low _ _ n s (eight n (omega arith)).0
-signed_back (negsuc n) s = let e = eight (2 ^ 64 - suc n) (omega arith) in signed_high _ _ n s e.1 e.2 e.0
-
--- what the code does with the halves a and b of 64 bits
-pub signed_below : (l h a b : ℕ) → a ≡ l → b ≡ h → a < 4294967296 → b < 2147483648
-    → to_z w64 (a + b * 4294967296) ≡ signed_of l h
-signed_below l h a b e f p q =
-    let s : a + b * 4294967296 < 2 ^ 63 = omega arith in
-    to_z_pos w64 s ∙ rw (e, f, lt-ltb h 2147483648 (omega arith))
-
-abbrev rest : ℕ → ℕ → ℕ
-rest a b = 4294967295 - a + (4294967295 - b) * 4294967296
-
-neg-fits : (n : ℕ) → n < 2 ^ 63 → SFits w64 (neg_ℤ (pos n))
-neg-fits zero h = record { sfits = omega arith }
-neg-fits (suc n) h = record { sfits = omega arith }
-
-neg-pred : (n : ℕ) → pred_ℤ (neg_ℤ (pos n)) ≡ negsuc n
-neg-pred zero = refl
-neg-pred (suc n) = refl
-
-turned : (n : ℕ) → n < 2 ^ 63 → Holds (pos 0 -ℤ to_z w64 n) (neg_ℤ (pos n))
-turned n h = holds (rw (to_z_pos w64 h, +ℤ_idl)) (neg-fits n h)
-
-lowered : (n : ℕ) → n < 2 ^ 63 → Holds (held (pos 0 -ℤ to_z w64 n) -ℤ pos 1) (negsuc n)
-lowered n h = holds (rw ((turned n h).1, -ℤ_one) (neg-pred n)) (record { sfits = h })
-
-module _ (l h a b : ℕ) (e : a ≡ l) (f : b ≡ h) (p : a < 4294967296) (q : b < 4294967296) (r : 2147483648 ≤ b) where
-  small : rest a b < 2 ^ 63
-  small = omega arith
-
-  pub first_fits : SFits w64 (pos 0 -ℤ to_z w64 (rest a b))
-  first_fits = (turned (rest a b) small).0
-
-  pub second_fits : SFits w64 (held (pos 0 -ℤ to_z w64 (rest a b)) -ℤ pos 1)
-  second_fits = (lowered (rest a b) small).0
-
-  pub signed_above : held (held (pos 0 -ℤ to_z w64 (rest a b)) -ℤ pos 1) ≡ signed_of l h
-  signed_above = (lowered (rest a b) small).1 ∙ rw (e, f, le-ltb h 2147483648 (omega arith))
+signed_back (pos n) s =
+    ap (to_z w64) (eight n (omega arith)).0 ∙ kept (pos n) (omega arith)
+signed_back (negsuc n) s =
+    ap (to_z w64) (eight (2 ^ 64 - suc n) (omega arith)).0 ∙ kept (negsuc n) (omega arith)
 
 -- ---- records
 read4-drop : (b : List ℕ) (i j : ℕ) → read4 b (i + j) ≡ read4 (drop i b) j
@@ -134,7 +90,7 @@ module _ (b : List ℕ) (i : ℕ) (h : i ≤ length b) where
       (omega arith, ap (λ (j : ℕ). get_or b j 0) z ∙ get_d_at b _ i 0 e)
 
   text-there : (k n : ℕ) (more : List ℕ) → n < 4294967296 → drop i b ≡ (k ∷ low_first 4 n) ++ more
-      → text_at k b i ≡ typing.Text k n
+      → text_at k b i ≡ typing.Text k (limit_read n)
   unfolding text_at
   text-there k n more s e =
       let l = long-enough b (k ∷ low_first 4 n) more i e h in
@@ -162,7 +118,7 @@ module _ (b : List ℕ) (i : ℕ) (h : i ≤ length b) where
       ap (λ (n : ℕ). eqb n 19) (ap (λ (j : ℕ). get_or b j 0) z ∙ get_d_at b _ i 0 s.bytes_are) ∙ s.no_unit in
       rw k (either (leb (i + 5) (length b)))
     where
-      either : (x : Bool) → ◌≡◌ {A = ℕ} (cond x 0 0) 0
+      either : (x : Bool) → ◌≡◌ {A = code·Option ℕ} (cond x None None) None
       either true = refl
       either false = refl
   unit-there (some u) f s =
@@ -177,18 +133,24 @@ limit-low : (n : Option ℕ) → AnyIs FairLimit n → length_or n < 4294967296
 limit-low none f = omega arith
 limit-low (some n) f = f.1
 
+limit-read : (n : Option ℕ) → AnyIs FairLimit n → limit_read (length_or n) ≡ limit_by n
+limit-read none f = refl
+limit-read (some n) f = rw (ne_eqb n 0 (λ e. omega arith))
+
 module _ (t b : List ℕ) (i : ℕ) where
   typed-text : (m : Bool) (n : Option ℕ) → Fair t (text m n) → Stands b i (type_records (text m n))
-      → typing_at b i ≡ typing.Text (cond m 9 8) (length_or n)
+      → typing_at b i ≡ typing.Text (cond m 9 8) (limit_by n)
   unfolding typing_at
   typed-text true n f s =
       let u : drop i b ≡ (9 ∷ low_first 4 (length_or n)) ++ s.behind = s.bytes_are in
       let p = first_byte b i s.within 9 (low_first 4 (length_or n)) _ u in
-      rw (lt-ltb i (length b) p.0, p.1) (text-there b i s.within 9 (length_or n) _ (limit-low n f) u)
+      rw (lt-ltb i (length b) p.0, p.1, ← limit-read n f)
+      (text-there b i s.within 9 (length_or n) _ (limit-low n f) u)
   typed-text false n f s =
       let u : drop i b ≡ (8 ∷ low_first 4 (length_or n)) ++ s.behind = s.bytes_are in
       let p = first_byte b i s.within 8 (low_first 4 (length_or n)) _ u in
-      rw (lt-ltb i (length b) p.0, p.1) (text-there b i s.within 8 (length_or n) _ (limit-low n f) u)
+      rw (lt-ltb i (length b) p.0, p.1, ← limit-read n f)
+      (text-there b i s.within 8 (length_or n) _ (limit-low n f) u)
 
   -- the unit's record behind the number's
   unit-behind : (r : Option Range) (u : Option Measure) → UnitNumbered (numeric r u)

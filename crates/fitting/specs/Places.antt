@@ -1,23 +1,27 @@
 -- The type whose record is at a place of a book, read from any bytes.
-use Rattle.std.specs.Prelude.{cond, List, ℕ, ◌+◌, ◌-◌, ◌*◌, length, get_or, ℤ, pos, negsuc, eqb, ltb, leb}
+use Rattle.std.specs.Prelude.{cond, List, ℕ, ◌+◌, ◌*◌, length, get_or, ℤ, eqb, ltb, leb, Option, Some, None}
+use Rattle.std.specs.Int.{cast_signed, w64}
 use Rattle.rules.specs.Show.{read4}
 use Rattle.fitting.specs.declared.Typing.{Typing}
 use Rattle.fitting.specs.declared.Typing.TheVariants.{Text, Range, Numeric, Enumeration, Structure}
 
 -- 64 bits in two's complement, of their low and their high half
 abbrev pub signed_of : ℕ → ℕ → ℤ
-signed_of l h =
-    cond (ltb h 2147483648) (pos (l + h * 4294967296)) (negsuc (4294967295 - l + (4294967295 - h) * 4294967296))
+signed_of l h = cast_signed w64 (l + h * 4294967296)
 
 abbrev pub signed_at : List ℕ → ℕ → ℤ
 signed_at b i = signed_of (read4 b i) (read4 b (i + 4))
 
-unfoldable pub text_at : ℕ → List ℕ → ℕ → Typing
-text_at k b i = cond (leb (i + 5) (length b)) (Text k (read4 b (i + 1))) Structure
+-- of a text without a greatest length it is written 0
+abbrev pub limit_read : ℕ → Option ℕ
+limit_read n = cond (eqb n 0) None (Some n)
 
--- the unit of a number whose record ends at the place i: 0 for none, else one more than its record number
-unfoldable pub unit_at : List ℕ → ℕ → ℕ
-unit_at b i = cond (leb (i + 5) (length b)) (cond (eqb (get_or b i 0) 19) (read4 b (i + 1) + 1) 0) 0
+unfoldable pub text_at : ℕ → List ℕ → ℕ → Typing
+text_at k b i = cond (leb (i + 5) (length b)) (Text k (limit_read (read4 b (i + 1)))) Structure
+
+-- the unit of a number whose record ends at the place i, by its record number
+unfoldable pub unit_at : List ℕ → ℕ → Option ℕ
+unit_at b i = cond (leb (i + 5) (length b)) (cond (eqb (get_or b i 0) 19) (Some (read4 b (i + 1))) None) None
 
 unfoldable pub range_at : List ℕ → ℕ → Typing
 range_at b i =

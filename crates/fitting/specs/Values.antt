@@ -1,10 +1,9 @@
 -- Types by value, as the code holds them.
-use Rattle.std.specs.Prelude.{◌≡◌, List, ℕ, ◌+◌, ◌≤◌, ◌<◌, nat_abs}
+use Rattle.std.specs.Prelude.{◌≡◌, List, ℕ, ◌≤◌, ◌<◌, nat_abs, Some, None, Option as code·Option}
 use Rattle.std.proofs.Math.Option.{Option, none, some}
 use Rattle.rules.specs.Numbers as N
 use Rattle.rules.specs.Numbers.{most_decimals, magnitude_limit}
 use Rattle.rules.specs.Types.{Measure, Ty, text, numeric, structure, enum, unit_of}
-use Rattle.rules.specs.Book.{length_or}
 use Rattle.rules.specs.All.{AnyIs}
 use Rattle.book.specs.Forms.{text_kind}
 use Rattle.enumerations.specs.Standing.{Stands}
@@ -12,10 +11,15 @@ use Rattle.wellformed.specs.Fairness.{Fair}
 use Rattle.fitting.specs.declared.Typing.{Typing}
 use Rattle.fitting.specs.declared.Typing.TheVariants.{Text, Range, Numeric, Enumeration, Structure}
 
--- 0 for none, else one more than the unit's record number
-abbrev pub unit_number : Option Measure → ℕ
-unit_number none = 0
-unit_number (some u) = u.number + 1
+-- the unit's record number
+abbrev pub unit_number : Option Measure → code·Option ℕ
+unit_number none = None
+unit_number (some u) = Some u.number
+
+-- the greatest length of a text
+abbrev pub limit_by : Option ℕ → code·Option ℕ
+limit_by none = None
+limit_by (some n) = Some n
 
 abbrev pub number_by : Option N.Range → Option Measure → Typing
 number_by none u = Numeric (unit_number u)
@@ -23,14 +27,14 @@ number_by (some r) u = Range r.decimals r.low r.high (unit_number u)
 
 -- of an enumeration it says nothing more
 abbrev pub Valued : Ty → Typing → Type 0
-Valued (text m n) c = c ≡ Text (text_kind m) (length_or n)
+Valued (text m n) c = c ≡ Text (text_kind m) (limit_by n)
 Valued (numeric r u) c = c ≡ number_by r u
 Valued (enum e) c = (p : ℕ) × (c ≡ Enumeration p)
 Valued structure c = c ≡ Structure
 
 -- the value of a type of the text t, whose enumeration stands in the book b
 abbrev pub Typed : List ℕ → List ℕ → Ty → Typing → Type 0
-Typed t b (text m n) c = c ≡ Text (text_kind m) (length_or n)
+Typed t b (text m n) c = c ≡ Text (text_kind m) (limit_by n)
 Typed t b (numeric r u) c = c ≡ number_by r u
 Typed t b (enum e) c = (p : ℕ) × (c ≡ Enumeration p) × Stands t b e p
 Typed t b structure c = c ≡ Structure

@@ -10,7 +10,7 @@ use lib.ListN.{length, take, drop, set, replicate, length-append, take-append-dr
 use lib.Dec.{leb}
 use lib.Seq.{length-take-le, take-append-le, take-take, take_at, drop-append-add, drop-drop, append_snoc, paste}
 use lib.Seq.{take-length, set_split, sets-eq, length-sets}
-use borrow.Author.Tests.{leb-true, le-leb, lt-leb}
+use borrow.Author.Tests.{leb-true, le-leb}
 use Rattle.rules.specs.Book.{padded}
 use Rattle.ground.specs.Parts.{splice, put_at}
 
@@ -45,10 +45,6 @@ paste-done l i s n e = rw (e, take-length s)
 pub put-fits : (l : List ℕ) (i : ℕ) (vs : List ℕ) → i + length vs ≤ length l → put_at l i vs ≡ splice l i vs
 unfolding put_at
 put-fits l i vs h = rw (le-leb (i + length vs) (length l) h)
-
-pub put-not : (l : List ℕ) (i : ℕ) (vs : List ℕ) → length l < i + length vs → put_at l i vs ≡ l
-unfolding put_at
-put-not l i vs h = rw (lt-leb (i + length vs) (length l) h)
 
 pub length-put : (l : List ℕ) (i : ℕ) (vs : List ℕ) → length (put_at l i vs) ≡ length l
 unfolding put_at

@@ -1,6 +1,5 @@
 pub mod PartLaws
 pub mod BufferLaws
-pub mod SignLaws
 pub mod TableLaws
 pub mod ScanLaws
 pub mod LentLaws

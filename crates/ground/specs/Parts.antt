@@ -8,7 +8,7 @@ abbrev pub run_end : (ℕ → Bool) → List ℕ → ℕ → ℕ
 run_end p t i = i + span p (drop i t)
 
 -- l with the bytes vs from the place i on
-abbrev pub splice : List ℕ → ℕ → List ℕ → List ℕ
+abbrev pub splice : {A : Type 0} → List A → ℕ → List A → List A
 splice l i vs = take i l ++ vs ++ drop (i + length vs) l
 
 -- the same, if they fit, and else l

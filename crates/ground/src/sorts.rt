@@ -1,4 +1,4 @@
-// The numbers of sorts: `sort_number`.
+// The numbers of sorts: `sort_number`. Numbers, not an enum, as the rows of fixed memory hold them.
 pub const TOPIC: usize = 0;
 
 pub const CLASS: usize = 1;

@@ -7,6 +7,7 @@ use Prim.Native.Nat.{ℕ, ◌+◌, ◌*◌, ◌≤◌, ◌<◌}
 use native.Mathlib.Omega.{arith}
 use lib.ListN.{length, set}
 use Rattle.rules.specs.Bytes.{same}
+use Rattle.std.specs.Prelude.{Result, Ok, Err}
 use Rattle.rules.specs.Names as R
 use Rattle.rules.specs.Units as U
 use Rattle.rules.specs.Declarations as D
@@ -16,6 +17,7 @@ use Rattle.rules.specs.Judge as J
 use Rattle.rules.specs.Judge.{ok, refused, first_broken_or, judge, declare, in_topic, open_name, end_rules, after_close}
 use Rattle.ground.specs.Parts.{splice}
 use Rattle.ground.specs.declared.Name.{Name}
+use Rattle.ground.specs.declared.Ruling.{Ruling}
 use Rattle.book.specs.Sizes.{topic_end_size, class_end_size}
 use Rattle.names.specs.Index.{row, Says, definition_width, Rows}
 use Rattle.names.specs.Chains.{Chains}
@@ -25,8 +27,6 @@ use Rattle.units.specs.declared.Unit.TheVariants.{Close}
 use Rattle.wellformed.specs.Fairness.{FairState}
 use Rattle.wellformed.proofs.KeepLaws.{judge-fair}
 use Rattle.state.specs.declared.State as code
-use Rattle.state.specs.declared.Judged as code-judged
-use Rattle.state.specs.declared.Judged.TheVariants.{Fine, Refused}
 use Rattle.state.specs.Keeping.{Calls, TopicIs, OpenIs, Keeps, JudgedAs, Comes, verdict}
 use Rattle.state.specs.Next.{grown_by, in_topic_by, closed_by}
 use Rattle.state.proofs.KeepLaws.{Written, written-splice, book-grown, records-declared, records-closed, open-fair}
@@ -34,10 +34,6 @@ use Rattle.state.proofs.KeepLaws.{keeps-closed, keeps-ended, keeps-in}
 use Rattle.state.proofs.JudgeLaws.{judged-refused, judged-over, judged-fine}
 
 -- ---- what is open
-pub name-read : (d : Def) (a b : ℕ) → a ≡ d.name.offset → b ≡ length d.name.bytes
-    → record { offset = a; len = b } ≡ name_cut d.name
-name-read d a b ea eb = rw (ea, eb)
-
 pub own-inside : (t : List ℕ) (d : Def) (r : List ℕ) (m : Name) → m ≡ name_cut d.name → Says t d r → Inside t m
 own-inside t d r m e h = rw e h.named.within
 
@@ -111,8 +107,9 @@ module _ (t : List ℕ) (s : State) (n : R.Name) (st : code.State) (o x z y hs r
   close-bytes : bytes_of t name ≡ n.bytes
   close-bytes = ap (bytes_of t) close-is ∙ c.fair.there
 
-  close-place : (r : code-judged.Judged) (i : ℕ) → r ≡ Refused i name.offset → r ≡ Refused i n.offset
-  close-place r i e = e ∙ ap (λ (q : Name). Refused i q.offset) close-is
+  close-place : (r : Result code.State Ruling) (i : ℕ) → r ≡ Err (record { number = i; place = name.offset })
+      → r ≡ Err (record { number = i; place = n.offset })
+  close-place r i e = e ∙ ap (λ (q : Name). Err (record { number = i; place = q.offset })) close-is
 
   close-fair : (s' : State) → judge s (U.close n) ≡ ok s' → FairState t s'
   close-fair s' e = judge-fair t s s' (U.close n) c.fair c.stands k.fair e
@@ -138,29 +135,30 @@ module _ (t : List ℕ) (s : State) (n : R.Name) (st : code.State) (o x z y hs r
     class-closed : v ≡ true → judge s (U.close n) ≡ ok (declare s (D.def d))
     class-closed e = class-at ∙ rw (alike own d.name eo v ev, e)
 
-    pub close-class-other : (r : code-judged.Judged) (o' x' z' y' : List ℕ) → v ≡ false → r ≡ Refused 8 name.offset
-        → JudgedAs t (verdict s (U.close n) o) st r o' x' z' y' hs
+    pub close-class-other : (r : Result code.State Ruling) (o' x' z' y' : List ℕ) → v ≡ false
+        → r ≡ Err (record { number = 8; place = name.offset })
+        → JudgedAs t (verdict s (U.close n) o) r o' x' z' y' hs
     close-class-other r o' x' z' y' e er =
         let j : judge s (U.close n) ≡ refused 8 n.offset = class-at ∙ rw (alike own d.name eo v ev, e) in
-        judged-refused t s (U.close n) o st r o' x' z' y' hs 8 n.offset j (close-place r 8 er)
+        judged-refused t s (U.close n) o r o' x' z' y' hs 8 n.offset j (close-place r 8 er)
 
-    pub close-class-over : (r : code-judged.Judged) (o' x' z' y' : List ℕ) → v ≡ true → length o < st.extent.used
-        + class_end_size → r ≡ Refused 19 name.offset → JudgedAs t (verdict s (U.close n) o) st r o' x' z' y' hs
+    pub close-class-over : (r : Result code.State Ruling) (o' x' z' y' : List ℕ) → v ≡ true → length o < st.extent.used
+        + class_end_size → r ≡ Err (record { number = 19; place = name.offset })
+        → JudgedAs t (verdict s (U.close n) o) r o' x' z' y' hs
     close-class-over r o' x' z' y' e w er =
         let f = open-fair t s st o x z y hs k d ec in
         let l = book-grown s (declare s (D.def d)) ((16 ∷ []) ∷ []) (records-closed s d f.structure ec f.sort) in
         let u = k.used in
-        judged-over t s (U.close n) o st r o' x' z' y' hs (declare s (D.def d)) (class-closed e) m
+        judged-over t s (U.close n) o r o' x' z' y' hs (declare s (D.def d)) (class-closed e) m
         (omega arith) (close-place r 19 er)
 
-    pub close-class-fine : (r : code-judged.Judged) (o' x' z' y' : List ℕ) (st' : code.State) → v ≡ true
-        → st.extent.used + class_end_size ≤ length o → r ≡ Fine st' → st' ≡ closed_by st
+    pub close-class-fine : (r : Result code.State Ruling) (o' x' z' y' : List ℕ) (st' : code.State) → v ≡ true
+        → st.extent.used + class_end_size ≤ length o → r ≡ Ok st' → st' ≡ closed_by st
         → (FairState t (declare s (D.def d)) → Keeps t (declare s (D.def d)) (closed_by st) o' x' z' y' hs)
-        → JudgedAs t (verdict s (U.close n) o) st r o' x' z' y' hs
+        → JudgedAs t (verdict s (U.close n) o) r o' x' z' y' hs
     close-class-fine r o' x' z' y' st' e w er es g =
-        judged-fine t s (U.close n) o st r o' x' z' y' hs (declare s (D.def d)) st' (class-closed e) m (rw es w) er
+        judged-fine t s (U.close n) o r o' x' z' y' hs (declare s (D.def d)) st' (class-closed e) m (rw es w) er
         (rw es (g (close-fair (declare s (D.def d)) (class-closed e))))
-        (rw es refl)
 
   module _ (ec : s.open_class ≡ none) where
     body_at : judge s (U.close n) ≡ judged_with none s.topic
@@ -174,31 +172,32 @@ module _ (t : List ℕ) (s : State) (n : R.Name) (st : code.State) (o x z y hs r
       topic-closed : v ≡ true → judge s (U.close n) ≡ ok (in_topic (declare s (end_topic d.name)) none)
       topic-closed e = topic-at ∙ rw (alike own d.name eo v ev, e)
 
-      pub close-topic-other : (r : code-judged.Judged) (o' : List ℕ) → v ≡ false → r ≡ Refused 8 name.offset
-          → JudgedAs t (verdict s (U.close n) o) st r o' x z y hs
+      pub close-topic-other : (r : Result code.State Ruling) (o' : List ℕ) → v ≡ false
+          → r ≡ Err (record { number = 8; place = name.offset })
+          → JudgedAs t (verdict s (U.close n) o) r o' x z y hs
       close-topic-other r o' e er =
           let j : judge s (U.close n) ≡ refused 8 n.offset = topic-at ∙ rw (alike own d.name eo v ev, e) in
-          judged-refused t s (U.close n) o st r o' x z y hs 8 n.offset j (close-place r 8 er)
+          judged-refused t s (U.close n) o r o' x z y hs 8 n.offset j (close-place r 8 er)
 
-      pub close-topic-over : (r : code-judged.Judged) (o' : List ℕ) → v ≡ true → length o < st.extent.used
-          + topic_end_size → r ≡ Refused 19 name.offset → JudgedAs t (verdict s (U.close n) o) st r o' x z y hs
+      pub close-topic-over : (r : Result code.State Ruling) (o' : List ℕ) → v ≡ true → length o < st.extent.used
+          + topic_end_size → r ≡ Err (record { number = 19; place = name.offset })
+          → JudgedAs t (verdict s (U.close n) o) r o' x z y hs
       close-topic-over r o' e w er =
           let l : length (book (declare s (end_topic d.name))) ≡ length (book s) + topic_end_size =
           book-grown s (declare s (end_topic d.name)) ((3 ∷ []) ∷ []) (records-declared s (end_topic d.name) ec) in
           let u = k.used in
-          judged-over t s (U.close n) o st r o' x z y hs (in_topic (declare s (end_topic d.name)) none)
+          judged-over t s (U.close n) o r o' x z y hs (in_topic (declare s (end_topic d.name)) none)
           (topic-closed e) m (omega arith) (close-place r 19 er)
 
-      pub close-topic-fine : (r : code-judged.Judged) (o' : List ℕ) (st' : code.State) → v ≡ true → st.extent.used
-          + topic_end_size ≤ length o → r ≡ Fine st'
+      pub close-topic-fine : (r : Result code.State Ruling) (o' : List ℕ) (st' : code.State) → v ≡ true → st.extent.used
+          + topic_end_size ≤ length o → r ≡ Ok st'
           → st' ≡ in_topic_by (grown_by st topic_end_size 1 0) own 0 → (w : List ℕ)
           → w ≡ 3 ∷ [] → o' ≡ splice o st.extent.used w
-          → JudgedAs t (verdict s (U.close n) o) st r o' x z y hs
+          → JudgedAs t (verdict s (U.close n) o) r o' x z y hs
       close-topic-fine r o' st' e w er es a ea eo' =
           let f = close-fair (in_topic (declare s (end_topic d.name)) none) (topic-closed e) in
-          judged-fine t s (U.close n) o st r o' x z y hs (in_topic (declare s (end_topic d.name)) none) st'
+          judged-fine t s (U.close n) o r o' x z y hs (in_topic (declare s (end_topic d.name)) none) st'
           (topic-closed e) m (rw es w) er (topic-ended t s st o x z y hs k ec d.name own st' es a o' ea eo' w f)
-          (rw es refl)
 
     module _ (et : s.topic ≡ none) (v : Bool) (ev : v ≡ same (bytes_of t name) (bytes_of t st.context.model)) where
       model-bytes : bytes_of t st.context.model ≡ s.model.bytes
@@ -207,17 +206,17 @@ module _ (t : List ℕ) (s : State) (n : R.Name) (st : code.State) (o x z y hs r
       model_at : judge s (U.close n) ≡ judged_with none none
       model_at = body_at ∙ ap (judged_with none) et
 
-      pub close-model-other : (r : code-judged.Judged) (o' x' z' y' : List ℕ) → v ≡ false → r ≡ Refused 8 name.offset
-          → JudgedAs t (verdict s (U.close n) o) st r o' x' z' y' hs
+      pub close-model-other : (r : Result code.State Ruling) (o' x' z' y' : List ℕ) → v ≡ false
+          → r ≡ Err (record { number = 8; place = name.offset })
+          → JudgedAs t (verdict s (U.close n) o) r o' x' z' y' hs
       close-model-other r o' x' z' y' e er =
           let j : judge s (U.close n) ≡ refused 8 n.offset =
           model_at ∙ rw (alike st.context.model s.model model-bytes v ev, e) in
-          judged-refused t s (U.close n) o st r o' x' z' y' hs 8 n.offset j (close-place r 8 er)
+          judged-refused t s (U.close n) o r o' x' z' y' hs 8 n.offset j (close-place r 8 er)
 
-      pub close-model-fine : (r : code-judged.Judged) → v ≡ true → r ≡ Fine st
-          → JudgedAs t (verdict s (U.close n) o) st r o x z y hs
+      pub close-model-fine : (r : Result code.State Ruling) → v ≡ true → r ≡ Ok st
+          → JudgedAs t (verdict s (U.close n) o) r o x z y hs
       close-model-fine r e er =
           let j : judge s (U.close n) ≡ ok s =
           model_at ∙ rw (alike st.context.model s.model model-bytes v ev, e) in
-          judged-fine t s (U.close n) o st r o x z y hs s st j m k.within er k
-          (refl)
+          judged-fine t s (U.close n) o r o x z y hs s st j m k.within er k

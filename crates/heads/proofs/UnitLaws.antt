@@ -9,6 +9,7 @@ use lib.ListN.{length, get_or}
 use lib.Dec.{eqb}
 use borrow.Author.Tests.{eq-eqb, ne_eqb, le-ltb}
 use Rattle.rules.specs.Bytes.{ascii, same}
+use Rattle.std.specs.Prelude.{Result, Ok, Err}
 use Rattle.rules.specs.Names as R
 use Rattle.rules.specs.Symbols as S
 use Rattle.rules.specs.Units as U
@@ -23,6 +24,7 @@ use Rattle.rules.proofs.Tests.{is_false}
 use Rattle.rules.proofs.ByteLaws.{same-eq}
 use Rattle.ground.specs.Parts.{part, splice}
 use Rattle.ground.specs.declared.Name.{Name}
+use Rattle.ground.specs.declared.Ruling.{Ruling}
 use Rattle.rules.proofs.PartLaws.{part-cons, length_part}
 use Rattle.book.specs.Forms.{name_form}
 use Rattle.book.specs.Sizes.{model_size, topic_size}
@@ -42,8 +44,6 @@ use Rattle.units.specs.Steps.{part_of}
 use Rattle.wellformed.specs.Fairness.{FairState}
 use Rattle.wellformed.proofs.KeepLaws.{judge-fair}
 use Rattle.state.specs.declared.State as code
-use Rattle.state.specs.declared.Judged as code-judged
-use Rattle.state.specs.declared.Judged.TheVariants.{Fine, Refused}
 use Rattle.state.specs.Keeping.{Keeps, JudgedAs, Comes, verdict, Small}
 use Rattle.state.specs.Next.{begun_by, declared_by}
 use Rattle.state.proofs.KeepLaws.{Written, written-splice, none_open, book-grown, records-declared, keeps-begun}
@@ -52,38 +52,6 @@ use Rattle.state.proofs.JudgeLaws.{calls-cut, judged-refused, judged-over, judge
 use Rattle.state.proofs.RowLaws.{Tells, def_row}
 use Rattle.book.proofs.StandLaws.{stands-new}
 use Rattle.heads.specs.Topics.{topic_by}
-
--- ---- 7: the three bytes of the edition
-module _ (t : List ℕ) (n : Name) (h : Inside t n) where
-  three : n.len ≡ 3 → bytes_of t n ≡ get_or t n.offset 0 ∷ get_or t (n.offset + 1) 0 ∷ get_or t (n.offset + 2) 0 ∷ []
-  three e =
-      let i : n.offset + 1 + 1 ≡ n.offset + 2 = omega arith in
-      ap (part t n.offset) e
-      ∙ part-cons t n.offset 3 (omega arith) (omega arith)
-      ∙ ap (λ (l : List ℕ). get_or t n.offset 0 ∷ l)
-      (part-cons t (n.offset + 1) 2 (omega arith) (omega arith) ∙ ap (λ (l : List ℕ). get_or t (n.offset + 1) 0 ∷ l)
-      (part-cons t (n.offset + 1 + 1) 1 (omega arith) (omega arith) ∙ ap (λ (k : ℕ). get_or t k 0 ∷ []) i))
-
-  pub edition-other : ¬ (n.len ≡ 3) → false ≡ same (bytes_of t n) (ascii "2.4")
-  edition-other e = sym (is_false (λ q. let l = length_part t n.offset n.len h in
-      let m : length (bytes_of t n) ≡ 3 = ap length (same-eq (bytes_of t n) (ascii "2.4") q) in absurd (e (sym l ∙ m))))
-
-  module _ (e : n.len ≡ 3) where
-    pub edition-first : ¬ (get_or t n.offset 0 ≡ 50) → false ≡ same (bytes_of t n) (ascii "2.4")
-    edition-first a = rw (three e, ne_eqb (get_or t n.offset 0) 50 a)
-
-    pub edition-second : get_or t n.offset 0 ≡ 50 → ¬ (get_or t (n.offset + 1) 0 ≡ 46)
-        → false ≡ same (bytes_of t n) (ascii "2.4")
-    edition-second a b = rw (three e, eq-eqb (get_or t n.offset 0) 50 a, ne_eqb (get_or t (n.offset + 1) 0) 46 b)
-
-    pub edition-third : get_or t n.offset 0 ≡ 50 → get_or t (n.offset + 1) 0 ≡ 46
-        → eqb (get_or t (n.offset + 2) 0) 52 ≡ same (bytes_of t n) (ascii "2.4")
-    edition-third a b = rw (three e, eq-eqb (get_or t n.offset 0) 50 a, eq-eqb (get_or t (n.offset + 1) 0) 46 b)
-        (with-true (eqb (get_or t (n.offset + 2) 0) 52))
-      where
-        with-true : (b : Bool) → b ≡ (b && true)
-        with-true true = refl
-        with-true false = refl
 
 -- ---- the header
 module _ (t : List ℕ) (s : State) (v : S.Symbol) (st : code.State) (o x z y hs rs : List ℕ) (name : Name)
@@ -97,25 +65,25 @@ module _ (t : List ℕ) (s : State) (v : S.Symbol) (st : code.State) (o x z y hs
   header-bytes : bytes_of t name ≡ v.bytes
   header-bytes = ap (bytes_of t) header_is ∙ c.fair.there
 
-  pub header-fine : (r : code-judged.Judged) → r ≡ Fine st → true ≡ same (bytes_of t name) (ascii "2.4")
-      → JudgedAs t (verdict s (U.header v) o) st r o x z y hs
+  pub header-fine : (r : Result code.State Ruling) → r ≡ Ok st → true ≡ same (bytes_of t name) (ascii "2.4")
+      → JudgedAs t (verdict s (U.header v) o) r o x z y hs
   unfolding judge
   header-fine r er e =
       let q : same v.bytes (ascii "2.4") ≡ true = rw (← header-bytes) (sym e) in
       let b : length (book s) ≡ 0 = rw (c.stands.decls, c.stands.open_class) in
       let g : verdict s (U.header v) o
       ≡ ok s = rw (q, le-ltb (capacity (lent (length o))) (length (book s)) (omega arith)) in
-      subst (λ (j : J.Judged). JudgedAs t j st r o x z y hs) (sym g)
-      (st, er, k, refl)
+      subst (λ (j : J.Judged). JudgedAs t j r o x z y hs) (sym g)
+      (st, er, k)
 
-  pub header-other : (r : code-judged.Judged) → r ≡ Refused 7 name.offset
-      → false ≡ same (bytes_of t name) (ascii "2.4") → JudgedAs t (verdict s (U.header v) o) st r o x z y hs
+  pub header-other : (r : Result code.State Ruling) → r ≡ Err (record { number = 7; place = name.offset })
+      → false ≡ same (bytes_of t name) (ascii "2.4") → JudgedAs t (verdict s (U.header v) o) r o x z y hs
   unfolding judge
   header-other r er e =
       let q : same v.bytes (ascii "2.4") ≡ false = rw (← header-bytes) (sym e) in
       let j : judge s (U.header v) ≡ refused 7 v.place = rw q in
-      judged-refused t s (U.header v) o st r o x z y hs 7 v.place j
-      (er ∙ ap (λ (n : Name). Refused 7 n.offset) header_is)
+      judged-refused t s (U.header v) o r o x z y hs 7 v.place j
+      (er ∙ ap (λ (n : Name). Err (record { number = 7; place = n.offset })) header_is)
 
 -- ---- the model
 module _ (t : List ℕ) (s : State) (n : R.Name) (q : Strings) (st : code.State) (o x z y hs rs : List ℕ)
@@ -134,25 +102,26 @@ module _ (t : List ℕ) (s : State) (n : R.Name) (q : Strings) (st : code.State)
   empty : book s ≡ []
   empty = rw (c.stands.decls, c.stands.open_class)
 
-  pub model-fine : (v o' : List ℕ) (st' : code.State) (r : code-judged.Judged) → st.extent.used + model_size ≤ length o
+  pub model-fine : (v o' : List ℕ) (st' : code.State) (r : Result code.State Ruling)
+      → st.extent.used + model_size ≤ length o
       → v ≡ name_form 1 head.name.offset head.name.len → o' ≡ splice o st.extent.used v
-      → st' ≡ begun_by st head.name → r ≡ Fine st'
-      → JudgedAs t (verdict s (U.model n q) o) st r o' x z y hs
+      → st' ≡ begun_by st head.name → r ≡ Ok st'
+      → JudgedAs t (verdict s (U.model n q) o) r o' x z y hs
   model-fine v o' st' r w ev eo es er =
       let a : v ≡ name_record 1 n = ev ∙ ap (λ (q : Name). name_form 1 q.offset q.len) model_is in
       let b : Written [] (name_record 1 n) o' = rw (eo, a)
       (written-splice [] (name_record 1 n) o st.extent.used (k.used ∙ ap length empty) (k.written ∙ empty) w) in
       let g : Keeps t (begun n q) (begun_by st head.name) o' x z y hs = keeps-begun t s st o x z y hs k
       c.stands n q head.name o' (rw model_is (calls-cut t n c.fair.0)) b model-fair in
-      judged-fine t s (U.model n q) o st r o' x z y hs (begun n q) st' model-judged m (rw es w) er (rw es g)
-      (rw es refl)
+      judged-fine t s (U.model n q) o r o' x z y hs (begun n q) st' model-judged m (rw es w) er (rw es g)
 
-  pub model-over : (r : code-judged.Judged) (o' : List ℕ) → length o < st.extent.used + model_size
-      → r ≡ Refused 19 head.name.offset → JudgedAs t (verdict s (U.model n q) o) st r o' x z y hs
+  pub model-over : (r : Result code.State Ruling) (o' : List ℕ) → length o < st.extent.used + model_size
+      → r ≡ Err (record { number = 19; place = head.name.offset })
+      → JudgedAs t (verdict s (U.model n q) o) r o' x z y hs
   model-over r o' w er =
       let u = k.used ∙ ap length empty in
-      judged-over t s (U.model n q) o st r o' x z y hs (begun n q) model-judged m (omega arith)
-      (er ∙ ap (λ (q : Name). Refused 19 q.offset) model_is)
+      judged-over t s (U.model n q) o r o' x z y hs (begun n q) model-judged m (omega arith)
+      (er ∙ ap (λ (q : Name). Err (record { number = 19; place = q.offset })) model_is)
 
 -- ---- heads of topics
 -- what is written of a topic
@@ -258,36 +227,37 @@ module _ (t : List ℕ) (s : State) (n : R.Name) (st : code.State) (o x z y hs r
   topic-place : {A : Type 0} (r : A) (f : ℕ → A) → r ≡ f name.offset → r ≡ f n.offset
   topic-place r f e = e ∙ ap (λ (q : Name). f q.offset) topic-is
 
-  pub topic-taken : (r : code-judged.Judged) (o' x' z' y' : List ℕ) → r ≡ Refused 9 name.offset
-      → true ≡ is_found (at_hand s (bytes_of t name)) → JudgedAs t (verdict s (U.topic n) o) st r o' x' z' y' hs
+  pub topic-taken : (r : Result code.State Ruling) (o' x' z' y' : List ℕ)
+      → r ≡ Err (record { number = 9; place = name.offset })
+      → true ≡ is_found (at_hand s (bytes_of t name)) → JudgedAs t (verdict s (U.topic n) o) r o' x' z' y' hs
   unfolding judge
   topic-taken r o' x' z' y' er e =
       let q : is_found (at_hand s n.bytes) ≡ true = rw (← topic-bytes) (sym e) in
       let j : judge s (U.topic n) ≡ refused 9 n.offset = rw q in
-      judged-refused t s (U.topic n) o st r o' x' z' y' hs 9 n.offset j (topic-place r (Refused 9) er)
+      judged-refused t s (U.topic n) o r o' x' z' y' hs 9 n.offset j
+      (topic-place r (λ (i : ℕ). Err (record { number = 9; place = i })) er)
 
   module _ (m : length o ≤ 65535) (e : false ≡ is_found (at_hand s (bytes_of t name))) where
     topic-judged : judge s (U.topic n) ≡ ok (after_topic s n)
     unfolding judge
     topic-judged = let q : is_found (at_hand s n.bytes) ≡ false = rw (← topic-bytes) (sym e) in rw q
 
-    pub topic-over : (r : code-judged.Judged) (o' x' z' y' : List ℕ) → length o < st.extent.used + topic_size
-        → r ≡ Refused 19 name.offset → JudgedAs t (verdict s (U.topic n) o) st r o' x' z' y' hs
+    pub topic-over : (r : Result code.State Ruling) (o' x' z' y' : List ℕ) → length o < st.extent.used + topic_size
+        → r ≡ Err (record { number = 19; place = name.offset }) → JudgedAs t (verdict s (U.topic n) o) r o' x' z' y' hs
     unfolding new_topic
     topic-over r o' x' z' y' w er =
         let u = k.used in
         let l : length (book (declare s (D.def (new_topic s n))))
         ≡ length (book s) + topic_size = book-grown s (declare s (D.def (new_topic s n))) (name_record 2 n ∷ [])
         (records-declared s (D.def (new_topic s n)) topic-open) in
-        judged-over t s (U.topic n) o st r o' x' z' y' hs (after_topic s n) topic-judged m (omega arith)
-        (topic-place r (Refused 19) er)
+        judged-over t s (U.topic n) o r o' x' z' y' hs (after_topic s n) topic-judged m (omega arith)
+        (topic-place r (λ (i : ℕ). Err (record { number = 19; place = i })) er)
 
-    pub topic-fine : (r : code-judged.Judged) (o' x' z' y' : List ℕ) (st' : code.State)
-        → st.extent.used + topic_size ≤ length o → r ≡ Fine st' → st' ≡ topic_by st name
+    pub topic-fine : (r : Result code.State Ruling) (o' x' z' y' : List ℕ) (st' : code.State)
+        → st.extent.used + topic_size ≤ length o → r ≡ Ok st' → st' ≡ topic_by st name
         → (FairState t (after_topic s n) → Keeps t (after_topic s n) (topic_by st name) o' x' z' y' hs)
-        → JudgedAs t (verdict s (U.topic n) o) st r o' x' z' y' hs
+        → JudgedAs t (verdict s (U.topic n) o) r o' x' z' y' hs
     topic-fine r o' x' z' y' st' w er es g =
         let f = judge-fair t s (after_topic s n) (U.topic n) c.fair c.stands k.fair topic-judged in
-        judged-fine t s (U.topic n) o st r o' x' z' y' hs
+        judged-fine t s (U.topic n) o r o' x' z' y' hs
         (after_topic s n) st' topic-judged m (rw es w) er (rw es (g f))
-        (rw es refl)

@@ -1,30 +1,35 @@
 -- One enumeration held against another, on bytes.
-use Rattle.std.specs.Prelude.{◌≡◌, Bool, true, false, cond, List, ℕ, ◌+◌, length, ltb}
+use Rattle.std.specs.Prelude.{◌≡◌, Bool, false, cond, List, ℕ, ◌+◌, Option, Some, None}
 use Rattle.rules.specs.Enumerations.{Enum, final}
-use Rattle.enumerations.specs.Lists.{nowhere, is_element, inner_at, written, find_from}
-use Rattle.enumerations.specs.Standing.{ElementsAt}
+use Rattle.enumerations.specs.Lists.{is_element, inner_at, list_of, final_of, written, find_of}
+use Rattle.enumerations.specs.Standing.{ElementsOf}
 use Rattle.enumerations.specs.declared.Inner.{Inner}
 use Rattle.holding.specs.declared.Held.{Held}
 use Rattle.holding.specs.declared.Held.TheVariants.{Fits, Misfit, Deeper}
-use Rattle.holding.specs.declared.Pair.{Pair}
 use Rattle.book.specs.Sizes.{element_size}
 
--- by whether each has elements
-abbrev pub held_of : Bool → Bool → Held
-held_of true b = Deeper
-held_of false true = Misfit
-held_of false false = Fits
+abbrev pub has_elements : List ℕ → Option Inner → Bool
+has_elements s None = false
+has_elements s (Some v) = is_element s v.list
 
--- the element at a place, held against the list of v
-unfoldable pub pair_at : List ℕ → List ℕ → ℕ → Inner → Pair
-pair_at t s p v =
-    let m = find_from (length s + 1) t s v.list (written s p) in
-    let i = inner_at s (p + element_size) in
-    let j = inner_at s m in
-    cond (ltb m nowhere) (record { held = held_of (is_element s i.list) (is_element s j.list); own = i; base = j })
-    (record { held = cond v.is_final Misfit Fits; own = v; base = v })
+-- what has no elements
+abbrev pub held_leaf : List ℕ → Option Inner → Held
+held_leaf s w = cond (has_elements s w) Misfit Fits
+
+abbrev pub held_of : List ℕ → Option Inner → Option Inner → Held
+held_of s None w = held_leaf s w
+held_of s (Some v) w = cond (is_element s v.list) (Deeper v w) (held_leaf s w)
+
+-- what is inside an element, held against what stands behind the one that v has of its name, if it has one
+abbrev pub held_found : List ℕ → Option Inner → Option Inner → Option ℕ → Held
+held_found s i v None = cond (final_of v) Misfit Fits
+held_found s i v (Some m) = held_of s i (inner_at s m)
+
+-- the element at a place, held against v
+unfoldable pub held_at : List ℕ → List ℕ → ℕ → Option Inner → Held
+held_at t s p v = held_found s (inner_at s (p + element_size)) v (find_of t s (list_of v) (written s p))
 
 -- v is read where the list e stands
-pub record Reads (t s : List ℕ) (e : Enum) (v : Inner) : Type 0 where
-  pub is_final : v.is_final ≡ final e
-  pub list : ElementsAt t s e v.list
+pub record Reads (t s : List ℕ) (e : Enum) (v : Option Inner) : Type 0 where
+  pub is_final : final_of v ≡ final e
+  pub list : ElementsOf t s e (list_of v)

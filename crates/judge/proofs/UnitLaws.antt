@@ -65,113 +65,58 @@ module _ {t : List ℕ} {s : State} {rs : List ℕ} where
   cases (some (U.unit n p b)) u c = is-case _ _ c.is (measure (comes-as _ c.is c))
   cases (some (U.close n)) u c = is-case _ _ c.is (close (comes-as _ c.is c))
 
-  -- ---- what holds of each unit that the code may have read holds of the unit
-  module _ (P : Option U.Unit → Type 0) (v : Option U.Unit) {u : code.Unit} (c : ComesAny t s v u rs) where
+  -- ---- what the code has read is of the unit that came
+  module _ (v : Option U.Unit) {u : code.Unit} (c : ComesAny t s v u rs) where
     at : (w : code.Unit) → u ≡ w → Case t s rs v w
     at w e = subst (λ (x : code.Unit). Case t s rs v x) e (cases v u c)
 
-    pub by-header : {n : Name} → u ≡ Header n
-        → ((x : S.Symbol) → Comes t s (U.header x) (Header n) rs → P (some (U.header x))) → P v
-    by-header {n} e f = go v (at (Header n) e)
-      where
-        go : (v : Option U.Unit) → Case t s rs v (Header n) → P v
-        go v (header {v = x} h) = f x h
-
-    pub by-model : {d : ModelHead} → u ≡ Model d
-        → ((n : R.Name) (q : U.Strings) → Comes t s (U.model n q) (Model d) rs → P (some (U.model n q))) → P v
-    by-model {d} e f = go v (at (Model d) e)
-      where
-        go : (v : Option U.Unit) → Case t s rs v (Model d) → P v
-        go v (model {n} {q} h) = f n q h
-
-    pub by-topic : {m : Name} → u ≡ Topic m
-        → ((n : R.Name) → Comes t s (U.topic n) (Topic m) rs → P (some (U.topic n))) → P v
-    by-topic {m} e f = go v (at (Topic m) e)
-      where
-        go : (v : Option U.Unit) → Case t s rs v (Topic m) → P v
-        go v (topic {n} h) = f n h
-
-    pub by-class : {d : Head} → u ≡ Class d →
-        ((k : Bool) (n : R.Name) (p : List (List ℕ)) (b : Option G.Reference)
-        → Comes t s (U.class (class_sort k) n p b) (Class d) rs → P (some (U.class (class_sort k) n p b))) → P v
-    by-class {d} e f = go v (at (Class d) e)
-      where
-        go : (v : Option U.Unit) → Case t s rs v (Class d) → P v
-        go v (class k {n} {p} {b} h) = f k n p b h
-
-    pub by-domain : {d : DomainUnit} → u ≡ Domain d →
-        ((n : R.Name) (p : List (List ℕ)) (b : Option G.Reference) (w : G.Written)
-        → Comes t s (U.domain n p b w) (Domain d) rs → P (some (U.domain n p b w))) → P v
-    by-domain {d} e f = go v (at (Domain d) e)
-      where
-        go : (v : Option U.Unit) → Case t s rs v (Domain d) → P v
-        go v (domain {n} {p} {b} {w} h) = f n p b w h
-
-    pub by-attribute : {a : AttributeUnit} → u ≡ Attribute a →
-        ((n : R.Name) (p : List (List ℕ)) (w : G.Written) → Comes t s (U.attribute n p w) (Attribute a) rs
-        → P (some (U.attribute n p w))) → P v
-    by-attribute {a} e f = go v (at (Attribute a) e)
-      where
-        go : (v : Option U.Unit) → Case t s rs v (Attribute a) → P v
-        go v (attribute {n} {p} {w} h) = f n p w h
-
-    pub by-measure : {d : Head} → u ≡ Measure d →
-        ((n : R.Name) (p : List (List ℕ)) (b : Option G.Reference) → Comes t s (U.unit n p b) (Measure d) rs
-        → P (some (U.unit n p b))) → P v
-    by-measure {d} e f = go v (at (Measure d) e)
-      where
-        go : (v : Option U.Unit) → Case t s rs v (Measure d) → P v
-        go v (measure {n} {p} {b} h) = f n p b h
-
-    pub by-close : {m : Name} → u ≡ Close m
-        → ((n : R.Name) → Comes t s (U.close n) (Close m) rs → P (some (U.close n))) → P v
-    by-close {m} e f = go v (at (Close m) e)
-      where
-        go : (v : Option U.Unit) → Case t s rs v (Close m) → P v
-        go v (close {n} h) = f n h
-
-  -- ---- and there is one
-  module _ (v : Option U.Unit) {u : code.Unit} (c : ComesAny t s v u rs) where
-    pub a-header : {m : Name} → u ≡ Header m → (x : S.Symbol) × Comes t s (U.header x) (Header m) rs
-    a-header {m} e = by-header (λ _. (x : S.Symbol) × Comes t s (U.header x) (Header m) rs) v c e (λ x h. (x, h))
-
     pub a-model : {d : ModelHead} → u ≡ Model d → (n : R.Name) × (q : U.Strings) × Comes t s (U.model n q) (Model d) rs
-    a-model {d} e =
-        by-model (λ _. (n : R.Name) × (q : U.Strings) × Comes t s (U.model n q) (Model d) rs) v c e (λ n q h. (n, q, h))
+    a-model {d} e = go v (at (Model d) e)
+      where
+        go : (v : Option U.Unit) → Case t s rs v (Model d)
+            → (n : R.Name) × (q : U.Strings) × Comes t s (U.model n q) (Model d) rs
+        go v (model {n} {q} h) = (n, q, h)
 
     pub a-topic : {m : Name} → u ≡ Topic m → (n : R.Name) × Comes t s (U.topic n) (Topic m) rs
-    a-topic {m} e = by-topic (λ _. (n : R.Name) × Comes t s (U.topic n) (Topic m) rs) v c e (λ n h. (n, h))
+    a-topic {m} e = go v (at (Topic m) e)
+      where
+        go : (v : Option U.Unit) → Case t s rs v (Topic m) → (n : R.Name) × Comes t s (U.topic n) (Topic m) rs
+        go v (topic {n} h) = (n, h)
 
     pub a-class : {d : Head} → u ≡ Class d → (k : Bool) × (n : R.Name) × (p : List (List ℕ))
         × (b : Option G.Reference) × Comes t s (U.class (class_sort k) n p b) (Class d) rs
-    a-class {d} e =
-        by-class (λ _. (k : Bool) × (n : R.Name) × (p : List (List ℕ)) × (b : Option G.Reference)
-        × Comes t s (U.class (class_sort k) n p b) (Class d) rs) v c e (λ k n p b h. (k, n, p, b, h))
+    a-class {d} e = go v (at (Class d) e)
+      where
+        go : (v : Option U.Unit) → Case t s rs v (Class d) → (k : Bool) × (n : R.Name) × (p : List (List ℕ))
+            × (b : Option G.Reference) × Comes t s (U.class (class_sort k) n p b) (Class d) rs
+        go v (class k {n} {p} {b} h) = (k, n, p, b, h)
 
     pub a-domain : {d : DomainUnit} → u ≡ Domain d → (n : R.Name) × (p : List (List ℕ)) × (b : Option G.Reference)
         × (w : G.Written) × Comes t s (U.domain n p b w) (Domain d) rs
-    a-domain {d} e =
-        by-domain (λ _. (n : R.Name) × (p : List (List ℕ)) × (b : Option G.Reference) × (w : G.Written)
-        × Comes t s (U.domain n p b w) (Domain d) rs) v c e (λ n p b w h. (n, p, b, w, h))
+    a-domain {d} e = go v (at (Domain d) e)
+      where
+        go : (v : Option U.Unit) → Case t s rs v (Domain d) → (n : R.Name) × (p : List (List ℕ))
+            × (b : Option G.Reference) × (w : G.Written) × Comes t s (U.domain n p b w) (Domain d) rs
+        go v (domain {n} {p} {b} {w} h) = (n, p, b, w, h)
 
     pub an-attribute : {a : AttributeUnit} → u ≡ Attribute a
         → (n : R.Name) × (p : List (List ℕ)) × (w : G.Written) × Comes t s (U.attribute n p w) (Attribute a) rs
-    an-attribute {a} e = by-attribute
-        (λ _. (n : R.Name) × (p : List (List ℕ)) × (w : G.Written) × Comes t s (U.attribute n p w) (Attribute a) rs)
-        v c e (λ n p w h. (n, p, w, h))
+    an-attribute {a} e = go v (at (Attribute a) e)
+      where
+        go : (v : Option U.Unit) → Case t s rs v (Attribute a)
+            → (n : R.Name) × (p : List (List ℕ)) × (w : G.Written) × Comes t s (U.attribute n p w) (Attribute a) rs
+        go v (attribute {n} {p} {w} h) = (n, p, w, h)
 
     pub a-measure : {d : Head} → u ≡ Measure d
         → (n : R.Name) × (p : List (List ℕ)) × (b : Option G.Reference) × Comes t s (U.unit n p b) (Measure d) rs
-    a-measure {d} e = by-measure
-        (λ _. (n : R.Name) × (p : List (List ℕ)) × (b : Option G.Reference) × Comes t s (U.unit n p b) (Measure d) rs)
-        v c e (λ n p b h. (n, p, b, h))
+    a-measure {d} e = go v (at (Measure d) e)
+      where
+        go : (v : Option U.Unit) → Case t s rs v (Measure d)
+            → (n : R.Name) × (p : List (List ℕ)) × (b : Option G.Reference) × Comes t s (U.unit n p b) (Measure d) rs
+        go v (measure {n} {p} {b} h) = (n, p, b, h)
 
     pub a-close : {m : Name} → u ≡ Close m → (n : R.Name) × Comes t s (U.close n) (Close m) rs
-    a-close {m} e = by-close (λ _. (n : R.Name) × Comes t s (U.close n) (Close m) rs) v c e (λ n h. (n, h))
-
-pub by-mark : (t : List ℕ) (s : State) (rs : List ℕ) (P : Option U.Unit → Type 0) (v : Option U.Unit) (u : code.Unit)
-    → ComesAny t s v u rs → u ≡ Mark → P none → P v
-by-mark t s rs P v u c e f = go v (subst (λ (x : code.Unit). Case t s rs v x) e (cases v u c))
-  where
-    go : (v : Option U.Unit) → Case t s rs v Mark → P v
-    go v mark = f
+    a-close {m} e = go v (at (Close m) e)
+      where
+        go : (v : Option U.Unit) → Case t s rs v (Close m) → (n : R.Name) × Comes t s (U.close n) (Close m) rs
+        go v (close {n} h) = (n, h)

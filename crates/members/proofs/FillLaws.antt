@@ -111,13 +111,6 @@ module _ (t : List ℕ) (ms : List Attribute) (y : List ℕ) (total : ℕ) (k : 
     put_in z m em hn hx = rw (slot-zero a.name.bytes 0 g (sym slot_is ∙ z))
         (filled_more ms hs n h a q m fh ea (em ∙ (k.tells q a ea).number) hn hx)
 
-  pub full : most ≤ n → length (unless_in g h a) ≤ most → Filled ms hs n (unless_in g h a)
-  full w = go (is_found (attribute_at a.name.bytes g))
-    where
-      go : (b : Bool) → length (cond b h (h ++ (a ∷ []))) ≤ 256 → Filled ms hs n (cond b h (h ++ (a ∷ [])))
-      go true v = fh
-      go false v = let p = fh.all in let l = length-append h (a ∷ []) in absurd (omega arith)
-
 -- ---- the attributes of one class, own; j of them are passed, and those in hand before are g
 module _ (ms g own more : List Attribute) (first : ℕ) (e : drop first ms ≡ own ++ more) (u : Unlike own)
     (w : length (nearest_to g own) ≤ 256) (j : ℕ) (z : j < length own) where
@@ -170,10 +163,6 @@ own-next ms g own more first last q e el u w hf hl hs n count ec f hs' n' add =
     (add (nearest_to g (take j own)) (next ms g own more first e u w j z)
     (rw (← ep) (next-entry ms g own more first e u w j z)) (rw ec (filled-front ms hs g m n fp)) f
     (next-room ms g own more first e u w j z))
-
-pub own-none : (ms g own : List Attribute) (first n : ℕ) (hs : List ℕ) → Filled ms hs n g
-    → Filled ms hs n (nearest_to g (take (first - first) own))
-own-none ms g own first n hs f = let e : first - first ≡ 0 = omega arith in rw e f
 
 pub own-done : (ms g own : List Attribute) (first last q n : ℕ) (hs : List ℕ) → last ≡ first + length own → last ≤ q
     → Filled ms hs n (nearest_to g (take (q - first) own)) → Filled ms hs n (nearest_to g own)
@@ -235,17 +224,6 @@ pub record Chain (ks : List Def) (ms : List Attribute) (base : ℕ) (hs : List �
   pub filled : Filled ms hs n hand
   pub rest : nearest (attributes_of (or_no_def (entry ks base)))
       ≡ nearest_to hand (attributes_of (or_no_def (entry ks c)))
-
-pub chain-start : (ks : List Def) (ms : List Attribute) (base : ℕ) (hs : List ℕ) → Chain ks ms base hs 0 base
-chain-start ks ms base hs = record {
-  hand = [];
-  filled = record {
-    all = refl;
-    at_position = λ i a e. let z : ◌≡◌ {A = ℕ} 0 1 = cc in absurd (omega arith);
-    at_number = λ i a e. let z : ◌≡◌ {A = ℕ} 0 1 = cc in absurd (omega arith);
-  };
-  rest = refl;
-}
 
 pub chain_next : (t : List ℕ) (ks : List Def) (ms : List Attribute) (x : List ℕ) (count : ℕ) (y : List ℕ) (total : ℕ)
     → Indexed t ks ms x count y total

@@ -3,15 +3,17 @@ use mathlib.Core.Path.{◌≡◌, sym, ap, ◌∙◌}
 use mathlib.Core.Bool.{Bool, true, false}
 use mathlib.Core.Option.{some}
 use mathlib.Core.List.{List}
-use Prim.Native.Nat.{ℕ, ◌+◌, ◌≤◌, ◌<◌}
+use Prim.Native.Nat.{ℕ, ◌+◌, ◌-◌, ◌≤◌, ◌<◌}
 use native.Mathlib.Numerals.{add-one}
 use native.Mathlib.Omega.{arith}
-use lib.ListN.{length, get_or, drop, drop_of_length-le}
+use lib.ListN.{length, get_or, drop, take, drop_of_length-le}
+use Rattle.std.proofs.lemmas.List.{length-take, length-drop}
+use lib.Seq.{get_or-take, get_or-drop}
 use Rattle.rules.specs.Bytes.{same}
 use Rattle.rules.specs.Declarations.{Attribute}
 use Rattle.ground.specs.Parts.{part}
 use Rattle.names.specs.Index.{nth, entry, row}
-use Rattle.members.specs.Members.{Tells, Members, slot_from, Filled, attribute_width, most}
+use Rattle.members.specs.Members.{Tells, Members, slot_from, Filled, attribute_width, most, Hand}
 use Rattle.names.proofs.IndexLaws.{there, nth_drop, entry-within}
 
 -- ---- a row with the name
@@ -53,3 +55,11 @@ module _ (t : List ℕ) (ms : List Attribute) (y : List ℕ) (total : ℕ) (k : 
         let (a, p, v) = behind in
         let v' : same n a.name.bytes ≡ false = sym v ∙ e in
         rw (nth_drop h i a p, v', add-one i)
+
+-- ---- the part of the hand that has n positions
+module _ (hs : List ℕ) (n : ℕ) where
+  pub positions-many : n ≤ most → Hand hs → length (take (most + n - most) (drop most hs)) ≡ n
+  positions-many w h = omega (arith, length-take (most + n - most) (drop most hs), length-drop most hs)
+
+  pub position-at : (i : ℕ) → i < n → get_or (take (most + n - most) (drop most hs)) i 0 ≡ get_or hs (most + i) 0
+  position-at i w = get_or-take (most + n - most) (drop most hs) i 0 (omega arith) ∙ get_or-drop most hs i 0

@@ -15,7 +15,7 @@ ghost use Rattle.members.specs.Members.{nearest, with_nearest, attribute_width, 
 ghost use Rattle.members.specs.Held.{Opened, InHand, Apart};
 ghost use Rattle.members.specs.Rows.{member_row, Narrow};
 
-use ground::{Name, put2, wide2};
+use ground::{Name, put};
 use names::{BASE, FIRST, LAST, LENGTH, OFFSET, field, same_name};
 
 // What the row of an attribute has, behind its name's offset and length.
@@ -38,7 +38,7 @@ fn member(rows: &[u16], q: usize, f: usize) -> usize
     requires { (f < 6) × AttributeRows rows.now q }
     ensures { (result ≡ get_or (row attribute_width rows.now q) f 0) × (result < 65536) }
 {
-    wide2(rows[q * WIDTH + f])
+    usize::from(rows[q * WIDTH + f])
 }
 
 pub fn member_number(rows: &[u16], q: usize) -> usize
@@ -80,16 +80,14 @@ fn is_named(text: &[u8], rows: &[u16], total: usize, q: usize, name: Name) -> bo
         → Tells text.now a (row attribute_width rows.now q)
         → result ≡ same (bytes_of text.now name) a.name.bytes }
 {
-    if q <= total {
-        let own = Name {
-            offset: member(rows, q, OFFSET),
-            len: member(rows, q, LENGTH),
-        };
-        if own.offset + own.len <= text.len() {
-            return same_name(text, name, own);
-        }
+    if total < q {
+        return false;
     }
-    false
+    let own = Name {
+        offset: member(rows, q, OFFSET),
+        len: member(rows, q, LENGTH),
+    };
+    own.offset + own.len <= text.len() && same_name(text, name, own)
 }
 
 // ---- the hand: the record numbers of the open class's attributes, own and inherited, of each name the nearest; behind
@@ -109,12 +107,10 @@ pub fn find_attribute(
         → Filled ms hand.now count h
         → result ≡ slot_of (bytes_of text.now name) h) }
 {
-    let mut i = 0;
-    while i < count {
-        if is_named(text, rows, total, ground::wide4(hand[MOST + i]), name) {
+    for (i, q) in hand[MOST..MOST + count].iter().enumerate() {
+        if is_named(text, rows, total, *q as usize, name) {
             return i + 1;
         }
-        i += 1;
     }
     0
 }
@@ -126,8 +122,7 @@ pub fn is_own(hand: &[u32], r: usize, class: usize) -> bool
         → Apart c → class ≡ c.number → r ≡ slot_of m o.hand
         → result ≡ is_found (attribute_at m c.own) }
 {
-    let i = r - 1;
-    class < ground::wide4(hand[i])
+    class < hand[r - 1] as usize
 }
 
 // One attribute more, unless its name is among the first `nearer`.
@@ -182,10 +177,8 @@ fn add_own(
         → Filled ms hand.new result (nearest_to g own)) }
 {
     let mut n = count;
-    let mut q = first;
-    while q < last {
-        q += 1;
-        n = add(text, rows, total, q, hand, count, n);
+    for q in first..last {
+        n = add(text, rows, total, q + 1, hand, count, n);
     }
     n
 }
@@ -208,6 +201,7 @@ pub fn fill(
 {
     let mut n = 0;
     let mut c = base;
+    // No slice or range has the next position: it stands in the lent row. An iterator over it is no plainer.
     while 0 < c {
         let first = field(index, c, FIRST);
         let last = field(index, c, LAST);
@@ -249,10 +243,8 @@ pub fn inherit(
         → InHand ms hand.old held.count (entry ks held.class)
         → c.own ≡ [] → c.inherited ≡ attributes_of (or_no_def (entry ks base)) → Opened ms hand.new result c) }
 {
-    if base == held.class {
-        if 0 < base {
-            return held.count;
-        }
+    if base == held.class && 0 < base {
+        return held.count;
     }
     fill(text, index, count, rows, total, base, hand)
 }
@@ -283,7 +275,7 @@ pub fn enter_member(rows: &mut [u16], q: usize, m: NewAttribute)
         m.flags as u16,
         m.use_of as u16,
     ];
-    put2(rows, q * WIDTH, &row);
+    put(rows, q * WIDTH, &row);
 }
 
 // The attribute q, of a record number, becomes one of the open class: in the place of the one at the slot r, or behind

@@ -1,8 +1,6 @@
-pub mod StepLaws
 pub mod RunLaws
 pub mod FrameLaws
 pub mod SimulateLaws
 pub mod WholeLaws
 pub mod AddsLaws
 pub mod MergedLaws
-pub mod TablesLaws

@@ -1,5 +1,5 @@
 -- The run on bytes is the walk on trees: what it writes is the merged list.
-use mathlib.Core.Path.{◌≡◌, refl, sym, ap, ◌∙◌}
+use mathlib.Core.Path.{◌≡◌, refl, ap, ◌∙◌}
 use mathlib.Core.Bool.{Bool, true, false, cond, ◌&&◌}
 use mathlib.Core.List.{List, [], ◌∷◌, ◌++◌}
 use Prim.Native.Nat.{ℕ, zero, suc, ◌+◌, ◌-◌, ◌*◌, ◌≤◌, ◌<◌}
@@ -7,13 +7,13 @@ use native.Mathlib.Nat.{mul-le-mul_right}
 use native.Mathlib.Omega.{arith}
 use lib.ListN.{length, get_or, set, length-set}
 use lib.Seq.{get_or-set_same, get_or-set_other}
+use borrow.Author.Tests.{lt-ltb}
 use Rattle.rules.specs.Enumerations.{Enum, end, elem, final, inner, has, merge}
 use Rattle.rules.specs.Book.{element_records}
-use Rattle.enumerations.specs.Lists.{nowhere}
+use Rattle.std.specs.Prelude.{Some}
 use Rattle.merging.specs.Steps.{emitted, goes, look_move}
 use Rattle.merging.specs.Walks.{no_position, top_of, moved_by, wrote, barred, before, run_from}
 use Rattle.enumerations.specs.Standing.{plain, DeepIn, Deep, end_of, ListAt}
-use Rattle.merging.proofs.StepLaws.{moved-go, moved-enter, moved-leave}
 use Rattle.merging.proofs.RunLaws.{run-zero, run_end_lem, run-go, run-stop}
 use Rattle.enumerations.proofs.StandLaws.{list-elements, next_of, end-in}
 use Rattle.merging.proofs.FrameLaws.{Frame, copy, add, emits, leaves, nodes, copy_steps, copy-steps, copy_ok}
@@ -22,6 +22,10 @@ use Rattle.merging.proofs.SimulateLaws.{Shows, Left, Simulates, step-simulates}
 use Rattle.enumerations.proofs.DeepLaws.{deep_of, deep-inner, deep_room}
 use Rattle.merging.specs.declared.Emit.{Emit}
 use Rattle.merging.specs.declared.Position.{Position}
+use Rattle.merging.specs.declared.Position.TheVariants.{Copying}
+use Rattle.enumerations.specs.declared.Inner.{Inner}
+use Rattle.merging.specs.declared.Turn.{Turn}
+use Rattle.merging.specs.declared.Turn.TheVariants.{Go, Enter, Leave}
 use Rattle.merging.specs.declared.Move.{Move}
 use Rattle.merging.specs.declared.Walk.{Walk}
 use Rattle.book.specs.Sizes.{element_size, list_size}
@@ -109,58 +113,64 @@ module _ (t b x : List ℕ) where
     open-set Fs ps i p (omega arith) o.1,
   )
 
-  holds-moved : (L Gs : List Frame) (w : Walk) (m : Move) → w.depth ≡ suc (length Gs)
+  holds-moved : (L Gs : List Frame) (w : Walk) (u : Turn) → w.depth ≡ suc (length Gs)
       → w.depth ≤ 8 → length w.places ≡ 8
-      → OpenAt Gs w.places → Room (length Gs) L → Left t b x L m → Holds (L ++ Gs) (moved_by w m)
-  holds-moved [] Gs w m d u l o r s =
-      rw (sym (moved-leave w m s)) (record { depth = omega arith; eight = l; open_at = o })
-  holds-moved (F ∷ []) Gs w m d u l o r s =
+      → OpenAt Gs w.places → Room (length Gs) L → Left t b x L u → Holds (L ++ Gs) (moved_by w u)
+  unfolding moved_by
+  holds-moved [] Gs w Leave d v l o r s = record { depth = omega arith; eight = l; open_at = o }
+  holds-moved (F ∷ []) Gs w (Go n) d v l o r s =
       let e : w.depth - 1 ≡ length Gs = omega arith in
-      rw (sym (moved-go w m s.0), e)
+      rw e
       (record {
         depth = d;
-        eight = length-set w.places (length Gs) m.next ∙ l;
+        eight = length-set w.places (length Gs) n ∙ l;
         open_at = (
-          rw (get_or-set_same w.places (length Gs) m.next no_position (omega arith)) s.1,
-          open-set Gs w.places (length Gs) m.next (omega arith) o,
+          rw (get_or-set_same w.places (length Gs) n no_position (omega arith)) s,
+          open-set Gs w.places (length Gs) n (omega arith) o,
         );
       })
-  holds-moved (F ∷ G ∷ []) Gs w m d u l o r s =
+  holds-moved (F ∷ G ∷ []) Gs w (Enter n c) d v l o r s =
       let e : w.depth - 1 ≡ length Gs = omega arith in
-      let q : List Position = set w.places (length Gs) m.next in
-      let lq : length q ≡ 8 = length-set w.places (length Gs) m.next ∙ l in
-      let n : get_or q (length Gs) no_position
-      ≡ m.next = get_or-set_same w.places (length Gs) m.next no_position (omega arith) in
-      rw (sym (moved-enter w m s.0 (omega arith)), e, d)
+      let q : List Position = set w.places (length Gs) n in
+      let lq : length q ≡ 8 = length-set w.places (length Gs) n ∙ l in
+      let m : get_or q (length Gs) no_position
+      ≡ n = get_or-set_same w.places (length Gs) n no_position (omega arith) in
+      rw (lt-ltb w.depth 8 (omega arith), e, d)
       (record {
         depth = omega arith;
-        eight = length-set q (suc (length Gs)) m.child ∙ lq;
+        eight = length-set q (suc (length Gs)) c ∙ lq;
         open_at = (
-          rw (get_or-set_same q (suc (length Gs)) m.child no_position (omega arith)) s.1,
+          rw (get_or-set_same q (suc (length Gs)) c no_position (omega arith)) s.0,
           (
-            rw (get_or-set_other q (suc (length Gs)) (length Gs) m.child no_position (λ z. omega arith) ∙ n) s.2,
-            open-set Gs q (suc (length Gs)) m.child (omega arith)
-                (open-set Gs w.places (length Gs) m.next (omega arith) o),
+            rw (get_or-set_other q (suc (length Gs)) (length Gs) c no_position (λ z. omega arith) ∙ m) s.1,
+            open-set Gs q (suc (length Gs)) c (omega arith)
+                (open-set Gs w.places (length Gs) n (omega arith) o),
           ),
         );
       })
-  holds-moved (F ∷ G ∷ H ∷ L) Gs w m d u l o r s = absurd s
+  holds-moved [] Gs w (Go n) d v l o r s = absurd s
+  holds-moved [] Gs w (Enter n c) d v l o r s = absurd s
+  holds-moved (F ∷ []) Gs w (Enter n c) d v l o r s = absurd s
+  holds-moved (F ∷ []) Gs w Leave d v l o r s = absurd s
+  holds-moved (F ∷ G ∷ []) Gs w (Go n) d v l o r s = absurd s
+  holds-moved (F ∷ G ∷ []) Gs w Leave d v l o r s = absurd s
+  holds-moved (F ∷ G ∷ H ∷ L) Gs w u d v l o r s = absurd r
 
 top-is : (w : Walk) (g : ℕ) → w.depth ≡ suc g → top_of w ≡ get_or w.places g no_position
 unfolding top_of
 top-is w g e = let h : w.depth - 1 ≡ g = omega arith in rw h
 
-module _ (t b x : List ℕ) (lb : length b < nowhere) (lx : length x < nowhere) where
+module _ (t b x : List ℕ) where
   run-walked : (k : ℕ) (Fs : List Frame) (w : Walk) → Holds t b x Fs w → Fit Fs → length Fs ≤ 8
       → run_from k t b x w ≡ walked k Fs
   run-walked zero Fs w r f u = run-zero t b x w
   run-walked (suc k) [] w r f u = run_end_lem k t b x w r.depth
   run-walked (suc k) (F ∷ Gs) w r f u =
       let S : Simulates t b x (emits F) (leaves F) (look_move t b x (top_of w)) =
-      rw (top-is w (length Gs) r.depth) (step-simulates t b x lb lx F _ r.open_at.0) in
+      rw (top-is w (length Gs) r.depth) (step-simulates t b x F _ r.open_at.0) in
       let N = fit_next F Gs f in
       go (goes (emits F)) refl (look_move t b x (top_of w)) refl S N
-      (λ R. run-walked k (leaves F ++ Gs) (moved_by w (look_move t b x (top_of w))) R N.fit
+      (λ R. run-walked k (leaves F ++ Gs) (moved_by w (look_move t b x (top_of w)).turn) R N.fit
       (next-eight (leaves F) Gs N.room (omega arith)))
     where
       d : ¬ (w.depth ≡ 0)
@@ -168,13 +178,13 @@ module _ (t b x : List ℕ) (lb : length b < nowhere) (lx : length x < nowhere) 
 
       go : (c : Bool) → goes (emits F) ≡ c → (m : Move) → m ≡ look_move t b x (top_of w)
           → Simulates t b x (emits F) (leaves F) m → Next (leaves F) Gs
-          → (Holds t b x (leaves F ++ Gs) (moved_by w m)
-          → run_from k t b x (moved_by w m) ≡ walked k (leaves F ++ Gs)) →
+          → (Holds t b x (leaves F ++ Gs) (moved_by w m.turn)
+          → run_from k t b x (moved_by w m.turn) ≡ walked k (leaves F ++ Gs)) →
           run_from (suc k) t b x w ≡ cond c (before (emitted (emits F)) (walked k (leaves F ++ Gs))) barred
       go true e m em S N ih =
           run-go k t b x w m d em (ap goes S.emit ∙ e)
-          ∙ ap (λ (y : Emit). before (emitted y) (run_from k t b x (moved_by w m))) S.emit
-          ∙ ap (before (emitted (emits F))) (ih (holds-moved t b x (leaves F) Gs w m r.depth
+          ∙ ap (λ (y : Emit). before (emitted y) (run_from k t b x (moved_by w m.turn))) S.emit
+          ∙ ap (before (emitted (emits F))) (ih (holds-moved t b x (leaves F) Gs w m.turn r.depth
           (omega (arith, r.depth)) r.eight r.open_at.1 N.room (S.left e)))
       go false e m em S N ih = run-stop k t b x w m d em (ap goes S.emit ∙ e)
 
@@ -193,18 +203,18 @@ nodes-fit : (t s : List ℕ) (e : Enum) (p : ℕ) → ListAt t s e p → nodes e
 nodes-fit t s e p h = omega (arith, end-in t s e p h, nodes-in e p)
 
 -- ---- from a list of the base and one of the extension, the run writes the merged one
-pub whole_run : (t b x : List ℕ) (e d : Enum) (i j k : ℕ) (w : Walk) → length b < nowhere → length x < nowhere
-    → ListAt t b e i → ListAt t x d j
+pub whole_run : (t b x : List ℕ) (e d : Enum) (i j : Inner) (k : ℕ) (w : Walk) → ListAt t b e i.list
+    → ListAt t x d j.list → i.is_final ≡ final e
     → Deep 7 e → Deep 7 d → w.depth ≡ 1 → length w.places ≡ 8 →
-    get_or w.places 0 no_position ≡ record { base = i; at = i; own = j; adding = false; is_final = final e } →
+    get_or w.places 0 no_position ≡ Copying (Some i) (Some i.list) (Some j.list) →
     length b * (length x + 1) < k
     → run_from k t b x w ≡ cond (copy_ok e e d) (wrote (element_records (merge e d))) barred
-whole_run t b x e d i j k w lb lx he hd le ld dw ew pw hk =
-    let he' = list-elements t b e i he in
+whole_run t b x e d i j k w he hd fe le ld dw ew pw hk =
+    let he' = list-elements t b e i.list he in
     let s : Shows t b x (copy e e d) (get_or w.places 0 no_position) =
-    rw pw (record { phase = refl; whole = he'; rest = he'; own = list-elements t x d j hd; is_final = refl }) in
+    rw pw (record { whole = he'; rest = he'; own = list-elements t x d j.list hd; is_final = fe }) in
     let r : Holds t b x (copy e e d ∷ []) w = record { depth = dw; eight = ew; open_at = (s, tt) } in
-    let c : copy_steps e d ≤ nodes e * (length x + 1) = copy-steps e d (length x) (nodes-fit t x d j hd) in
+    let c : copy_steps e d ≤ nodes e * (length x + 1) = copy-steps e d (length x) (nodes-fit t x d j.list hd) in
     let m : nodes e * (length x + 1)
-    ≤ length b * (length x + 1) = mul-le-mul_right (length x + 1) (nodes-fit t b e i he) in
-    run-walked t b x lb lx k (copy e e d ∷ []) w r ((le, ld), tt) (omega arith) ∙ walk-merge k e d (omega arith)
+    ≤ length b * (length x + 1) = mul-le-mul_right (length x + 1) (nodes-fit t b e i.list he) in
+    run-walked t b x k (copy e e d ∷ []) w r ((le, ld), tt) (omega arith) ∙ walk-merge k e d (omega arith)

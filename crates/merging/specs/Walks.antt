@@ -1,21 +1,22 @@
 -- The walk through a merged enumeration, on bytes: its open lists, and its run to the end.
-use Rattle.std.specs.Prelude.{◌≡◌, false, cond, List, [], ◌++◌, ℕ, zero, suc, ◌+◌, ◌-◌, ◌≤◌}
-use Rattle.std.specs.Prelude.{length, get_or, set, eqb, ltb}
+use Rattle.std.specs.Prelude.{◌≡◌, cond, List, [], ◌++◌, ℕ, zero, suc, ◌+◌, ◌-◌, ◌≤◌}
+use Rattle.std.specs.Prelude.{length, get_or, set, eqb, ltb, Option, None, Result, Ok, Err}
 use Rattle.rules.specs.Book.{Record, bytes}
 use Rattle.ground.specs.Parts.{splice}
 use Rattle.merging.specs.Steps.{emitted, goes, size_with, look_move}
+use Rattle.enumerations.specs.Lists.{list_of}
 use Rattle.enumerations.specs.declared.Inner.{Inner}
 use Rattle.enumerations.specs.declared.Size.{Size}
 use Rattle.merging.specs.declared.Turn.{Turn}
 use Rattle.merging.specs.declared.Turn.TheVariants.{Go, Enter, Leave}
 use Rattle.merging.specs.declared.Position.{Position}
+use Rattle.merging.specs.declared.Position.TheVariants.{Copying, Adding}
 use Rattle.merging.specs.declared.Move.{Move}
 use Rattle.merging.specs.declared.Walk.{Walk}
-use Rattle.merging.specs.declared.Laid.{Laid}
-use Rattle.merging.specs.declared.Laid.TheVariants.{Whole, Misfit}
+use Rattle.merging.specs.declared.Misfit.{Misfit}
 
 abbrev pub no_position : Position
-no_position = record { base = 0; at = 0; own = 0; adding = false; is_final = false }
+no_position = Adding None None
 
 -- the innermost open list
 unfoldable pub top_of : Walk → Position
@@ -24,15 +25,15 @@ top_of w = get_or w.places (w.depth - 1) no_position
 abbrev pub gone : Walk → Position → Walk
 gone w p = record { places = set w.places (w.depth - 1) p; depth = w.depth }
 
-abbrev pub turned : Turn → Walk → Position → Position → Walk
-turned Go w next child = gone w next
-turned Enter w next child =
+abbrev pub turned : Turn → Walk → Walk
+turned (Go next) w = gone w next
+turned (Enter next child) w =
     cond (ltb w.depth 8)
     (record { places = set (set w.places (w.depth - 1) next) w.depth child; depth = w.depth + 1 }) (gone w next)
-turned Leave w next child = record { places = w.places; depth = w.depth - 1 }
+turned Leave w = record { places = w.places; depth = w.depth - 1 }
 
-unfoldable pub moved_by : Walk → Move → Walk
-moved_by w m = turned m.turn w m.next m.child
+unfoldable pub moved_by : Walk → Turn → Walk
+moved_by w u = turned u w
 
 -- what a run writes, or that something is added where nothing may be
 pub data Ran : Type 0 where
@@ -50,19 +51,19 @@ unfoldable pub run_from : ℕ → List ℕ → List ℕ → List ℕ → Walk �
 run_from zero t b x w = wrote []
 run_from (suc k) t b x w =
     let m = look_move t b x (top_of w) in
-    let r = run_from k t b x (moved_by w m) in
+    let r = run_from k t b x (moved_by w m.turn) in
     cond (eqb w.depth 0) (wrote []) (after_move m r)
 
 -- the answer r and the buffer o₁ are those of a run whose records go to the buffer o, behind what has the
 -- size s from the place i on
-abbrev pub RanTo : Ran → ℕ → Size → List ℕ → List ℕ → Laid → Type 0
+abbrev pub RanTo : Ran → ℕ → Size → List ℕ → List ℕ → Result Size Misfit → Type 0
 RanTo (wrote l) i s o o₁ r =
-    (r ≡ Whole (size_with s l)) × (i + s.bytes + length (bytes l) ≤ length o → o₁ ≡ splice o (i + s.bytes) (bytes l))
-RanTo barred i s o o₁ r = r ≡ Misfit
+    (r ≡ Ok (size_with s l)) × (i + s.bytes + length (bytes l) ≤ length o → o₁ ≡ splice o (i + s.bytes) (bytes l))
+RanTo barred i s o o₁ r = r ≡ Err (record {})
 
 -- a walk that starts with these two lists
-pub record Starts (b x : Inner) (w : Walk) : Type 0 where
+pub record Starts (b x : Option Inner) (w : Walk) : Type 0 where
   pub depth : w.depth ≡ 1
   pub eight : length w.places ≡ 8
   pub first : get_or w.places 0 no_position
-      ≡ record { base = b.list; at = b.list; own = x.list; adding = false; is_final = b.is_final }
+      ≡ Copying b (list_of b) (list_of x)

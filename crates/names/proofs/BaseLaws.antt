@@ -1,16 +1,14 @@
--- Flags, references into topics, and bases.
-use mathlib.Core.Path.{◌≡◌, refl, sym, ap, ◌∙◌, subst}
+-- References into topics, and bases.
+use mathlib.Core.Path.{◌≡◌, sym, ap, ◌∙◌, subst}
 use mathlib.Core.Bool.{Bool, true, false}
 use mathlib.Core.Option.{Option, none, some}
 use mathlib.Core.List.{List}
-use Prim.Native.Nat.{ℕ, zero, suc, ◌+◌, ◌/◌, ◌%◌, ◌≤◌, ◌<◌}
+use Prim.Native.Nat.{ℕ, zero, suc, ◌+◌, ◌≤◌, ◌<◌}
 use native.Mathlib.Omega.{arith}
 use lib.ListN.{length, get_or}
-use lib.Dec.{eqb}
 use borrow.Author.Tests.{eq-eqb, ne_eqb}
 use Rattle.rules.specs.Bytes.{same}
 use Rattle.rules.specs.Declarations.{Def, State, known, lookup, at_home, at_hand, in_topic_of, resolve, sort_number}
-use Rattle.rules.specs.Book.{flags}
 use Rattle.rules.specs.Judge.{bases_of, is_among}
 use Rattle.ground.specs.declared.Name.{Name}
 use Rattle.ground.specs.declared.Reference.{Reference}
@@ -18,26 +16,6 @@ use Rattle.ground.specs.declared.Reference.TheVariants.{Bare, InModel, InTopic}
 use Rattle.names.specs.References.{bytes_of, Inside, AllInside, reference_of}
 use Rattle.names.specs.Index.{entry, row, Says, Known, defined_at, Chained, definition_width}
 use Rattle.names.proofs.IndexLaws.{there, at-home}
-
--- ---- flags
-pub bits : (a f e m : Bool) → (eqb (flags a f e m % 2) 1 ≡ a) × (eqb (flags a f e m / 2 % 2) 1 ≡ f)
-    × (eqb (flags a f e m / 8) 1 ≡ m)
-bits true true true true = (refl, refl, refl)
-bits true true true false = (refl, refl, refl)
-bits true true false true = (refl, refl, refl)
-bits true true false false = (refl, refl, refl)
-bits true false true true = (refl, refl, refl)
-bits true false true false = (refl, refl, refl)
-bits true false false true = (refl, refl, refl)
-bits true false false false = (refl, refl, refl)
-bits false true true true = (refl, refl, refl)
-bits false true true false = (refl, refl, refl)
-bits false true false true = (refl, refl, refl)
-bits false true false false = (refl, refl, refl)
-bits false false true true = (refl, refl, refl)
-bits false false true false = (refl, refl, refl)
-bits false false false true = (refl, refl, refl)
-bits false false false false = (refl, refl, refl)
 
 -- ---- positions that are there
 pub entry-there : {A : Type 0} (l : List A) (p : ℕ) → 0 < p → p ≤ length l → (a : A) × (entry l p ≡ some a)

@@ -4,35 +4,21 @@ use mathlib.Core.Logic.{◌⊎◌, inl, inr, ⊎_elim}
 use mathlib.Core.Bool.{Bool, true, false, cond}
 use mathlib.Core.Option.{none, some}
 use mathlib.Core.List.{List, [], ◌∷◌}
-use Prim.Native.Nat.{ℕ, suc, ◌+◌, ◌-◌, ◌*◌, ◌%◌, ◌≤◌, ◌<◌}
+use Prim.Native.Nat.{ℕ, suc, ◌+◌, ◌-◌, ◌≤◌, ◌<◌}
 use native.Mathlib.Omega.{arith}
-use lib.ListN.{length, get_or, drop}
+use lib.ListN.{get_or, drop}
 use lib.Seq.{drop-drop}
 use lib.Dec.{eqb}
 use borrow.Author.Tests.{eqb-true, eq-eqb}
 use Rattle.rules.specs.Declarations.{Def, lookup}
 use Rattle.rules.proofs.Tests.{split, not-both, is_false}
 use Rattle.rules.proofs.ByteLaws.{same-eq}
-use Rattle.ground.specs.Parts.{part}
-use Rattle.rules.proofs.PartLaws.{part-cons}
 use Rattle.names.specs.Index.{nth, entry, row, Says, Known, defined_at, definition_width}
-use Rattle.names.specs.Chains.{key_from, key_of, next_from, Chains, keys}
+use Rattle.names.specs.Chains.{key_of, next_from, Chains, keys}
 use Rattle.names.proofs.IndexLaws.{nth-within, nth-dropped, look-here, look-on}
 
 abbrev key : Def → ℕ
 key d = key_of d.name.bytes
-
--- ---- the key of a part of the text, i bytes of which are passed
-module _ (t : List ℕ) (o l i k : ℕ) where
-  pub key-next : i < l → o + l ≤ length t → key_from k (part t (o + i) (l - i))
-      ≡ key_from ((k * 31 + get_or t (o + i) 0) % keys) (part t (o + (i + 1)) (l - (i + 1)))
-  key-next h w =
-      let a : o + i + 1 ≡ o + (i + 1) = omega arith in
-      let b : l - i - 1 ≡ l - (i + 1) = omega arith in
-      rw (part-cons t (o + i) (l - i) (omega arith) (omega arith), a, b)
-
-  pub key-end : l ≤ i → key_from k (part t (o + i) (l - i)) ≡ k
-  key-end h = let e : l - i ≡ 0 = omega arith in rw e
 
 -- ---- the next of a key
 record Next (k i : ℕ) (l : List Def) : Type 0 where

@@ -13,9 +13,8 @@ use lib.Dec.{eqb}
 use borrow.Author.Tests.{eqb-true, eq-eqb, ne_eqb}
 use Rattle.rules.specs.Bytes.{same}
 use Rattle.rules.specs.Declarations.{Def, State, known, lookup, same_home, number_in, defined_as, at_home, at_hand}
-use Rattle.rules.proofs.Tests.{alike, fail-r}
-use Rattle.ground.specs.Parts.{part}
-use Rattle.names.specs.Index.{nth, entry, row, home_number, Says, defined_at}
+use Rattle.rules.proofs.Tests.{alike}
+use Rattle.names.specs.Index.{nth, entry, row, home_number, defined_at}
 
 -- ---- positions
 pub there : {A : Type 0} (l : List A) (i : ℕ) → i < length l → (a : A) × (nth l i ≡ some a)
@@ -79,27 +78,6 @@ module _ (q : Def → Bool) where
 pub look-alike : (q r : Def → Bool) → ((d : Def) → q d ≡ r d) → (ks : List Def) → lookup q ks ≡ lookup r ks
 look-alike q r e [] = refl
 look-alike q r e (d ∷ ks) = let h = e d in let i = look-alike q r e ks in cc
-
--- ---- a row with the name
-module _ (t : List ℕ) (d : Def) (r n : List ℕ) (s : Says t d r) (low high h : ℕ) (eh : h ≡ get_or r 2 0) where
-  homes : (eqb h low || eqb h high) ≡ (eqb (home_number d.home) low || eqb (home_number d.home) high)
-  homes = rw (← s.home, ← eh)
-
-  pub miss : (eqb h low || eqb h high) ≡ false → false ≡ defined_at n low high d
-  miss e = sym (fail-r (same n d.name.bytes) (sym homes ∙ e))
-
-  module _ (o l : ℕ) (eo : o ≡ get_or r 0 0) (el : l ≡ get_or r 1 0) where
-    pub hit : (eqb h low || eqb h high) ≡ true → same n (part t o l) ≡ defined_at n low high d
-    hit e =
-        let p : part t o l ≡ d.name.bytes = rw (eo, el, s.offset, s.size) s.named.same_bytes in
-        rw (p, ← homes, e) (with-true (same n d.name.bytes))
-      where
-        with-true : (b : Bool) → b ≡ (b && true)
-        with-true true = refl
-        with-true false = refl
-
-    pub outside : length t < o + l → false ≡ defined_at n low high d
-    outside e = let w = s.named.within in let a = s.offset in let b = s.size in absurd (omega arith)
 
 -- ---- at hand, and at a home
 home-eq : (h k : Option ℕ) → eqb (home_number k) (home_number h) ≡ same_home h k

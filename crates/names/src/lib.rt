@@ -19,10 +19,10 @@ ghost use Rattle.names.specs.Chains.{keys, key_of, Chains, Links};
 ghost use Rattle.names.specs.References.{bytes_of, Inside, AllInside, reference_of};
 ghost use Rattle.names.specs.Rows.{definition_row, Narrow};
 
-use ground::{Name, Reference, put2, wide2};
+use ground::{Name, Reference, put};
 
 // What the row of a definition has; the number of a home is 0 at the model's level, else one more than the topic's
-// record number.
+// record number. Columns are numbers, since a row is 16-bit numbers of lent memory and nothing is kept on a heap.
 pub const OFFSET: usize = 0;
 
 pub const LENGTH: usize = 1;
@@ -58,7 +58,7 @@ pub fn field(index: &[u16], p: usize, f: usize) -> usize
     requires { (f < definition_width) × Rows index.now p }
     ensures { (result ≡ get_or (row definition_width index.now p) f 0) × (result < 65536) }
 {
-    wide2(index[p * WIDTH + f])
+    usize::from(index[p * WIDTH + f])
 }
 
 pub fn number_of(index: &[u16], p: usize) -> usize
@@ -98,19 +98,19 @@ pub fn place_of(index: &[u16], p: usize) -> usize
 pub fn is_abstract(flags: usize) -> bool
     ensures { (a f e m : Bool) → flags ≡ B.flags a f e m → result ≡ a }
 {
-    flags % 2 == 1
+    flags & 1 != 0
 }
 
 pub fn is_final(flags: usize) -> bool
     ensures { (a f e m : Bool) → flags ≡ B.flags a f e m → result ≡ f }
 {
-    flags / 2 % 2 == 1
+    flags & 2 != 0
 }
 
 pub fn is_mandatory(flags: usize) -> bool
     ensures { (a f e m : Bool) → flags ≡ B.flags a f e m → result ≡ m }
 {
-    flags / 8 == 1
+    flags & 8 != 0
 }
 
 // ---- looking up
@@ -124,10 +124,7 @@ pub fn same_name(text: &[u8], a: Name, b: Name) -> bool
 fn is_home(home: usize, low: usize, high: usize) -> bool
     ensures { result ≡ (eqb home low || eqb home high) }
 {
-    if home == low {
-        return true;
-    }
-    home == high
+    home == low || home == high
 }
 
 // The definition p has the name and one of two homes.
@@ -136,16 +133,14 @@ fn is_hit(text: &[u8], index: &[u16], p: usize, name: Name, low: usize, high: us
     ensures { (d : Def) → Says text.now d (row definition_width index.now p)
         → result ≡ defined_at (bytes_of text.now name) low high d }
 {
-    if is_home(field(index, p, HOME), low, high) {
-        let own = Name {
-            offset: field(index, p, OFFSET),
-            len: field(index, p, LENGTH),
-        };
-        if own.offset + own.len <= text.len() {
-            return same_name(text, name, own);
-        }
+    if !is_home(field(index, p, HOME), low, high) {
+        return false;
     }
-    false
+    let own = Name {
+        offset: field(index, p, OFFSET),
+        len: field(index, p, LENGTH),
+    };
+    own.offset + own.len <= text.len() && same_name(text, name, own)
 }
 
 // ---- chains of definitions by a key of their name: in the numbers lent stand the first and the last of each key, and
@@ -154,13 +149,9 @@ pub fn key_of(text: &[u8], name: Name) -> usize
     requires { Inside text.now name }
     ensures { (result ≡ key_of (bytes_of text.now name)) × (result < keys) }
 {
-    let offset = name.offset;
-    let len = name.len;
     let mut k = 0;
-    let mut i = 0;
-    while i < len {
-        k = (k * 31 + ground::wide(text[offset + i])) % KEYS;
-        i += 1;
+    for b in &text[name.offset..name.offset + name.len] {
+        k = (k * 31 + usize::from(*b)) % KEYS;
     }
     k
 }
@@ -180,7 +171,8 @@ fn find(
         → Chains ks chains.now
         → entry ks result ≡ lookup (defined_at (bytes_of text.now name) low high) ks) }
 {
-    let mut p = wide2(chains[key_of(text, name)]);
+    let mut p = usize::from(chains[key_of(text, name)]);
+    // No slice or range has the next position: it stands in the lent row. An iterator over it is no plainer.
     while 0 < p {
         if count < p {
             return 0;
@@ -188,7 +180,7 @@ fn find(
         if is_hit(text, index, p, name, low, high) {
             return p;
         }
-        let next = wide2(chains[NEXTS + p]);
+        let next = usize::from(chains[NEXTS + p]);
         if next <= p {
             return 0;
         }
@@ -295,7 +287,7 @@ pub fn make_known(chains: &mut [u16], p: usize, key: usize)
     ensures { (ks : List Def) (d : Def) → Chains ks chains.old → p ≡ length ks + 1
         → key ≡ key_of d.name.bytes → Chains (ks ++ (d ∷ [])) chains.new }
 {
-    let last = wide2(chains[LASTS + key]);
+    let last = usize::from(chains[LASTS + key]);
     chains[NEXTS + p] = 0;
     if last == 0 {
         chains[key] = p as u16;
@@ -316,6 +308,7 @@ pub fn descends(index: &[u16], count: usize, p: usize, number: usize) -> bool
         → Chained ks index.now → result ≡ is_among number (bases_of (entry ks p)) }
 {
     let mut at = p;
+    // The next position stands in the lent row, as in `find`.
     while 0 < at {
         if number_of(index, at) == number {
             return true;
@@ -363,7 +356,7 @@ pub fn enter(index: &mut [u16], p: usize, d: NewDefinition)
         d.first as u16,
         d.first as u16,
     ];
-    put2(index, at, &row);
+    put(index, at, &row);
 }
 
 // The class p ends with the attribute `last`.

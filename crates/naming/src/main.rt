@@ -2,7 +2,6 @@
 // of its name and the name; a line with a dash where it is not there.
 #![tactic(auto)]
 
-use book::Found;
 use std::io::Result;
 
 // The name of the record that is read from a byte on.
@@ -15,10 +14,9 @@ fn show_at(rt: &impl Print, text: &[u8], book: &[u8], beginning: usize) -> Resul
 }
 
 fn show(rt: &impl Print, text: &[u8], book: &[u8], record: usize) -> Result<()> {
-    let f = records::find_record(book, record);
-    match f {
-        Found::At(beginning) => show_at(rt, text, book, beginning),
-        Found::Nothing => println!(rt; "-"),
+    match records::find_record(book, record) {
+        Some(beginning) => show_at(rt, text, book, beginning),
+        None => println!(rt; "-"),
     }
 }
 

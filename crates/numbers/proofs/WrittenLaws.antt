@@ -1,14 +1,17 @@
 -- The number that a symbol writes, byte by byte: with no more digits than "Sizes" allows it is below the limit.
-use mathlib.Core.Path.{◌≡◌, refl, sym, ◌∙◌}
-use mathlib.Core.Bool.{Bool, true, false, cond, ◌&&◌}
+use mathlib.Core.Path.{◌≡◌, refl, sym}
+use mathlib.Core.Bool.{Bool, true, false, cond, not}
 use mathlib.Core.List.{List, [], ◌∷◌}
-use Prim.Native.Nat.{ℕ, zero, suc, ◌+◌, ◌-◌, ◌*◌, ◌^◌, ◌≤◌, ◌<◌}
+use Prim.Native.Nat.{ℕ, suc, ◌+◌, ◌-◌, ◌*◌, ◌^◌, ◌≤◌, ◌<◌}
 use native.Mathlib.Omega.{arith}
 use borrow.Author.Tests.{leb-true}
 use native.Mathlib.Numerals.{add-one}
-use lib.ListN.{length, drop, get_or, length-drop}
+use lib.ListN.{length, drop, get_or}
 use lib.Seq.{drop-cons}
-use lib.Dec.{eqb, leb, eqb-suc-zero}
+use lib.Dec.{eqb, leb, ltb}
+use Rattle.std.specs.Prelude.{Some, None}
+use Rattle.std.specs.List.{position_or_len, position, starts_with}
+use Rattle.std.proofs.lemmas.Bool.Decides.{nat_tests}
 use lib.IntN.{nat_abs, pos, neg_ℤ}
 use Rattle.rules.specs.Bytes.{is, is_digit}
 use Rattle.rules.specs.Symbols.{most_digits, digit_count}
@@ -17,12 +20,9 @@ use Rattle.rules.proofs.Tests.{split}
 use Rattle.numbers.proofs.PowerLaws.{ten-most, ten-more}
 use Rattle.numbers.proofs.SignedLaws.{abs_neg}
 
--- n with the byte b behind it; d decimals so far, with b and `left` bytes behind it
+-- n with the byte b behind it
 abbrev pub with_digit : ℕ → ℕ → ℕ
 with_digit n b = cond (is_digit b) (n * 10 + (b - 48)) n
-
-abbrev pub with_dot : ℕ → ℕ → ℕ → ℕ
-with_dot d b left = cond (eqb d 0 && is "." b) left d
 
 -- ---- there is room for the digits to come
 pub record Room (s : List ℕ) (n : ℕ) : Type 0 where
@@ -53,52 +53,47 @@ room-first s h = record { few = h; small = omega (arith, ten-most 0 (most_digits
 pub written_small : (s : List ℕ) → digit_count s ≤ most_digits → digits s 0 < magnitude_limit
 written_small s h = digits-small s 0 (room-first s h)
 
--- ---- the decimals: d so far, or those to come
-abbrev pub decimals_from : ℕ → List ℕ → ℕ
-decimals_from d s = cond (eqb d 0) (decimals_of s) d
-
-from-by : (t u : Bool) (d : ℕ) (s : List ℕ) → eqb d 0 ≡ t
-    → cond t (cond u (length s) (decimals_of s)) d ≡ decimals_from (cond (t && u) (length s) d) s
-from-by false u d s e = rw e
-from-by true false d s e = rw e
-from-by true true d [] e = refl
-from-by true true d (b ∷ s) e = rw (eqb-suc-zero (length s))
-
-pub from_next : (b d : ℕ) (s : List ℕ) → decimals_from d (b ∷ s) ≡ decimals_from (with_dot d b (length s)) s
-from_next b d s = from-by (eqb d 0) (is "." b) d s refl
-
--- ---- the bytes s, read up to its last bytes t: n so far, with d decimals
-pub record Scanned (s t : List ℕ) (n d : ℕ) : Type 0 where
+-- ---- the bytes s, read up to its last bytes t: n so far
+pub record Scanned (s t : List ℕ) (n : ℕ) : Type 0 where
   pub room : Room t n
   pub value : digits s 0 ≡ digits t n
-  pub decimals : decimals_of s ≡ decimals_from d t
 
-pub scanned-first : (s : List ℕ) → digit_count s ≤ most_digits → Scanned s s 0 0
-scanned-first s h = record { room = room-first s h; value = refl; decimals = refl }
+pub scanned-first : (s : List ℕ) → digit_count s ≤ most_digits → Scanned s s 0
+scanned-first s h = record { room = room-first s h; value = refl }
 
-pub scanned-small : {s t : List ℕ} {n d : ℕ} → Scanned s t n d → n < magnitude_limit
+pub scanned-small : {s t : List ℕ} {n : ℕ} → Scanned s t n → n < magnitude_limit
 scanned-small x = room_small _ _ x.room
 
-scanned-one : (s t : List ℕ) (b n d : ℕ) → Scanned s (b ∷ t) n d
-    → Scanned s t (with_digit n b) (with_dot d b (length t))
-scanned-one s t b n d x = record {
-  room = room_next b t n x.room;
-  value = x.value;
-  decimals = x.decimals ∙ from_next b d t;
-}
+pub scanned-next : (s : List ℕ) (i n : ℕ) {m : ℕ} → i < length s → Scanned s (drop i s) n
+    → m ≡ with_digit n (get_or s i 0) → Scanned s (drop (i + 1) s) m
+scanned-next s i n h x p =
+    let y = rw (drop-cons s i 0 h) at x in
+    rw (p, add-one)
+    (record { room = room_next (get_or s i 0) (drop (suc i) s) n y.room; value = y.value })
 
-pub scanned-next : (s : List ℕ) (i n d : ℕ) {n' d' : ℕ} → i < length s → Scanned s (drop i s) n d →
-    n' ≡ with_digit n (get_or s i 0) → d' ≡ with_dot d (get_or s i 0) (length s - (i + 1))
-    → Scanned s (drop (i + 1) s) n' d'
-scanned-next s i n d h x p q = rw (p, q, add-one, ← length-drop (suc i) s)
-    (scanned-one s (drop (suc i) s) (get_or s i 0) n d (rw (drop-cons s i 0 h) at x))
+pub scanned-whole : {s : List ℕ} {n : ℕ} → Scanned s [] n → n ≡ digits s 0
+scanned-whole x = sym x.value
 
-last-decimals : (d : ℕ) → decimals_from d [] ≡ d
-last-decimals zero = refl
-last-decimals (suc d) = rw (eqb-suc-zero d)
+-- ---- the decimals: the bytes behind the first dot
+by-dot : (s : List ℕ) → let k = position_or_len (is ".") s in
+    decimals_of s ≡ cond (ltb k (length s)) (length s - k - 1) 0
+by-dot [] = refl
+by-dot (b ∷ s) = go (is "." b) (by-dot s)
+  where
+    k : ℕ
+    k = position_or_len (is ".") s
 
-pub scanned-whole : {s : List ℕ} {n d : ℕ} → Scanned s [] n d → (n ≡ digits s 0) × (d ≡ decimals_of s)
-scanned-whole x = (sym x.value, sym (x.decimals ∙ last-decimals _))
+    go : (t : Bool) → decimals_of s ≡ cond (ltb k (length s)) (length s - k - 1) 0
+        → let j = cond (not t) (1 + k) 0 in
+        cond t (length s) (decimals_of s) ≡ cond (ltb j (suc (length s))) (suc (length s) - j - 1) 0
+    go true e = grind (arith, nat_tests)
+    go false e = grind (arith, nat_tests)
+
+pub dot-some : (s : List ℕ) (k : ℕ) → Some k ≡ position (is ".") s → length s - k - 1 ≡ decimals_of s
+dot-some s k e = let f = by-dot s in grind (arith, nat_tests)
+
+pub dot-none : (s : List ℕ) → None ≡ position (is ".") s → 0 ≡ decimals_of s
+dot-none s e = let f = by-dot s in grind (arith, nat_tests)
 
 -- ---- the value, by the sign
 by_sign : (t : Bool) (n : ℕ) → nat_abs (cond t (neg_ℤ (pos n)) (pos n)) ≡ n
@@ -111,3 +106,8 @@ value-small s h = rw (by_sign (is "-" (get_or s 0 0)) (digits s 0)) (written_sma
 pub value-is : (s : List ℕ) {t : Bool} {n : ℕ} → t ≡ is "-" (get_or s 0 0) → n ≡ digits s 0
     → cond t (neg_ℤ (pos n)) (pos n) ≡ value_of s
 value-is s p e = rw (p, e)
+
+-- a sign is the first byte
+pub minus : (s : List ℕ) → starts_with eqb s (45 ∷ []) ≡ is "-" (get_or s 0 0)
+minus [] = refl
+minus (b ∷ s) = grind (arith, nat_tests)

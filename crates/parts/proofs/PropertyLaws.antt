@@ -74,6 +74,10 @@ module _ (p : List (List ℕ)) where
   with-abstract : with_word (flags_of p) 71 ≡ flags_of (p ++ (ascii "ABSTRACT" ∷ []))
   with-abstract = sym (more (ascii "ABSTRACT"))
 
+pub default-flags : (p : Properties)
+    → (p.is_abstract ≡ false) × ((p.is_final ≡ false) × ((p.extended ≡ false) × (p.twice ≡ false))) → p ≡ flags_of []
+default-flags p (a, (b, (c, d))) = rw (a, b, c, d)
+
 -- ---- a symbol that is a property
 pub word_bytes : {t : List ℕ} {y : Symbol} (w : List ℕ) (k : ℕ) → 64 + position w forms ≡ k → y.code ≡ k
     → (z : rules.Symbol) → Cuts t z y → z.bytes ≡ w

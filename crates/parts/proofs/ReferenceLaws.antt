@@ -4,6 +4,7 @@ use mathlib.Core.List.{List}
 use mathlib.Core.Option.{none, some}
 use Prim.Native.Nat.{ℕ}
 use native.Mathlib.Omega.{arith}
+use Rattle.std.specs.Prelude.{Some, None}
 use Rattle.rules.specs.Bytes.{ascii}
 use Rattle.rules.specs.Symbols.{is_mark, is_word}
 use Rattle.rules.specs.Grammar.{bare, in_model, in_topic, reference, extends, unit_reference, optional_unit}
@@ -14,7 +15,6 @@ use Rattle.readers.proofs.CodeLaws.{Test, is-mark, is-square, is_word_lem}
 use Rattle.readers.proofs.ReadLaws.{onward, bind, stay, mapped, if-true, if-false, expected, is-yes, is-no, a-name}
 use Rattle.ground.specs.declared.Reference.{Reference}
 use Rattle.ground.specs.declared.Reference.TheVariants.{Bare, InModel, InTopic}
-use Rattle.parts.specs.declared.Optional.TheVariants.{Nothing, Given}
 use Rattle.parts.specs.Forms.{reference_of, optional_of}
 
 dot : Test (is_mark ".") 46
@@ -56,29 +56,29 @@ module _ {t : List ℕ} {y a : Symbol} {i : Name} (e : a ≡ passed t y 1) (f : 
 module _ {t : List ℕ} {y : Symbol} where
   pub extended : {z n : Symbol} {v : Reference} → y.code ≡ 73 → z ≡ passed t y 73
       → Reads t reference (λ r. v ≡ reference_of r) z n
-      → Reads t extends (λ a. Given v ≡ optional_of a) y n
+      → Reads t extends (λ a. Some v ≡ optional_of a) y n
   unfolding extends
   extended k e r =
       let w = is_word_lem (ascii "EXTENDS") 73 refl in
       if-true (is_word (ascii "EXTENDS")) _ _ (is-yes w k)
-      (mapped some (bind (expected w e) (λ _ _. r) r.passes) (λ a q. ap Given q))
+      (mapped some (bind (expected w e) (λ _ _. r) r.passes) (λ a q. ap Some q))
 
-  pub not_extended : (y.code ≡ 73 → ⊥) → Reads t extends (λ a. Nothing ≡ optional_of a) y y
+  pub not_extended : (y.code ≡ 73 → ⊥) → Reads t extends (λ a. None ≡ optional_of a) y y
   unfolding extends
   not_extended k =
       if-false (is_word (ascii "EXTENDS")) _ _ (is-no (is_word_lem (ascii "EXTENDS") 73 refl) k) (stay none refl)
 
   pub unit-there : {z m n : Symbol} {v : Reference} → y.code ≡ 91 → z ≡ passed t y 91
       → Reads t reference (λ r. v ≡ reference_of r) z m → n ≡ passed t m 93
-      → Reads t optional_unit (λ a. Given v ≡ optional_of a) y n
+      → Reads t optional_unit (λ a. Some v ≡ optional_of a) y n
   unfolding optional_unit unit_reference
   unit-there k e r f =
       let left = is-square "[" (omega arith) in
       let close = expected (is-square "]" (omega arith)) f in
       let inner = bind r (λ a q. bind close (λ _ _. stay a q) (λ _ _ c. c)) close.passes in
       if-true (is_mark "[") _ _ (is-yes left k)
-      (mapped some (bind (expected left e) (λ _ _. inner) inner.passes) (λ a q. ap Given q))
+      (mapped some (bind (expected left e) (λ _ _. inner) inner.passes) (λ a q. ap Some q))
 
-  pub no_unit : (y.code ≡ 91 → ⊥) → Reads t optional_unit (λ a. Nothing ≡ optional_of a) y y
+  pub no_unit : (y.code ≡ 91 → ⊥) → Reads t optional_unit (λ a. None ≡ optional_of a) y y
   unfolding optional_unit
   no_unit k = if-false (is_mark "[") _ _ (is-no (is-square "[" (omega arith)) k) (stay none refl)

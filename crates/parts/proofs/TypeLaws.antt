@@ -5,9 +5,8 @@ use mathlib.Core.Option.{Option, none, some}
 use mathlib.Core.List.{List, [], ◌∷◌}
 use Prim.Native.Nat.{ℕ, ◌+◌, ◌≤◌, ◌<◌}
 use native.Mathlib.Omega.{arith}
-use lib.ListN.{length, drop, get_or}
-use lib.Seq.{get_or-take, get_or-drop}
-use native.Mathlib.Nat.{add-zero}
+use Rattle.std.specs.Prelude.{Option as code·Option, Some, None}
+use lib.ListN.{length, get_or}
 use lib.Dec.{eqb}
 use borrow.Author.Tests.{eqb-true, ne_eqb, lt-ltb, le-ltb}
 use Rattle.rules.specs.Bytes.{ascii, same, is_digit}
@@ -20,7 +19,7 @@ use Rattle.rules.specs.Grammar.{enough, deepest, enumeration, WrittenType, text,
 use Rattle.rules.specs.Grammar.{text_length, text_type, optional_unit, range_type, numeric_type, reference, type_of}
 use Rattle.rules.specs.Grammar.{type_or_reference, place_of_next}
 use Rattle.rules.specs.Grammar.{written}
-use Rattle.rules.proofs.Tests.{never, both, fail-r}
+use Rattle.rules.proofs.Tests.{never, both}
 use Rattle.ground.specs.Parts.{part}
 use Rattle.book.specs.Forms.{text_kind}
 use Rattle.numbers.specs.declared.Number.{Number}
@@ -34,14 +33,12 @@ use Rattle.readers.proofs.ReadLaws.{onward, bind, stay, mapped, weaker, if-true,
 use Rattle.readers.proofs.ReadLaws.{behind, refuses, is-yes, is-no}
 use Rattle.elements.specs.Noted.{Whole}
 use Rattle.ground.specs.declared.Reference.{Reference}
-use Rattle.parts.specs.declared.Optional.{Optional}
-use Rattle.parts.specs.declared.Optional.TheVariants.{Nothing, Given}
-use Rattle.parts.specs.declared.types.Whole.TheVariants.{Count, Other}
 use Rattle.parts.specs.declared.types.Meant.{Meant}
 use Rattle.parts.specs.declared.types.Meant.TheVariants.{Alone, Text, Limited, Range, Numeric, Enumeration}
 use Rattle.parts.specs.declared.types.Meant.TheVariants.{Named}
-use Rattle.parts.specs.Forms.{reference_of, optional_of, number_of, whole_of, text_code, limit_of, Plainly, Means}
-use Rattle.parts.specs.Forms.{MeansAny}
+use Rattle.parts.specs.declared.types.Meaning.{Meaning}
+use Rattle.parts.specs.Forms.{reference_of, optional_of, number_of, whole_of, whole_at, text_code, limit_of, Plainly}
+use Rattle.parts.specs.Forms.{Means, MeansAny}
 use Rattle.parts.specs.Forms.{MeansAll, type_by, mandatory_by}
 use Rattle.parts.proofs.PropertyLaws.{word_bytes}
 
@@ -89,32 +86,43 @@ module _ {t : List ℕ} {y : Symbol} where
 abbrev is_whole : List ℕ → Bool
 is_whole b = is_digit (get_or b 0 0) && eqb (decimals_of b) 0
 
-whole-count : (b : List ℕ) (n : ℕ) → whole_of b ≡ Count n → (is_whole b ≡ true) × (n ≡ digits b 0)
+whole-count : (b : List ℕ) (n : ℕ) → whole_of b ≡ Some n → (is_whole b ≡ true) × (n ≡ digits b 0)
 whole-count b n e = go (is_whole b) refl e
   where
-    go : (x : Bool) → is_whole b ≡ x → cond x (Count (digits b 0)) Other ≡ Count n
+    go : (x : Bool) → is_whole b ≡ x → cond x (Some (digits b 0)) None ≡ Some n
         → (is_whole b ≡ true) × (n ≡ digits b 0)
     go true f g = (f, cc)
-    go false f g = absurd (let q : ◌≡◌ {A = ℕ} 0 1 = cc in omega arith)
+    go false f g = cc
 
-whole-other : (b : List ℕ) → whole_of b ≡ Other → is_whole b ≡ false
+whole-other : (b : List ℕ) → whole_of b ≡ None → is_whole b ≡ false
 whole-other b e = go (is_whole b) refl e
   where
-    go : (x : Bool) → is_whole b ≡ x → cond x (Count (digits b 0)) Other ≡ Other → is_whole b ≡ false
-    go true f g = absurd (let q : ◌≡◌ {A = ℕ} 0 1 = cc in omega arith)
+    go : (x : Bool) → is_whole b ≡ x → cond x (Some (digits b 0)) None ≡ None → is_whole b ≡ false
+    go true f g = cc
     go false f g = f
 
+counts : (t : List ℕ) (y : Symbol) (u : ℕ) → Some u ≡ whole_at t y
+    → (y.code ≡ 2) × (whole_of (part t y.place (length_at y)) ≡ Some u)
+counts t y u e = go (eqb y.code 2) refl (sym e)
+  where
+    go : (b : Bool) → eqb y.code 2 ≡ b → cond b (whole_of (part t y.place (length_at y))) None ≡ Some u
+        → (y.code ≡ 2) × (whole_of (part t y.place (length_at y)) ≡ Some u)
+    go true f g = (eqb-true y.code 2 f, g)
+    go false f g = cc
+
 module _ {t : List ℕ} {y : Symbol} where
-  pub not-number : (y.code ≡ 2 → ⊥) → (z : rules.Symbol) → Cuts t z y → is_length z ≡ false
-  not-number k z c = rw (is-no is_number k z c)
+  pub not-whole : None ≡ whole_at t y → (z : rules.Symbol) → Cuts t z y → is_length z ≡ false
+  not-whole e z c = go (eqb y.code 2) refl (sym e)
+    where
+      go : (b : Bool) → eqb y.code 2 ≡ b → cond b (whole_of (part t y.place (length_at y))) None ≡ None
+          → is_length z ≡ false
+      go true f g = rw (is-yes is_number (eqb-true y.code 2 f) z c) (whole-other z.bytes (rw (bytes_of z c) at g))
+      go false f g = rw (is-no is_number (λ h. let q = rw h at f in cc) z c)
 
-  pub not-whole : y.code ≡ 2 → whole_of (part t y.place (length_at y)) ≡ Other → (z : rules.Symbol)
-      → Cuts t z y → is_length z ≡ false
-  not-whole k e z c = rw (is-yes is_number k z c) (whole-other z.bytes (rw (bytes_of z c) at e))
-
-  counts : {u : ℕ} → y.code ≡ 2 → whole_of (part t y.place (length_at y)) ≡ Count u → (z : rules.Symbol) → Cuts t z y
+  length-read : (u : ℕ) → Some u ≡ whole_at t y → (z : rules.Symbol) → Cuts t z y
       → (is_length z ≡ true) × (u ≡ digits z.bytes 0)
-  counts {u} k w z c =
+  length-read u e z c =
+      let (k, w) = counts t y u e in
       let q = whole-count z.bytes u (rw (bytes_of z c) at w) in
       (rw (is-yes is_number k z c) q.0, q.1)
 
@@ -125,13 +133,13 @@ module _ {t : List ℕ} {y n : Symbol} (m : Bool) where
   unfolding text_length
   no_length h e = refuses _ h e
 
-  module _ {u : ℕ} (k : y.code ≡ 2) (w : whole_of (part t y.place (length_at y)) ≡ Count u) where
+  module _ {u : ℕ} (w : Some u ≡ whole_at t y) where
     pub long-length : {v : Meant} → 4294967295 < u → n ≡ faulty_as 4 y
         → Reads t text_length (λ s. v ≡ limit_of m (some s)) y n
     unfolding text_length
     long-length h e =
         record {
-          reads = λ z c. let q = counts k w z c in rw (q.0, lt-ltb 4294967295 (digits z.bytes 0) (omega arith))
+          reads = λ z c. let q = length-read u w z c in rw (q.0, lt-ltb 4294967295 (digits z.bytes 0) (omega arith))
               (record {
                 next = record {
                   cuts = e ∙ ap (λ (x : Symbol). faulty_as 4 x) c.cuts;
@@ -139,7 +147,7 @@ module _ {t : List ℕ} {y n : Symbol} (m : Bool) where
                 };
                 value = tt;
               });
-          passes = λ f p c. absurd (let q : 5 ≡ 2 = rw c.cuts at k in omega arith);
+          passes = λ f p c. absurd (let k = counts t y u w in let q : 5 ≡ 2 = rw c.cuts at k.0 in omega arith);
         }
 
     pub good_length : u ≤ 4294967295 → n ≡ passed t y 2
@@ -147,18 +155,18 @@ module _ {t : List ℕ} {y n : Symbol} (m : Bool) where
     unfolding text_length
     good_length h e =
         record {
-          reads = λ z c. let q = counts k w z c in rw (q.0, le-ltb 4294967295 (digits z.bytes 0) (omega arith))
+          reads = λ z c. let q = length-read u w z c in rw (q.0, le-ltb 4294967295 (digits z.bytes 0) (omega arith))
               (record {
                 next = expected-next z c;
                 value =
                     ap (λ (x : ℕ). Limited (text_kind m) x y.place) q.1
                     ∙ ap (λ (x : Symbol). Limited (text_kind m) (digits z.bytes 0) x.place) c.cuts;
               });
-          passes = λ f p c. absurd (let q : 5 ≡ 2 = rw c.cuts at k in omega arith);
+          passes = λ f p c. absurd (let k = counts t y u w in let q : 5 ≡ 2 = rw c.cuts at k.0 in omega arith);
         }
       where
         expected-next : (z : rules.Symbol) → Cuts t z y → Cuts t (symbol_at t (end_of z)) n
-        expected-next z c = rw (is-yes is_number k z c) at ((expected is_number e).reads z c).next
+        expected-next z c = rw (is-yes is_number (counts t y u w).0 z c) at ((expected is_number e).reads z c).next
 
 -- ---- TEXT and MTEXT
 no-fault : (y : Symbol) (m : Bool) → y.code ≡ text_code m → y.code ≡ 5 → ⊥
@@ -185,33 +193,36 @@ module _ {t : List ℕ} {y : Symbol} where
   text-kind false k z c = rw (word_bytes (ascii "TEXT") 79 refl k z c)
 
   module _ (m : Bool) (k : y.code ≡ text_code m) {z : Symbol} (e : z ≡ passed t y y.code) where
-    text-with : {v : Meant} {n : Symbol} (q : Reader (Option rules.Symbol)) → Reads t q (λ o. v ≡ limit_of m o) z n →
-        Reads t (expect (is_one_word (ascii "TEXT" ∷ ascii "MTEXT" ∷ []))
-        >>= λ w. q >>= λ o. ret (text (same w.bytes (ascii "MTEXT")) o)) (Plainly v Nothing) y n
-    text-with q r =
+    text-with : {v : Meaning} {n : Symbol} (q : Reader (Option rules.Symbol)) → v.reference ≡ None
+        → Reads t q (λ o. v.meant ≡ limit_of m o) z n
+        → Reads t (expect (is_one_word (ascii "TEXT" ∷ ascii "MTEXT" ∷ []))
+        >>= λ w. q >>= λ o. ret (text (same w.bytes (ascii "MTEXT")) o)) (Plainly v) y n
+    text-with q i r =
         bind (taken (is-text m k) (no-fault y m k) e) (λ w c. mapped (λ o. text (same w.bytes (ascii "MTEXT")) o) r
-        (λ o h. (rw (text-kind m k w c) h, refl, λ _ _. tt))) r.passes
+        (λ o h. (rw (text-kind m k w c) h, i, λ _ _. tt))) r.passes
 
-    pub text-limited : {v : Meant} {u : Optional} {s n : Symbol} → z.code ≡ 42 → s ≡ passed t z 42
-        → Reads t text_length (λ x. v ≡ limit_of m (some x)) s n → u ≡ Nothing → Reads t text_type (Plainly v u) y n
+    pub text-limited : {v : Meaning} {s n : Symbol} → z.code ≡ 42 → s ≡ passed t z 42
+        → Reads t text_length (λ x. v.meant ≡ limit_of m (some x)) s n → v.reference ≡ None
+        → Reads t text_type (Plainly v) y n
     unfolding text_type
     text-limited f g r h =
         let star = is-mark "*" (omega arith) (omega arith) in
-        rw h (text-with _ (if-true (is_mark "*") _ _ (is-yes star f)
-        (mapped some (bind (expected star g) (λ _ _. r) r.passes) (λ x h. h))))
+        text-with _ h (if-true (is_mark "*") _ _ (is-yes star f)
+        (mapped some (bind (expected star g) (λ _ _. r) r.passes) (λ x h. h)))
 
     pub text-free : {kind : ℕ} → kind ≡ text_kind m → (z.code ≡ 42 → ⊥)
-        → Reads t text_type (Plainly (Text kind) Nothing) y z
+        → Reads t text_type (Plainly (record { meant = Text kind; reference = None })) y z
     unfolding text_type
-    text-free h f = text-with _
+    text-free h f = text-with _ refl
         (if-false (is_mark "*") _ _ (is-no (is-mark "*" (omega arith) (omega arith)) f) (stay none (ap Text h)))
 
 -- ---- numbers
-pub range-reads : {t : List ℕ} {y d z m n : Symbol} {a b : Number} {u : Optional} → d ≡ passed t y 2
+pub range-reads : {t : List ℕ} {y d z m n : Symbol} {a b : Number} {u : code·Option Reference} → d ≡ passed t y 2
     → z ≡ passed t d 4 → m ≡ passed t z 2
     → ((w : rules.Symbol) → Cuts t w y → y.code ≡ 2 → a ≡ number_of w.bytes)
     → ((w : rules.Symbol) → Cuts t w z → z.code ≡ 2 → b ≡ number_of w.bytes)
-    → Reads t optional_unit (λ r. u ≡ optional_of r) m n → Reads t range_type (Plainly (Range a b) u) y n
+    → Reads t optional_unit (λ r. u ≡ optional_of r) m n
+    → Reads t range_type (Plainly (record { meant = Range a b; reference = u })) y n
 unfolding range_type
 range-reads e₁ e₂ e₃ f g r =
     let first = passes-by is_number e₁ in
@@ -226,8 +237,9 @@ range-reads e₁ e₂ e₃ f g r =
 numeric-word : Test (is_word (ascii "NUMERIC")) 81
 numeric-word = is_word_lem (ascii "NUMERIC") 81 refl
 
-pub numeric-reads : {t : List ℕ} {y m n : Symbol} {u : Optional} → m ≡ passed t y 81
-    → Reads t optional_unit (λ r. u ≡ optional_of r) m n → Reads t numeric_type (Plainly Numeric u) y n
+pub numeric-reads : {t : List ℕ} {y m n : Symbol} {u : code·Option Reference} → m ≡ passed t y 81
+    → Reads t optional_unit (λ r. u ≡ optional_of r) m n
+    → Reads t numeric_type (Plainly (record { meant = Numeric; reference = u })) y n
 unfolding numeric_type
 numeric-reads e r =
     bind (expected numeric-word e) (λ _ _. mapped (numeric none) r (λ o q. (refl, q, λ _ _. tt))) r.passes
@@ -256,7 +268,7 @@ module _ {t : List ℕ} {y n : Symbol} where
 
   pub type-enum : (o : List ℕ) {p : List ℕ} {u : ℕ} → y.code ≡ 40
       → Reads t (enumeration (enough t) deepest) (Whole o p u) y n
-      → Reads t type_of (Means o p (Enumeration u) Nothing) y n
+      → Reads t type_of (Means o p (record { meant = Enumeration u; reference = None })) y n
   unfolding type_of
   type-enum o k r =
       if-false (is_one_word (ascii "TEXT" ∷ ascii "MTEXT" ∷ [])) _ _ (no_text (omega arith) (omega arith))
@@ -265,14 +277,13 @@ module _ {t : List ℕ} {y n : Symbol} where
       (mapped {R = λ s z. enumeration (enough s) deepest s z} enum (record { reads = r.reads; passes = r.passes })
       (λ e h. (ap Enumeration h.0, refl, h.1)))))
 
-  pub type-plain : {o : List ℕ} {v : Meant} {u : Optional} → Reads t type_of (Plainly v u) y n
-      → Reads t type_of (Means o o v u) y n
+  pub type-plain : {o : List ℕ} {v : Meaning} → Reads t type_of (Plainly v) y n → Reads t type_of (Means o o v) y n
   type-plain {o} r = weaker r (λ x h. (h.0, h.1, h.2 o o))
 
   pub type-named : {o : List ℕ} {v : Reference} → y.code ≡ 1 → Reads t reference (λ a. v ≡ reference_of a) y n
-      → Reads t type_or_reference (Means o o Named (Given v)) y n
+      → Reads t type_or_reference (Means o o (record { meant = Named; reference = Some v })) y n
   unfolding type_or_reference
-  type-named k r = if-true (is_kind name) _ _ (is-yes is_name k) (mapped named r (λ a h. (refl, ap Given h, tt)))
+  type-named k r = if-true (is_kind name) _ _ (is-yes is_name k) (mapped named r (λ a h. (refl, ap Some h, tt)))
 
   pub type-other : {P : WrittenType → Type 0} → (y.code ≡ 1 → ⊥) → Reads t type_of P y n
       → Reads t type_or_reference P y n
@@ -285,15 +296,15 @@ semicolon = is-mark ";" (omega arith) (omega arith)
 
 module _ {t o : List ℕ} {y : Symbol} (based or-reference : Bool) where
   pub alone : based ≡ true → y.code ≡ 59
-      → Reads t (mandatory_by based (type_by or-reference)) (MeansAny o o Alone Nothing) y y
+      → Reads t (mandatory_by based (type_by or-reference))
+      (MeansAny o o (record { meant = Alone; reference = None })) y y
   alone h k =
       if-true (λ z. based && is_mark ";" z) _ _ (λ z c. both h (is-yes semicolon k z c)) (stay none (refl, refl, tt))
 
-module _ {t : List ℕ} (o : List ℕ) {p : List ℕ} {y n : Symbol} (based or-reference : Bool) {v : Meant}
-    {u : Optional} where
+module _ {t : List ℕ} (o : List ℕ) {p : List ℕ} {y n : Symbol} (based or-reference : Bool) {v : Meaning} where
   pub not-alone : ((z : rules.Symbol) → Cuts t z y → (based && is_mark ";" z) ≡ false)
-      → Reads t (type_by or-reference) (Means o p v u) y n
-      → Reads t (mandatory_by based (type_by or-reference)) (MeansAny o p v u) y n
+      → Reads t (type_by or-reference) (Means o p v) y n
+      → Reads t (mandatory_by based (type_by or-reference)) (MeansAny o p v) y n
   not-alone h r = if-false (λ z. based && is_mark ";" z) _ _ h (mapped some r (λ x q. q))
 
 pub here_reads : {t : List ℕ} {y : Symbol} → Reads t place_of_next (λ p. y.place ≡ p) y y
@@ -305,21 +316,20 @@ here_reads = record {
 mandatory-word : Test (is_word (ascii "MANDATORY")) 78
 mandatory-word = is_word_lem (ascii "MANDATORY") 78 refl
 
-module _ {t : List ℕ} (o : List ℕ) {p : List ℕ} {y n : Symbol} (based or-reference : Bool) {v : Meant}
-    {u : Optional} where
+module _ {t : List ℕ} (o : List ℕ) {p : List ℕ} {y n : Symbol} (based or-reference : Bool) {v : Meaning} where
   pub with-mandatory : {z : Symbol} → y.code ≡ 78 → z ≡ passed t y 78
-      → Reads t (mandatory_by based (type_by or-reference)) (MeansAny o p v u) z n
+      → Reads t (mandatory_by based (type_by or-reference)) (MeansAny o p v) z n
       → Reads t (written based (type_by or-reference))
-      (MeansAll o p (record { mandatory = true; place = z.place; meant = v; reference = u })) y n
+      (MeansAll o p (record { mandatory = true; place = z.place; meant = v.meant; reference = v.reference })) y n
   unfolding written
   with-mandatory k e r =
       if-true (is_word (ascii "MANDATORY")) _ _ (is-yes mandatory-word k) (bind (expected mandatory-word e)
       (λ _ _. bind here_reads (λ i q. mapped (λ x. record { mandatory = true; place = i; type = x }) r
       (λ x h. (rw (q, h.0, h.1), h.2))) r.passes) r.passes)
 
-  pub not-mandatory : (y.code ≡ 78 → ⊥) → Reads t (type_by or-reference) (Means o p v u) y n →
+  pub not-mandatory : (y.code ≡ 78 → ⊥) → Reads t (type_by or-reference) (Means o p v) y n →
       Reads t (written based (type_by or-reference))
-      (MeansAll o p (record { mandatory = false; place = y.place; meant = v; reference = u })) y n
+      (MeansAll o p (record { mandatory = false; place = y.place; meant = v.meant; reference = v.reference })) y n
   unfolding written
   not-mandatory k r =
       if-false (is_word (ascii "MANDATORY")) _ _ (is-no mandatory-word k)
@@ -327,21 +337,6 @@ module _ {t : List ℕ} (o : List ℕ) {p : List ℕ} {y n : Symbol} (based or-r
       mapped (λ x. record { mandatory = false; place = i; type = some x }) r
       (λ x h. (rw (q, h.0, h.1), h.2))) r.passes)
 
--- ---- an unsigned whole number, as the code tells it
-module _ (t : List ℕ) (place len : ℕ) (h : 0 < len) where
-  first_byte : get_or (part t place len) 0 0 ≡ get_or t place 0
-  first_byte =
-      get_or-take len (drop place t) 0 0 h ∙ get_or-drop place t 0 0 ∙ ap (λ (k : ℕ). get_or t k 0) (add-zero place)
-
-  pub whole-yes : {n : ℕ} → is_digit (get_or t place 0) ≡ true → decimals_of (part t place len) ≡ 0
-      → n ≡ digits (part t place len) 0 → Count n ≡ whole_of (part t place len)
-  whole-yes d e f = rw (first_byte, d, e, f)
-
-  pub whole-no : (decimals_of (part t place len) ≡ 0 → ⊥) → Other ≡ whole_of (part t place len)
-  whole-no e = rw (fail-r (is_digit (get_or (part t place len) 0 0)) (ne_eqb (decimals_of (part t place len)) 0 e))
-
-  pub whole-signed : is_digit (get_or t place 0) ≡ false → Other ≡ whole_of (part t place len)
-  whole-signed d = rw (first_byte, d)
-
+-- ---- behind a symbol that is taken
 pub held-behind : {t : List ℕ} {y n : Symbol} → Held t y → n ≡ passed t y y.code → Held t n
 held-behind (z, c) e = (_, behind c e)

@@ -1,5 +1,6 @@
 -- The parts of units as the code hands them on.
-use Rattle.std.specs.Prelude.{◌≡◌, Bool, true, false, cond, ◌&&◌, ◌||◌, List, [], ◌∷◌, ℕ, length, get_or, eqb}
+use Rattle.std.specs.Prelude.{◌≡◌, Bool, true, cond, ◌&&◌, ◌||◌, List, [], ◌∷◌, ℕ, length, get_or, eqb}
+use Rattle.std.specs.Prelude.{Option as code·Option, Some, None, is_some}
 use Rattle.std.proofs.Math.Option.{Option, none, some}
 use Rattle.rules.specs.Bytes.{ascii, is_one_of, is_digit}
 use Rattle.rules.specs.Symbols as rules
@@ -9,9 +10,12 @@ use Rattle.rules.specs.Grammar.{WrittenType, text, numeric, enum, named, type_of
 use Rattle.rules.specs.Symbols.{is_mark}
 use Rattle.rules.specs.Readers.{Reader, ◌>>=◌, ret, if_next}
 use Rattle.rules.specs.Judge.{has_twice, reference_in}
-use Rattle.ground.specs.Parts.{splice}
+use Rattle.ground.specs.Parts.{part, splice}
 use Rattle.book.specs.Forms.{text_kind}
 use Rattle.numbers.specs.declared.Number.{Number}
+use Rattle.symbols.specs.declared.Symbol.{Symbol}
+use Rattle.symbols.specs.Cut.{length_at}
+use Rattle.readers.specs.declared.Read.{Read}
 use Rattle.readers.specs.Reads.{name_cut}
 use Rattle.elements.specs.Noted.{list_bytes}
 use Rattle.parts.specs.declared.Owner.{Owner}
@@ -19,16 +23,11 @@ use Rattle.parts.specs.declared.Owner.TheVariants.{Attribute, Definition, Measur
 use Rattle.parts.specs.declared.Properties.{Properties}
 use Rattle.ground.specs.declared.Reference.{Reference}
 use Rattle.ground.specs.declared.Reference.TheVariants.{Bare, InModel, InTopic}
-use Rattle.parts.specs.declared.Optional.{Optional}
-use Rattle.parts.specs.declared.Optional.TheVariants.{Nothing, Given}
-use Rattle.parts.specs.declared.types.Whole.{Whole}
-use Rattle.parts.specs.declared.types.Whole.TheVariants.{Count, Other}
 use Rattle.parts.specs.declared.types.Meant.{Meant}
 use Rattle.parts.specs.declared.types.Meant.TheVariants.{Alone, Text, Limited, Range, Numeric, Enumeration}
 use Rattle.parts.specs.declared.types.Meant.TheVariants.{Named}
-use Rattle.parts.specs.declared.types.MeantRead.{MeantRead}
+use Rattle.parts.specs.declared.types.Meaning.{Meaning}
 use Rattle.parts.specs.declared.types.Written.{Written}
-use Rattle.parts.specs.declared.types.WrittenRead.{WrittenRead}
 
 -- ---- properties
 abbrev pub words_of : Owner → List (List ℕ)
@@ -78,21 +77,23 @@ reference_of (G.bare a) = Bare (name_cut a)
 reference_of (G.in_model a b) = InModel (name_cut a) (name_cut b)
 reference_of (G.in_topic a b c) = InTopic (name_cut a) (name_cut b) (name_cut c)
 
-abbrev pub optional_of : Option G.Reference → Optional
-optional_of none = Nothing
-optional_of (some r) = Given (reference_of r)
+abbrev pub optional_of : Option G.Reference → code·Option Reference
+optional_of none = None
+optional_of (some r) = Some (reference_of r)
 
-abbrev pub given_of : Optional → Bool
-given_of Nothing = false
-given_of (Given r) = true
+abbrev pub given_of : code·Option Reference → Bool
+given_of r = is_some r
 
 -- ---- types
 abbrev pub number_of : List ℕ → Number
 number_of b = record { value = value_of b; decimals = decimals_of b }
 
--- an unsigned whole number
-abbrev pub whole_of : List ℕ → Whole
-whole_of b = cond (is_digit (get_or b 0 0) && eqb (decimals_of b) 0) (Count (digits b 0)) Other
+-- an unsigned whole number; the one that a symbol of the text writes
+abbrev pub whole_of : List ℕ → code·Option ℕ
+whole_of b = cond (is_digit (get_or b 0 0) && eqb (decimals_of b) 0) (Some (digits b 0)) None
+
+abbrev pub whole_at : List ℕ → Symbol → code·Option ℕ
+whole_at t y = cond (eqb y.code 2) (whole_of (part t y.place (length_at y))) None
 
 abbrev pub text_code : Bool → ℕ
 text_code m = cond m 80 79
@@ -131,23 +132,24 @@ abbrev pub Scratches : List ℕ → List ℕ → Option WrittenType → Type 0
 Scratches o p none = Unit {0}
 Scratches o p (some x) = Scratch o p x
 
--- m is what x means, with the reference r, and x is no enumeration
-abbrev pub Plainly : Meant → Optional → WrittenType → Type 0
-Plainly m r x = (m ≡ meant_of x) × (r ≡ optional_of (reference_in (some x))) × ((o p : List ℕ) → Scratch o p x)
+-- m is what x means, with its reference, and x is no enumeration
+abbrev pub Plainly : Meaning → WrittenType → Type 0
+Plainly m x =
+    (m.meant ≡ meant_of x) × (m.reference ≡ optional_of (reference_in (some x))) × ((o p : List ℕ) → Scratch o p x)
 
--- m is what the type x means, with the reference r
-abbrev pub Means : List ℕ → List ℕ → Meant → Optional → WrittenType → Type 0
-Means o p m r x = (m ≡ meant_of x) × (r ≡ optional_of (reference_in (some x))) × Scratch o p x
+-- m is what the type x means, with its reference
+abbrev pub Means : List ℕ → List ℕ → Meaning → WrittenType → Type 0
+Means o p m x = (m.meant ≡ meant_of x) × (m.reference ≡ optional_of (reference_in (some x))) × Scratch o p x
 
-abbrev pub MeansAny : List ℕ → List ℕ → Meant → Optional → Option WrittenType → Type 0
-MeansAny o p m r x = (m ≡ any_of x) × (r ≡ optional_of (reference_in x)) × Scratches o p x
+abbrev pub MeansAny : List ℕ → List ℕ → Meaning → Option WrittenType → Type 0
+MeansAny o p m x = (m.meant ≡ any_of x) × (m.reference ≡ optional_of (reference_in x)) × Scratches o p x
 
 abbrev pub MeansAll : List ℕ → List ℕ → Written → G.Written → Type 0
 MeansAll o p v w = (v ≡ written_of w) × Scratches o p w.type
 
-abbrev pub read_at : Bool → ℕ → MeantRead → WrittenRead
+abbrev pub read_at : Bool → ℕ → Read Meaning → Read Written
 read_at k p m = record {
-  written = record { mandatory = k; place = p; meant = m.meant; reference = m.reference };
+  value = record { mandatory = k; place = p; meant = m.value.meant; reference = m.value.reference };
   next = m.next;
 }
 

@@ -1,6 +1,7 @@
 -- Lines counted on from a place, and the position that the line of a place gives.
 use Rattle.std.proofs.Common.{◌≡◌, ℕ, zero, suc, ◌+◌, ◌-◌, ◌%◌, ◌<◌, ◌≤◌, Bool, true, false, cond, List, length, sym}
-use Rattle.std.proofs.Common.{refl, ap, ◌∙◌, add-zero, zero-add, add-one, arith}
+use Rattle.std.proofs.Common.{refl, ap, ◌∙◌, add-zero, zero-add, add-one, arith, min, leb, leb-true, leb-false}
+use Rattle.ground.proofs.TableLaws.{test}
 use Rattle.rules.specs.Lines as rules
 use Rattle.rules.specs.Lines.{ends_at, position_of}
 use Rattle.rules.proofs.LineLaws.{behind, position_first, position-next, position-end, line-bound}
@@ -89,10 +90,17 @@ on_line_lem t p h l =
     rw (n, c)
 
 -- behind the end it is the end's
-pub on-end : (t : List ℕ) (at p : ℕ) → at ≤ length t → length t ≤ at → at ≤ p → at < 4294967295
-    → on_line (line_at t at) at ≡ position_in t p
-on-end t at p h k l m =
-    let e : at ≡ length t = omega arith in
-    on_line_lem t at h m
-    ∙ ap (λ (q : rules.Position). record { line = q.line; column = q.column })
-    (ap (position_of t) e ∙ sym (position-end t p (omega arith)))
+pub position-by : (t : List ℕ) (p m : ℕ) → m ≡ min p (length t) → length t ≤ 65535
+    → on_line (line_at t m) m ≡ position_in t p
+position-by t p m e h =
+    test (leb p (length t))
+    (λ i.
+    let k : p ≤ length t = leb-true _ _ i in
+    let q : m ≡ p = omega arith in
+    rw q (on_line_lem t p k (omega arith)))
+    (λ i.
+    let k : length t < p = leb-false _ _ i in
+    let q : m ≡ length t = omega arith in
+    rw q
+    (on_line_lem t (length t) (omega arith) (omega arith)
+    ∙ ap (λ (q : rules.Position). record { line = q.line; column = q.column }) (sym (position-end t p (omega arith)))))

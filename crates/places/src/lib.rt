@@ -34,24 +34,22 @@ fn ends_line(text: &[u8], at: usize) -> bool
     requires { at < length text.now }
     ensures { result ≡ ends_at text.now at }
 {
-    let b = text[at];
-    if b == b'\n' {
-        return true;
+    match text[at] {
+        b'\n' => true,
+        b'\r' => ground::byte_at(text, at + 1) != b'\n',
+        _ => false,
     }
-    if b == b'\r' {
-        return ground::byte_at(text, at + 1) != b'\n';
-    }
-    false
 }
 
 // The line behind the byte at a place that stands on this line.
+#[tactic(auto, unfolding(crate::specs::Standing::behind_byte))]
 pub fn behind(text: &[u8], at: usize, line: Line) -> Line
     requires { at < length text.now }
     ensures { result ≡ behind_byte text.now at line }
 {
     if ends_line(text, at) {
         return Line {
-            number: std::num::wrapping_add_u32(line.number, 1),
+            number: line.number.wrapping_add(1),
             begin: ((at + 1) % 4294967296) as u32,
         };
     }
@@ -62,10 +60,9 @@ pub fn behind(text: &[u8], at: usize, line: Line) -> Line
 pub fn position_on(line: Line, place: usize) -> Position
     ensures { result ≡ on_line line place }
 {
-    let passed = std::num::wrapping_sub_usize(place, line.begin as usize);
     Position {
         line: line.number as usize,
-        column: std::num::wrapping_add_usize(passed, 1),
+        column: place.wrapping_sub(line.begin as usize).wrapping_add(1),
     }
 }
 
@@ -74,14 +71,10 @@ pub fn position_of(text: &[u8], place: usize) -> Position
     requires { length text.now ≤ 65535 }
     ensures { result ≡ position_in text.now place }
 {
+    let end = place.min(text.len());
     let mut line = first();
-    let mut at = 0;
-    while at < text.len() {
-        if at == place {
-            return position_on(line, at);
-        }
+    for at in 0..end {
         line = behind(text, at, line);
-        at += 1;
     }
-    position_on(line, at)
+    position_on(line, end)
 }

@@ -76,6 +76,13 @@ pub const NUMERIC: u32 = 81;
 
 pub const UNIT: u32 = 82;
 
+// What a reader read, and the symbol that is left.
+#[derive(Clone, Copy)]
+pub struct Read<T> {
+    pub value: T,
+    pub next: Symbol,
+}
+
 pub fn name_of(y: Symbol) -> Name
     ensures { result ≡ named y }
 {
@@ -85,13 +92,12 @@ pub fn name_of(y: Symbol) -> Name
     }
 }
 
-// The symbol behind y, which is to have the code; else y's fault.
+// The symbol behind y, which is to have the code; else y's fault. No Result: `Reads` promises one symbol that is left.
 pub fn expect(text: &[u8], y: Symbol, code: u32) -> Symbol
     ensures { result ≡ passed text.now y code }
 {
     if y.code == code {
-        let c = y.next;
-        return c.next(text);
+        return y.next.next(text);
     }
     symbols::faulty(y.refusal, y)
 }

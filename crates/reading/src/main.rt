@@ -10,15 +10,21 @@ fn print_value(rt: &impl Print, v: i64) -> Result<()> {
     if v < 0 {
         print!(rt; "-")?;
     }
-    let size = numbers::size(v);
+    let size = v.unsigned_abs();
     println!(rt; "{size}")
 }
 
 fn show(rt: &impl Print, value: i64, decimals: u64, base_decimals: u64) -> Result<()> {
-    let r = numbers::read_number(value, decimals, base_decimals);
-    let number = r.number();
-    print!(rt; "{number} ")?;
-    print_value(rt, r.value())
+    match numbers::read_number(value, decimals, base_decimals) {
+        Ok(v) => {
+            print!(rt; "0 ")?;
+            print_value(rt, v)
+        }
+        Err(unreadable) => {
+            let number = unreadable.number();
+            println!(rt; "{number} 0")
+        }
+    }
 }
 
 // The negative of a magnitude.

@@ -11,21 +11,17 @@ use borrow.Author.Tests.{leb-true, le-leb, lt-leb}
 use denote.Ref.{Bor}
 use Rattle.rules.specs.Book.{Record}
 use Rattle.rules.specs.Show.{size_of, records_at, Part, no_part, read4, is_named, name_in, first_name, show_name}
-use Rattle.rules.proofs.Tests.{not_is}
 use Rattle.rules.proofs.RecordLaws.{Whole}
 use Rattle.ground.specs.Parts.{part}
 use Rattle.ground.proofs.PartLaws.{get_d_part, read4-part}
 use Rattle.ground.proofs.TableLaws.{on, implies}
 use Rattle.book.specs.Sizes.{name_size}
 use Rattle.book.specs.Names.{Written}
-use Rattle.book.specs.declared.Part as code
-use Rattle.records.specs.Finding.{size_at}
+use Rattle.ground.specs.declared.Name as code
+use mathlib.Core.Option as option
+use Rattle.records.specs.Finding.{record_end}
 use Rattle.records.specs.Showing.{part_of, Shows}
 use Rattle.records.proofs.WalkLaws.{none-at}
-
-pub no_name_lem : (k : ℕ) → 19 ≤ k → k < 256 → is_named k ≡ false
-unfolding is_named
-no_name_lem k h l = not_is (on (λ x. not (is_named x)) 19 237 refl k h (omega arith))
 
 -- ---- at a place
 -- a record that has a name holds an offset and a length
@@ -34,10 +30,10 @@ unfolding is_named size_of
 named-size k h e = leb-true name_size (size_of k)
     (implies (on (λ x. not (is_named x) || leb name_size (size_of x)) 0 256 refl k (omega arith) (omega arith)) e)
 
-abbrev none : code.Part
+abbrev none : code.Name
 none = part_of no_part
 
-pub name-none : (t b : List ℕ) (i : ℕ) → size_at b i ≡ 0 → none ≡ part_of (show_name t b i)
+pub name-none : (t b : List ℕ) (i : ℕ) → record_end b i ≡ option.none → none ≡ part_of (show_name t b i)
 unfolding show_name
 name-none t b i e = rw (none-at b i e)
 
@@ -56,9 +52,9 @@ module _ (t : List ℕ) {b : List ℕ} {i n : ℕ} (w : Whole b i n) where
   pub name-fits : get_or b i 0 < 256 → is_named (get_or b i 0) ≡ true → name_size ≤ n
   name-fits k e = rw w.size (named-size (get_or b i 0) k e)
 
-  module _ (k : get_or b i 0 < 256) (e : is_named (get_or b i 0) ≡ true) (p : code.Part) (f : Written b i p) where
-    named : (q : Bool) → leb (p.start + p.len) (length t) ≡ q
-        → show_name t b i ≡ cond q (record { start = p.start; length = p.len }) no_part
+  module _ (k : get_or b i 0 < 256) (e : is_named (get_or b i 0) ≡ true) (p : code.Name) (f : Written b i p) where
+    named : (q : Bool) → leb (p.offset + p.len) (length t) ≡ q
+        → show_name t b i ≡ cond q (record { start = p.offset; length = p.len }) no_part
     named q h =
         let s : name_size ≤ n = name-fits k e in
         here ∙ rw (
@@ -72,10 +68,10 @@ module _ (t : List ℕ) {b : List ℕ} {i n : ℕ} (w : Whole b i n) where
         )
 
     -- the name lies in the text, or passes its end
-    pub name_in_lem : p.start + p.len ≤ length t → p ≡ part_of (show_name t b i)
+    pub name_in_lem : p.offset + p.len ≤ length t → p ≡ part_of (show_name t b i)
     name_in_lem h = ap part_of (sym (named true (le-leb _ _ h)))
 
-    pub name_out : length t < p.start + p.len → none ≡ part_of (show_name t b i)
+    pub name_out : length t < p.offset + p.len → none ≡ part_of (show_name t b i)
     name_out h = ap part_of (sym (named false (lt-leb _ _ h)))
 
 -- ---- where it lies
@@ -96,16 +92,16 @@ within t [] = omega arith
 within t (r ∷ l) = in_text t r
 
 -- a name lies in the text
-pub shown-within : (t b : List ℕ) (i : ℕ) (p : code.Part) → p ≡ part_of (show_name t b i) → p.start + p.len ≤ length t
+pub shown-within : (t b : List ℕ) (i : ℕ) (p : code.Name) → p ≡ part_of (show_name t b i) → p.offset + p.len ≤ length t
 unfolding show_name
 shown-within t b i p e = rw e (within t (records_at b i))
 
-pub starts-at : (p : code.Part) (q : Part) → p ≡ part_of q → p.start ≡ q.start
-starts-at p q e = ap (λ (x : code.Part). x.start) e
+pub starts-at : (p : code.Name) (q : Part) → p ≡ part_of q → p.offset ≡ q.start
+starts-at p q e = ap (λ (x : code.Name). x.offset) e
 
-pub cut : (t : List ℕ) (p : code.Part) (q : Part) → p ≡ part_of q
-    → take (p.start + p.len - p.start) (drop p.start t) ≡ part t q.start q.length
-cut t p q e = rw (add-sub_cancel_left p.start p.len) (ap (λ (x : code.Part). part t x.start x.len) e)
+pub cut : (t : List ℕ) (p : code.Name) (q : Part) → p ≡ part_of q
+    → take (p.offset + p.len - p.offset) (drop p.offset t) ≡ part t q.start q.length
+cut t p q e = rw (add-sub_cancel_left p.offset p.len) (ap (λ (x : code.Name). part t x.offset x.len) e)
 
 -- ---- one outcome
 -- `name_part` promises an equation. What `show_name` promises fixes where the part lies and its bytes; a reference's

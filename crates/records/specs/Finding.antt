@@ -1,24 +1,13 @@
 -- Finding: the value for each case of the answer, and what stands at a place of a book.
-use Rattle.std.specs.Prelude.{◌≡◌, List, [], ◌∷◌, ℕ, ◌+◌, length}
+use Rattle.std.specs.Prelude.{◌≡◌, List, [], ◌∷◌, ℕ, ◌+◌, length, Option as code·Option, Some, None}
 use Rattle.std.proofs.Math.Option.{Option, none, some}
 use Rattle.rules.specs.Book.{Record}
 use Rattle.rules.specs.Show.{records_at, beginning_in, find_record}
-use Rattle.book.specs.declared.Found.{Found}
-use Rattle.book.specs.declared.Found.TheVariants.{At, Nothing}
 
--- the place that was found, or that there is none
-abbrev pub found_at : Found → Option ℕ
-found_at (At i) = some i
-found_at Nothing = none
-
--- the size of the first record; zero where there is none
-abbrev pub first_size : List Record → ℕ
-first_size [] = 0
-first_size (r ∷ l) = length r
-
--- the size of the record that is read from byte i on, if one is whole there; else zero
-unfoldable pub size_at : List ℕ → ℕ → ℕ
-size_at b i = first_size (records_at b i)
+-- the place that was found, or that there is none, of the code as the rules have it
+abbrev pub found_at : code·Option ℕ → Option ℕ
+found_at (Some i) = some i
+found_at None = none
 
 -- where the first record ends that stands from the place i on
 abbrev pub end_in : ℕ → List Record → Option ℕ

@@ -3,11 +3,11 @@ use Rattle.std.specs.Prelude.{◌≡◌, List, ℕ, ◌+◌}
 use Rattle.std.specs.Borrow.{Bor}
 use Rattle.rules.specs.Show.{Part, show_name}
 use Rattle.ground.specs.Parts.{part}
-use Rattle.book.specs.declared.Part as code
+use Rattle.ground.specs.declared.Name as code
 
 -- a part, as the code holds it
-abbrev pub part_of : Part → code.Part
-part_of p = record { start = p.start; len = p.length }
+abbrev pub part_of : Part → code.Name
+part_of p = record { offset = p.start; len = p.length }
 
 -- r is this part of the lent text t: it lies in the same memory, from that place on, and has those bytes
 pub record Lent (t r : Bor (List ℕ)) (p : Part) : Type 0 where

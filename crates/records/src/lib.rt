@@ -3,100 +3,71 @@
 
 ghost use Rattle.std.specs.Prelude.{◌≡◌};
 ghost use Rattle.rules.specs.Show.{size_of, is_named, find_record, show_name};
-ghost use Rattle.records.specs.Finding.{found_at, size_at, record_end};
+ghost use Rattle.records.specs.Finding.{found_at, record_end};
 ghost use Rattle.records.specs.Showing.{part_of, Shows};
 
-use book::{Found, Part, written_name};
+use book::{kinds, written_name};
+use ground::Name;
 
 // ---- what the kind of a record fixes
-// The sizes of records by kind, 0 to 19.
-const SIZES: [usize; 20] = [
-    0, // 0 end of the book
-    book::MODEL_SIZE, // 1 model
-    book::TOPIC_SIZE, // 2 topic
-    book::TOPIC_END_SIZE, // 3 end of topic
-    book::HEAD_SIZE, // 4 class
-    book::HEAD_SIZE, // 5 structure
-    book::HEAD_SIZE, // 6 attribute
-    book::HEAD_SIZE, // 7 domain
-    book::LENGTH_SIZE, // 8 TEXT
-    book::LENGTH_SIZE, // 9 MTEXT
-    book::RANGE_SIZE, // 10 range
-    book::NUMERIC_SIZE, // 11 NUMERIC
-    book::LENGTH_SIZE, // 12 structure named
-    book::LIST_SIZE, // 13 enumeration
-    book::ELEMENT_SIZE, // 14 element
-    book::LIST_END_SIZE, // 15 end of enumeration
-    book::CLASS_END_SIZE, // 16 end of class or structure
-    book::LENGTH_SIZE, // 17 domain named
-    book::HEAD_SIZE, // 18 unit
-    book::LENGTH_SIZE, // 19 unit of the number before
-];
-
-// The kinds 0 to 18 that have names.
-const NAMED: [bool; 19] = [
-    false, // 0 end of the book
-    true, // 1 model
-    true, // 2 topic
-    false, // 3 end of topic
-    true, // 4 class
-    true, // 5 structure
-    true, // 6 attribute
-    true, // 7 domain
-    false, // 8 TEXT
-    false, // 9 MTEXT
-    false, // 10 range
-    false, // 11 NUMERIC
-    false, // 12 structure named
-    false, // 13 enumeration
-    true, // 14 element
-    false, // 15 end of enumeration
-    false, // 16 end of class or structure
-    false, // 17 domain named
-    true, // 18 unit
-];
-
 // Zero for what is no kind.
+#[tactic(auto, unfolding(rules::specs::Show::size_of))]
 fn record_size(kind: u8) -> usize
     ensures { result ≡ size_of kind }
 {
-    if kind < 20 { SIZES[kind as usize] } else { 0 }
+    match kind {
+        kinds::MODEL => book::MODEL_SIZE,
+        kinds::TOPIC => book::TOPIC_SIZE,
+        kinds::TOPIC_END => book::TOPIC_END_SIZE,
+        kinds::CLASS | kinds::STRUCTURE | kinds::ATTRIBUTE | kinds::DOMAIN | kinds::UNIT =>
+            book::HEAD_SIZE,
+        kinds::TEXT
+        | kinds::MTEXT
+        | kinds::NAMED_STRUCTURE
+        | kinds::NAMED_DOMAIN
+        | kinds::UNIT_OF_NUMBER => book::LENGTH_SIZE,
+        kinds::RANGE => book::RANGE_SIZE,
+        kinds::NUMERIC => book::NUMERIC_SIZE,
+        kinds::LIST => book::LIST_SIZE,
+        kinds::ELEMENT => book::ELEMENT_SIZE,
+        kinds::LIST_END => book::LIST_END_SIZE,
+        kinds::CLASS_END => book::CLASS_END_SIZE,
+        _ => 0,
+    }
 }
 
+#[tactic(auto, unfolding(rules::specs::Show::is_named))]
 fn has_name(kind: u8) -> bool
     ensures { result ≡ is_named kind }
 {
-    if kind < 19 {
-        NAMED[kind as usize]
-    } else {
-        false
-    }
+    matches!(
+        kind,
+        kinds::MODEL
+            | kinds::TOPIC
+            | kinds::CLASS
+            | kinds::STRUCTURE
+            | kinds::ATTRIBUTE
+            | kinds::DOMAIN
+            | kinds::ELEMENT
+            | kinds::UNIT
+    )
 }
 
 // ---- the record at a place
-// Its size if one is whole there, else zero.
-fn size_at(book: &[u8], at: usize) -> usize
-    ensures { result ≡ size_at book.now at }
-{
-    if book.len() <= at {
-        return 0;
-    }
-    let n = record_size(book[at]);
-    if n <= book.len() - at { n } else { 0 }
-}
-
 // Where it ends, and the next one begins if there is one.
-fn record_end(book: &[u8], at: usize) -> Found
+fn record_end(book: &[u8], at: usize) -> Option<usize>
     ensures { found_at result ≡ record_end book.now at }
 {
-    let n = size_at(book, at);
-    if n == 0 {
-        return Found::Nothing;
+    let kind = *book.get(at)?;
+    let size = record_size(kind);
+    if size == 0 || book.len() - at < size {
+        return None;
     }
-    Found::At(at + n)
+    Some(at + size)
 }
 
-// A record reader: the book, and the position at which it reads.
+// A record reader: the book, and the position at which it reads. No Iterator: document 01 names this form
+// (docs/PROMISES.md, "The shape of each place").
 #[derive(Clone, Copy)]
 pub struct RecordReader<'a> {
     pub book: &'a [u8],
@@ -111,7 +82,7 @@ pub fn reader<'a>(book: &'a [u8], position: usize) -> RecordReader<'a>
 
 impl<'a> RecordReader<'a> {
     // Where the record that it reads ends.
-    pub fn end(self) -> Found
+    pub fn end(self) -> Option<usize>
         ensures { found_at result ≡ record_end self.entry.book.now self.entry.position }
     {
         record_end(self.book, self.position)
@@ -119,52 +90,43 @@ impl<'a> RecordReader<'a> {
 }
 
 // The same for a caller that keeps book and position apart.
-pub fn end_from(book: &[u8], position: usize) -> Found
+pub fn end_from(book: &[u8], position: usize) -> Option<usize>
     ensures { found_at result ≡ record_end book.now position }
 {
     reader(book, position).end()
 }
 
 // ---- finding: where the record with this number begins
-pub fn find_record(book: &[u8], k: usize) -> Found
+pub fn find_record(book: &[u8], k: usize) -> Option<usize>
     ensures { found_at result ≡ find_record book.now k }
 {
     let mut at = 0;
-    let mut left = k;
-    loop {
-        let n = size_at(book, at);
-        if n == 0 {
-            return Found::Nothing;
-        }
-        if left == 0 {
-            return Found::At(at);
-        }
-        at += n;
-        left -= 1;
+    for _ in 0..k {
+        at = record_end(book, at)?;
     }
+    record_end(book, at)?;
+    Some(at)
 }
 
 // ---- showing: the name of the record that is read from a byte of the book on, wherever that is; where there is none,
 // the empty part at the text's start
-pub fn name_part(text: &[u8], book: &[u8], beginning: usize) -> Part
+pub fn name_part(text: &[u8], book: &[u8], beginning: usize) -> Name
     ensures { result ≡ part_of (show_name text.now book.now beginning) }
 {
-    if 0 < size_at(book, beginning) {
-        if has_name(book[beginning]) {
-            let p = written_name(book, beginning);
-            if p.start + p.len <= text.len() {
-                return p;
-            }
+    if record_end(book, beginning).is_some() && has_name(book[beginning]) {
+        let name = written_name(book, beginning);
+        if name.offset + name.len <= text.len() {
+            return name;
         }
     }
-    Part { start: 0, len: 0 }
+    Name { offset: 0, len: 0 }
 }
 
 pub fn show_name<'a>(text: &'a [u8], book: &[u8], beginning: usize) -> &'a [u8]
     ensures { Shows text.entry book.now beginning result }
 {
-    let p = name_part(text, book, beginning);
-    let start = p.start;
-    let end = start + p.len;
+    let name = name_part(text, book, beginning);
+    let start = name.offset;
+    let end = start + name.len;
     &text[start..end]
 }

@@ -8,9 +8,12 @@ mod shown;
 ghost use Rattle.std.specs.Prelude.{◌≡◌, ◌-◌, ◌≤◌};
 ghost use Rattle.report.specs.Around.{Around};
 
-use answers::Answer;
-use console::{Out, least, put, put_if, put_number};
-use shown::put_shown;
+use answers::{Accepted, Answer, Refusal};
+use sentences::sentence;
+use shown::{Shown, Under};
+use std::fmt;
+use std::fmt::{Display, Formatter};
+use std::ops::Range;
 
 // How long a line may be to be shown whole; how many bytes of a longer one are shown, and how many of them stand before
 // the caret where both ends are cut off.
@@ -20,146 +23,106 @@ const WIDTH: usize = 72;
 
 const BEFORE: usize = 36;
 
-// What is shown of a line.
-#[derive(Clone, Copy)]
-struct Excerpt {
-    from: usize,
-    to: usize,
-}
-
 // Where the line of a place begins.
 fn line_begin(place: usize, column: usize) -> usize
     ensures { result ≡ place - (column - 1) }
 {
-    if column <= 1 {
-        return place;
-    }
-    if place < column {
-        return 0;
-    }
-    place - (column - 1)
+    place.saturating_sub(column.saturating_sub(1))
 }
 
 // A line, or of a longer one the part around a place.
-fn around(begin: usize, place: usize, end: usize) -> Excerpt
+fn around(begin: usize, place: usize, end: usize) -> Range<usize>
     requires begin_le_place { begin ≤ place }
     requires place_le_end { place ≤ end }
-    ensures { Around begin place end result }
+    ensures { Around begin place end result.start result.end }
 {
     if end - begin <= WHOLE {
-        return Excerpt {
-            from: begin,
-            to: end,
-        };
+        return begin..end;
     }
     if place - begin <= BEFORE {
-        return Excerpt {
-            from: begin,
-            to: begin + WIDTH,
-        };
+        return begin..begin + WIDTH;
     }
     if end - place <= WIDTH - BEFORE {
-        return Excerpt {
-            from: end - WIDTH,
-            to: end,
-        };
+        return end - WIDTH..end;
     }
-    Excerpt {
-        from: place - BEFORE,
-        to: place - BEFORE + WIDTH,
-    }
-}
-
-fn put_line(
-    rt: &impl Print,
-    page: &mut [u8],
-    out: Out,
-    line: &[u8],
-    begun: bool,
-    goes_on: bool,
-) -> Out {
-    let out = put_if(rt, page, out, begun, b"...");
-    let out = put_shown(rt, page, out, line, false);
-    let out = put_if(rt, page, out, goes_on, b"...");
-    put(rt, page, out, b"\n")
-}
-
-// Behind what stands before the caret's column.
-fn put_caret(rt: &impl Print, page: &mut [u8], out: Out, before: &[u8], begun: bool) -> Out {
-    let out = put_if(rt, page, out, begun, b"   ");
-    let out = put_shown(rt, page, out, before, true);
-    put(rt, page, out, b"^\n")
+    place - BEFORE..place - BEFORE + WIDTH
 }
 
 // The line of a place, cut around it where it is long, and a caret under it.
-fn put_excerpt(
-    rt: &impl Print,
-    page: &mut [u8],
-    out: Out,
-    text: &[u8],
+#[derive(Clone, Copy)]
+struct Excerpt<'a> {
+    text: &'a [u8],
     place: usize,
     column: usize,
-) -> Out {
-    let at = least(place, text.len());
-    let begin = line_begin(at, column);
-    let end = scans::line_end(text, at);
-    let s = around(begin, at, end);
-    let from = s.from;
-    let to = s.to;
-    let out = put_line(rt, page, out, &text[from..to], begin < from, to < end);
-    put_caret(rt, page, out, &text[from..at], begin < from)
 }
 
-// Behind the name, as editors look for it.
-fn put_position(rt: &impl Print, page: &mut [u8], out: Out, line: usize, column: usize) -> Out {
-    let out = put(rt, page, out, b":");
-    let out = put_number(rt, page, out, line as u64);
-    let out = put(rt, page, out, b":");
-    put_number(rt, page, out, column as u64)
-}
-
-// What is refused, and why.
-fn put_refusal(rt: &impl Print, page: &mut [u8], out: Out, number: u8) -> Out {
-    let out = put(rt, page, out, b": refused ");
-    let out = put_number(rt, page, out, number as u64);
-    let out = put(rt, page, out, b": ");
-    let out = sentences::put_sentence(rt, page, out, number);
-    put(rt, page, out, b"\n")
+impl Display for Excerpt<'_> {
+    fn fmt<W: fmt::Write>(&self, f: &mut Formatter<W>) -> fmt::Result {
+        let text = self.text;
+        let at = self.place.min(text.len());
+        let begin = line_begin(at, self.column);
+        let end = scans::line_end(text, at);
+        let part = around(begin, at, end);
+        let (dots, blanks) = if begin < part.start {
+            ("...", "   ")
+        } else {
+            ("", "")
+        };
+        let more = if part.end < end { "..." } else { "" };
+        let line = Shown(&text[part.start..part.end]);
+        let under = Under(&text[part.start..at]);
+        write!(f, "{dots}{line}{more}\n{blanks}{under}^\n")
+    }
 }
 
 // The name of a file, of which an empty one is to be seen too.
-pub fn put_name(rt: &impl Print, page: &mut [u8], out: Out, name: &[u8]) -> Out {
-    if name.len() == 0 {
-        return put(rt, page, out, b"''");
+#[derive(Clone, Copy)]
+pub struct Name<'a>(pub &'a [u8]);
+
+impl Display for Name<'_> {
+    fn fmt<W: fmt::Write>(&self, f: &mut Formatter<W>) -> fmt::Result {
+        if self.0.is_empty() {
+            return f.write_str("''");
+        }
+        write!(f, "{}", Shown(self.0))
     }
-    put_shown(rt, page, out, name, false)
 }
 
-// The name of what was checked, and its answer.
-pub fn put_report(
-    rt: &impl Print,
-    page: &mut [u8],
-    out: Out,
-    name: &[u8],
-    text: &[u8],
-    a: Answer,
-) -> Out {
-    let out = put_name(rt, page, out, name);
-    match a {
-        Answer::Accepted { definitions, .. } => {
-            let out = put(rt, page, out, b": ok, ");
-            let out = put_number(rt, page, out, definitions as u64);
-            put(rt, page, out, b" definitions\n")
-        }
-        Answer::Refused {
-            number,
-            place,
-            line,
-            column,
-        } => {
-            let out = put_position(rt, page, out, line, column);
-            let out = put_refusal(rt, page, out, number);
-            put_excerpt(rt, page, out, text, place, column)
+// The name of what was checked, and its answer, as editors look for it.
+#[derive(Clone, Copy)]
+pub struct Report<'a> {
+    pub name: Name<'a>,
+    pub text: &'a [u8],
+    pub answer: Answer,
+}
+
+impl Display for Report<'_> {
+    fn fmt<W: fmt::Write>(&self, f: &mut Formatter<W>) -> fmt::Result {
+        let name = self.name;
+        match self.answer {
+            Ok(Accepted { definitions, .. }) => write!(
+                f,
+                "{name}: ok, {definitions} definitions\n"
+            ),
+            Err(
+                Refusal {
+                    number,
+                    place,
+                    line,
+                    column,
+                },
+            ) => {
+                let why = sentence(number);
+                let excerpt = Excerpt {
+                    text: self.text,
+                    place,
+                    column,
+                };
+                write!(
+                    f,
+                    "{name}:{line}:{column}: refused {number}: {why}\n{excerpt}"
+                )
+            }
         }
     }
 }

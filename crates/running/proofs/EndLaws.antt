@@ -7,6 +7,7 @@ use Prim.Native.Nat.{ℕ, zero, suc, ◌≤◌, ◌<◌, min}
 use native.Mathlib.Omega.{arith}
 use lib.ListN.{length, take, drop, length-append, length-drop}
 use lib.Dec.{ltb}
+use Rattle.std.specs.declared.result.Result.TheVariants.{Ok, Err}
 use borrow.Author.Tests.{lt-ltb, le-ltb, ltb-false}
 use lib.Seq.{length-take-le, take-append-le}
 use Rattle.rules.specs.Symbols.{symbol_at}
@@ -25,14 +26,10 @@ use Rattle.rules.specs.Check.{Given, lent, capacity, is_over, run_from, judged, 
 use Rattle.rules.specs.Check.{after_unit}
 use Rattle.rules.specs.Check.{finish, Next, run}
 use Rattle.rules.proofs.Tests.{never}
-use Rattle.state.specs.declared.Layout.{Layout}
-use Rattle.state.specs.Parts.{Loan}
-use Rattle.answers.specs.declared.Answer.{Answer}
-use Rattle.answers.specs.declared.Answer.TheVariants.{Accepted, Refused}
 use Rattle.rules.specs.Promise.{Promise}
-use Rattle.answers.specs.Answers.{answer_of, full, kept_of}
+use Rattle.answers.specs.Answers.{Coded, answer_of, full, kept_of}
 use Rattle.running.specs.Trying.{Tried}
-use Rattle.running.specs.Running.{Ended, Suffice}
+use Rattle.running.specs.Running.{Ended}
 
 -- ---- a buffer counts only up to the capacity
 module _ (t : List ℕ) (m n : Given) (e : capacity m ≡ capacity n) where
@@ -128,14 +125,14 @@ module _ (t : List ℕ) (m n : Given) (e : capacity m ≤ capacity n) where
       go false h = from-within (enough t) U.start C.nothing 0 h
 
 -- ---- the whole buffer, of which o is the front part at the end
-pub ended-fits : (t : List ℕ) (m : ℕ) (a : Answer) (o d : List ℕ) → Ended t m a o → kept_of a ≤ length (o ++ d)
-ended-fits t m (Accepted n k) o d (s, r, i, j, h, w) = rw (length-append o d) (omega arith)
-ended-fits t m (Refused n p l c) o d h = omega arith
+pub ended-fits : (t : List ℕ) (m : ℕ) (a : Coded) (o d : List ℕ) → Ended t m a o → kept_of a ≤ length (o ++ d)
+ended-fits t m (Ok n) o d (s, r, i, j, h, w) = rw (length-append o d) (omega arith)
+ended-fits t m (Err n) o d h = omega arith
 
-ended-answer : (t : List ℕ) (m : ℕ) (a : Answer) (o : List ℕ) → Ended t m a o
+ended-answer : (t : List ℕ) (m : ℕ) (a : Coded) (o : List ℕ) → Ended t m a o
     → C.answer_of t (run t (lent m)) ≡ answer_of a
-ended-answer t m (Accepted n k) o (s, r, i, j, h, w) = rw (r, i, j)
-ended-answer t m (Refused n p l c) o h = h
+ended-answer t m (Ok n) o (s, r, i, j, h, w) = rw (r, i, j)
+ended-answer t m (Err n) o h = h
 
 refused-buffer : (t : List ℕ) (o : C.Outcome) (r : C.Refusal) (m : ℕ) → C.answer_of t o ≡ C.refusal r
     → padded [] m ≡ C.buffer_of o m
@@ -143,17 +140,17 @@ refused-buffer t (C.kept s) r m h = absurd (let q : ◌≡◌ {A = ℕ} 0 1 = cc
 refused-buffer t (C.unread s f q) r m h = refl
 refused-buffer t (C.ruled_out s i q) r m h = refl
 
-module _ (t : List ℕ) (m l : ℕ) (a : Answer) (o d b : List ℕ) (h : Ended t m a o)
+module _ (t : List ℕ) (m l : ℕ) (a : Coded) (o d b : List ℕ) (h : Ended t m a o)
     (e : b ≡ padded (take (kept_of a) (o ++ d)) l) where
   promised-by : run t (lent m) ≡ run t (lent l) → Promise t (lent l) (answer_of a) b
   promised-by same = record { answer = sym (ended-answer t m a o h) ∙ ap (C.answer_of t) same; buffer = go a h e }
     where
-      go : (a : Answer) → Ended t m a o → b ≡ padded (take (kept_of a) (o ++ d)) l → b ≡ C.buffer_of (run t (lent l)) l
-      go (Accepted n k) (s, r, i, j, h, w) e =
-          rw (sym same ∙ r) (e ∙ ap (λ (x : List ℕ). padded x l) (take-append-le n o d h ∙ w))
-      go (Refused n p i c) h e = e ∙ refused-buffer t (run t (lent l)) _ l (ap (C.answer_of t) (sym same) ∙ h)
+      go : (a : Coded) → Ended t m a o → b ≡ padded (take (kept_of a) (o ++ d)) l → b ≡ C.buffer_of (run t (lent l)) l
+      go (Ok n) (s, r, i, j, h, w) e =
+          rw (sym same ∙ r) (e ∙ ap (λ (x : List ℕ). padded x l) (take-append-le n.length o d h ∙ w))
+      go (Err n) h e = e ∙ refused-buffer t (run t (lent l)) _ l (ap (C.answer_of t) (sym same) ∙ h)
 
-pub tried : (t b o l : List ℕ) (m most : ℕ) (a : Answer) → m ≡ min (length b) most → most ≤ 65535
+pub tried : (t b o l : List ℕ) (m most : ℕ) (a : Coded) → m ≡ min (length b) most → most ≤ 65535
     → length o ≡ length (take m b) → Ended t (length (take m b)) a o
     → l ≡ padded (take (kept_of a) (o ++ drop m b)) (length (o ++ drop m b)) → Tried t (length b) most (answer_of a) l
 tried t b o l m most a e small f h c =
@@ -174,21 +171,3 @@ pub too_long : (t : List ℕ) (m : ℕ) (l : List ℕ) → 65535 < length t → 
     → Promise t (lent m) (C.refusal_of 1 0 1 1) l
 unfolding run position_of
 too_long t m l h e = record { answer = rw (lt-ltb 65535 (length t) h); buffer = rw (lt-ltb 65535 (length t) h) e }
-
--- ---- of a buffer of as many bytes
-pub promise-sized : {t : List ℕ} {m m' : ℕ} {a : C.Answer} {b : List ℕ} → m ≡ m'
-    → Promise t (lent m) a b → Promise t (lent m') a b
-promise-sized e h = rw e at h
-
--- ---- what is lent for a larger buffer suffices for a smaller one
-pub loan-less : {t o r b o' : ℕ} → o' ≤ o → Loan t o r b → Loan t o' r b
-loan-less h l = record {
-  text_short = l.text_short;
-  book_short = omega (arith, h, l.book_short);
-  scratch_wide = l.scratch_wide;
-  scratch_short = l.scratch_short;
-  tables_wide = omega (arith, h, l.tables_wide);
-}
-
-pub suffice-less : {m m' w : ℕ} {y : Layout} → m' ≤ m → Suffice m y w → Suffice m' y w
-suffice-less h s st e q = s st e (omega (arith, h, q))

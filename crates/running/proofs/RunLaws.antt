@@ -6,6 +6,11 @@ use mathlib.Core.List.{List}
 use Prim.Native.Nat.{ℕ, zero, suc, ◌+◌, ◌*◌, ◌%◌, ◌≤◌, ◌<◌}
 use native.Mathlib.Omega.{arith}
 use lib.ListN.{length, replicate}
+use Rattle.std.specs.Prelude.{MatchResult, IsErrAnd}
+use Rattle.std.specs.declared.option.Option as core
+use Rattle.std.specs.declared.option.Option.TheVariants.{Some, None}
+use Rattle.std.specs.declared.result.Result as coded
+use Rattle.std.specs.declared.result.Result.TheVariants.{Ok, Err}
 use lib.Dec.{ltb}
 use borrow.Author.Tests.{le-ltb}
 use Rattle.rules.specs.Symbols as rules
@@ -35,47 +40,53 @@ use Rattle.readers.proofs.StandLaws.{at-stands}
 use Rattle.units.specs.declared.Where.{Where}
 use Rattle.units.specs.declared.Where.TheVariants.{Start}
 use Rattle.units.specs.declared.Unit.{Unit}
-use Rattle.units.specs.declared.Step.{Step}
-use Rattle.units.specs.declared.Step.TheVariants.{Read, Unread}
+use Rattle.units.specs.declared.UnitRead.{UnitRead}
 use Rattle.units.specs.Steps.{around_of, run_of, run_cut, behind_of, where_of, place_of, IsAny, StepIs, Steps}
 use Rattle.rules.specs.All.{AnyIs}
 use Rattle.wellformed.specs.Fairness.{FairUnit, MayStand, Placed}
 use Rattle.wellformed.proofs.ReadLaws.{unit-fair}
 use Rattle.wellformed.proofs.StandLaws.{may-stand, placed-mark, placed-next}
 use Rattle.state.specs.declared.State as code
-use Rattle.state.specs.declared.Judged as code-judged
-use Rattle.state.specs.declared.Judged.TheVariants.{Fine, Refused as Broken}
-use Rattle.state.specs.Keeping.{Keeps, OpenIs, PartsStay, Kept, Answered}
+use Rattle.ground.specs.declared.Ruling.{Ruling}
+use Rattle.state.specs.declared.desk.Desk.{Desk}
+use Rattle.state.specs.Keeping.{Keeps, OpenIs, Kept, Answered}
 use Rattle.book.specs.Sizes.{topic_size, head_size}
-use Rattle.state.specs.declared.Layout.{Layout}
-use Rattle.state.specs.Parts.{index_in, chains_in, rows_in}
-use Rattle.answers.specs.Answers.{accepted_in}
-use Rattle.answers.proofs.AnswerLaws.{accepted-is}
+use Rattle.state.specs.Desks.{Loan, Stays}
 use Rattle.judge.specs.Judging.{ComesAny, Answers}
 use Rattle.running.specs.declared.Stage.{Stage}
-use Rattle.running.specs.declared.Turn.{Turn}
-use Rattle.running.specs.declared.Turn.TheVariants.{On, End}
-use Rattle.answers.specs.declared.Answer.{Answer}
-use Rattle.answers.specs.declared.Answer.TheVariants.{Accepted, Refused}
-use Rattle.running.specs.Running.{Suffice, Runs, Ended, Turned, refused_in, unread_by, after}
+use Rattle.answers.specs.declared.Refusal.{Refusal}
+use Rattle.answers.specs.Answers.{Coded, accepted_as}
+use Rattle.running.specs.Running.{Suffices, Runs, Ended, Turned, refused_in, unread_by}
+
+-- ---- a result before its error was turned into another
+module _ {A E D : Type 0} (P : E → D → Type 0) where
+  pub was-ok : (r : coded.Result A E) {q : coded.Result A D} {x : A}
+      → MatchResult r (λ y. q ≡ Ok y) (λ e. IsErrAnd q (P e)) → q ≡ Ok x → r ≡ Ok x
+  was-ok (Ok y) h e = cc
+  was-ok (Err y) h e = elim (rw e at h) [ ]
+
+  pub was-err : (r : coded.Result A E) {q : coded.Result A D} {x : D}
+      → MatchResult r (λ y. q ≡ Ok y) (λ e. IsErrAnd q (P e)) → q ≡ Err x → (e : E) × (r ≡ Err e) × P e x
+  was-err (Ok y) h e = absurd (let q : ◌≡◌ {A = ℕ} 0 1 = cc in omega arith)
+  was-err (Err y) h e = (y, refl, rw e at h)
 
 -- ---- at a stage
-module _ {t : List ℕ} {m : ℕ} {g : Stage} {o w hs : List ℕ} (R : Runs t m g o w hs) where
+module _ {d : Desk} {g : Stage} (R : Runs d g) where
   abbrev now : rules.Symbol
-  now = symbol_at t R.place
+  now = symbol_at d.text.now R.place
 
-  cuts-now : Cuts t now g.next
-  cuts-now = record { cuts = R.first; stands = at-stands t R.place R.within }
+  cuts-now : Cuts d.text.now now g.next
+  cuts-now = record { cuts = R.first; stands = at-stands d.text.now R.place R.within }
 
-  pub held-now : Held t g.next
+  pub held-now : Held d.text.now g.next
   held-now = (now, cuts-now)
 
   -- the definitions and attributes so far take their bytes of the book
-  pub few-records : topic_size * g.state.listing.count + head_size * g.state.listing.total ≤ length o
+  pub few-records : topic_size * g.state.listing.count + head_size * g.state.listing.total ≤ length d.book.now
   few-records = go R.state.open_class R.keeps.opened
     where
-      go : (c : Option _) → OpenIs t R.state g.state (index_in g.state.listing.layout w) hs c
-          → topic_size * g.state.listing.count + head_size * g.state.listing.total ≤ length o
+      go : (c : Option _) → OpenIs d.text.now R.state g.state d.index.now d.hand.now c
+          → topic_size * g.state.listing.count + head_size * g.state.listing.total ≤ length d.book.now
       go none (a, b, h, i) = omega (arith, h, R.keeps.within)
       go (some c) (a, h, i, j) = omega (arith, h, R.keeps.within)
 
@@ -93,7 +104,7 @@ turn-refused f t m w s n p = go (is_over w)
 
 -- a refusal, as the code ends with it
 refused-ends : (t : List ℕ) (m : ℕ) (o : List ℕ) (s : State) (f : rules.Fault) (p : ℕ) → run t (lent m) ≡ C.unread s f p
-    → Ended t m (refused_in t (number_of f) p) o
+    → Ended t m (Err (refused_in t (number_of f) p)) o
 refused-ends t m o s f p e = ap (C.answer_of t) e
 
 fault-narrow : (f : rules.Fault) → number_of f % 256 ≡ number_of f
@@ -112,10 +123,10 @@ unread-is t y f p e h small =
     let q : position_at y ≡ position_in t p = ap position_at e ∙ its-position t (fault_at f p) h (omega arith) in
     let l : (position_at y).line ≡ (position_of t p).line = ap (λ (x : Position). x.line) q in
     let c : (position_at y).column ≡ (position_of t p).column = ap (λ (x : Position). x.column) q in
-    cc
+    λ i. record { number = n i; place = a i; line = l i; column = c i }
 
 broken-ends : (t : List ℕ) (m : ℕ) (o : List ℕ) (s : State) (n p : ℕ)
-    → run t (lent m) ≡ C.ruled_out s n p → Ended t m (refused_in t n p) o
+    → run t (lent m) ≡ C.ruled_out s n p → Ended t m (Err (refused_in t n p)) o
 broken-ends t m o s n p e = ap (C.answer_of t) e
 
 -- ---- what has been read: the unit v of the rules, which is u, in the state s; where the next one stands and its
@@ -158,7 +169,34 @@ placed-then t m w s y q z p o e none n x j =
 placed-then t m w s y q z p o e (some u) n x j =
     placed-next t w s y q z p o e u n x (room-ok m (unit_place u) (judge s u) x j)
 
-module _ {t : List ℕ} {m : ℕ} {g : Stage} {o w hs : List ℕ} (R : Runs t m g o w hs) where
+-- ---- where the next unit stands
+around-where : (a : U.Around) → around_of (not (U.is_model a)) ≡ a
+around-where U.in_model = refl
+around-where U.in_topic = refl
+
+run-where : (r : U.Run) → run_of (run_cut r) ≡ r
+run-where U.no_run = refl
+run-where U.domains = refl
+run-where U.units = refl
+
+behind-where : (b : U.Behind) → behind_of (U.is_head b) ≡ b
+behind-where U.its_head = refl
+behind-where U.a_member = refl
+
+place-where : (w : U.Where) → place_of (where_of w) ≡ w
+place-where U.start = refl
+place-where U.after_header = refl
+place-where U.over = refl
+place-where (U.body a r) = rw (around-where a, run-where r)
+place-where (U.members a b) = rw (around-where a, behind-where b)
+
+module _ {d : Desk} {g : Stage} (R : Runs d g) where
+  abbrev t : List ℕ
+  t = d.text.now
+
+  abbrev m : ℕ
+  m = length d.book.now
+
   abbrev here : U.Where
   here = place_of g.at
 
@@ -167,15 +205,15 @@ module _ {t : List ℕ} {m : ℕ} {g : Stage} {o w hs : List ℕ} (R : Runs t m 
       → run t (lent m) ≡ turn k t m here R.state (unit_at here t (now R))
   run-turn f e k h = R.goes_on ∙ ap (λ (n : ℕ). run_from n t (lent m) here R.state R.place) (e ∙ h)
 
-  module _ {rs₀ rs : List ℕ} {r : Step} (S : Steps t rs₀ rs (unit_at here) g.next r) where
+  module _ {rs₀ rs : List ℕ} {r : coded.Result UnitRead Symbol} (S : Steps t rs₀ rs (unit_at here) g.next r) where
     -- ---- it cannot be read, at a place of the text
-    pub unread-ends : {y : Symbol} {x : Answer} (o' : List ℕ) → length t ≤ 65535 → r ≡ Unread y → x ≡ unread_by y
-        → Ended t m x o'
+    pub unread-ends : {y : Symbol} {x : Refusal} (o' : List ℕ) → length t ≤ 65535 → r ≡ Err y → x ≡ unread_by y
+        → Ended t m (Err x) o'
     unread-ends {y} {x} o' small e b =
         go R.fuel refl (unit_at here t (now R)) refl (S.steps (now R) (cuts-now R))
       where
         go : (f : ℕ) → R.fuel ≡ f → (v : Result U.Step) → unit_at here t (now R) ≡ v → StepIs t rs₀ rs v r
-            → Ended t m x o'
+            → Ended t m (Err x) o'
         go zero h v i s = absurd (omega (arith, R.left, R.within))
         go (suc k) h (done v z') i (u, j, a) = absurd (let q : ◌≡◌ {A = ℕ} 0 1 = cc in omega arith)
         go (suc k) h (refused f j) i (y', s, q, w) =
@@ -186,16 +224,13 @@ module _ {t : List ℕ} {m : ℕ} {g : Stage} {o w hs : List ℕ} (R : Runs t m 
             rw d (refused-ends t m o' R.state f j c)
 
     -- ---- behind the model's END the text is at its end
-    pub over-ends :
-        {u : Unit} {at : Where} {n : Symbol} {a : Answer} → r ≡ Read at u n → is_over here ≡ true
-        → a ≡ accepted_in R.state → Ended t m a o
-    over-ends {u} {at} {n} {a} e v x =
-        subst (λ (y : Answer). Ended t m y o) (accepted-is g.state R.state t o w hs R.keeps ∙ sym x)
-        (go R.fuel refl (unit_at here t (now R)) refl (S.steps (now R) (cuts-now R)))
+    pub over-ends : {u : UnitRead} → r ≡ Ok u → is_over here ≡ true
+        → Ended t m (accepted_as g.state.extent.used g.state.extent.definitions) d.book.now
+    over-ends {u} e v = go R.fuel refl (unit_at here t (now R)) refl (S.steps (now R) (cuts-now R))
       where
         go :
             (f : ℕ) → R.fuel ≡ f → (q : Result U.Step) → unit_at here t (now R) ≡ q → StepIs t rs₀ rs q r
-            → Ended t m (Accepted g.state.extent.used g.state.extent.definitions) o
+            → Ended t m (accepted_as g.state.extent.used g.state.extent.definitions) d.book.now
         go zero h q i s = absurd (omega (arith, R.left, R.within))
         go (suc k) h (refused f j) i s = absurd (let q : ◌≡◌ {A = ℕ} 0 1 = cc in omega arith)
         go (suc k) h (done q z') i s =
@@ -204,9 +239,9 @@ module _ {t : List ℕ} {m : ℕ} {g : Stage} {o w hs : List ℕ} (R : Runs t m 
             (R.state, c, R.keeps.used, R.keeps.defined, R.keeps.within, R.keeps.written)
 
     -- ---- a unit has been read
-    pub given : {u : Unit} {w : Where} {n : Symbol} → length t ≤ 65535 → r ≡ Read w u n → is_over here ≡ false
-        → Given t m g R.state rs u w n
-    given {u} {w} {n} small e v = go R.fuel refl (unit_at here t (now R)) refl
+    pub given : {u : UnitRead} → length t ≤ 65535 → r ≡ Ok u → is_over here ≡ false
+        → Given t m g R.state rs u.unit u.at u.next
+    given {u} small e v = go R.fuel refl (unit_at here t (now R)) refl
         ((unit-steps here v).reads t (now R).place (now R) whole) (S.steps (now R) (cuts-now R))
       where
         lies : Lies R.place (length t) (now R)
@@ -217,11 +252,11 @@ module _ {t : List ℕ} {m : ℕ} {g : Stage} {o w hs : List ℕ} (R : Runs t m 
 
         go : (f : ℕ) → R.fuel ≡ f → (q : Result U.Step) → unit_at here t (now R) ≡ q
             → Ends (Stepped t (suc (now R).place)) q → StepIs t rs₀ rs q r
-            → Given t m g R.state rs u w n
+            → Given t m g R.state rs u.unit u.at u.next
         go zero h q i b s = absurd (omega (arith, R.left, R.within))
         go (suc k) h (refused f j) i b s = absurd (let q : ◌≡◌ {A = ℕ} 0 1 = cc in omega arith)
         go (suc k) h (done q z') i b (u', j, a) =
-            let same : u' ≡ u = cc in
+            let same : u' ≡ u.unit = cc in
             let start = lies.starts in
             let first-place : g.next.place ≡ (now R).place = ap (λ (y : Symbol). y.place) R.first in
             let left = R.left in
@@ -243,129 +278,118 @@ module _ {t : List ℕ} {m : ℕ} {g : Stage} {o w hs : List ℕ} (R : Runs t m 
               placed = placed-then t m here R.state (now R) q z' R.placed v i q.unit refl;
             }
 
--- ---- and judged
--- the parts of `work` lie where they lay
-kept_on : (t : List ℕ) (k : State) (st st' : code.State) (o w hs : List ℕ) → st'.listing.layout ≡ st.listing.layout
-    → Keeps t k st' o (index_in st.listing.layout w) (chains_in st.listing.layout w)
-    (rows_in st.listing.layout w) hs → Kept t k st' o w hs
-kept_on t k st st' o w hs e h =
-    subst (λ (l : Layout). Keeps t k st' o (index_in l w) (chains_in l w) (rows_in l w) hs) (sym e) h
+  -- ---- and judged
+  module _ {rs : List ℕ} {u : Unit} {w : Where} {n : Symbol} (G : Given t m g R.state rs u w n) where
+    symbol-lies : Lies G.behind (length t) (symbol_at t G.behind)
+    symbol-lies = next-lies t G.behind G.within
 
-around-where : (a : U.Around) → around_of (not (U.is_model a)) ≡ a
-around-where U.in_model = refl
-around-where U.in_topic = refl
+    next_place : n.place ≡ (symbol_at t G.behind).place
+    next_place = ap (λ (y : Symbol). y.place) G.first
 
-run-where : (r : U.Run) → run_of (run_cut r) ≡ r
-run-where U.no_run = refl
-run-where U.domains = refl
-run-where U.units = refl
+    goes_to : (k : State) → judged (lent m) R.state G.unit ≡ J.ok k
+        → run t (lent m) ≡ run_from G.fuel t (lent m) (place_of w) k G.behind
+    goes_to k e =
+        G.goes_on
+        ∙ ap
+        (λ (q : J.Judged). after_judge R.state q G.next G.behind (λ v x b. run_from G.fuel t (lent m) v x b)) e
+        ∙ ap (λ (v : U.Where). run_from G.fuel t (lent m) v k G.behind)
+        (sym (ap place_of G.at ∙ place-where G.next))
 
-behind-where : (b : U.Behind) → behind_of (U.is_head b) ≡ b
-behind-where U.its_head = refl
-behind-where U.a_member = refl
+    -- what a turn makes of judging's answer
+    abbrev after : coded.Result code.State Ruling → coded.Result (core.Option Stage) Refusal
+    after (Ok st) = Ok (Some (record { state = st; at = w; next = n }))
+    after (Err r) = Err (refused_in t r.number r.place)
 
-place-where : (w : U.Where) → place_of (where_of w) ≡ w
-place-where U.start = refl
-place-where U.after_header = refl
-place-where U.over = refl
-place-where (U.body a r) = rw (around-where a, run-where r)
-place-where (U.members a b) = rw (around-where a, behind-where b)
+    -- ---- a state is kept, or a rule broken, on a desk where the same is lent
+    module _ {d' : Desk} (e : d'.text ≡ d.text) (l : length d'.book.now ≡ m) where
+      fine : (k : State) (st : code.State) → judged (lent m) R.state G.unit ≡ J.ok k → Kept d' k st
+          → Turned d' g (Ok (Some (record { state = st; at = w; next = n })))
+      fine k st q h = (
+        record {
+          fuel = G.fuel;
+          state = k;
+          place = G.behind;
+          within = rw e G.within;
+          left = rw e G.left;
+          goes_on = rw (e, l) (goes_to k q);
+          first = rw e G.first;
+          keeps = h;
+          placed = subst (λ (v : U.Where). Placed v k) (sym (ap place_of G.at ∙ place-where G.next)) (G.placed k q);
+        },
+        omega (arith, G.on, next_place, symbol-lies.starts),
+        rw e (omega (arith, next_place, symbol-lies.ends)),
+      )
 
-module _ {t : List ℕ} {m : ℕ} {g : Stage} {o w₀ hs : List ℕ}
-    (R : Runs t m g o w₀ hs) {rs : List ℕ} {u : Unit} {w : Where} {n : Symbol}
-    (G : Given t m g R.state rs u w n) where
-  symbol-lies : Lies G.behind (length t) (symbol_at t G.behind)
-  symbol-lies = next-lies t G.behind G.within
+      turned : {j : coded.Result code.State Ruling} → Answers d' m R.state j G.unit → Turned d' g (after j)
+      turned {j} A = go (judged (lent m) R.state G.unit) refl A.as_judged
+        where
+          go : (q : J.Judged) → judged (lent m) R.state G.unit ≡ q → Answered d' q j → Turned d' g (after j)
+          go (J.ok k) q (st, i, h) = rw i (fine k st q h)
+          go (J.refused a b) q i =
+              rw (i, e, l) (broken-ends t m d'.book.now R.state a b
+              (G.goes_on ∙ ap (λ (j : J.Judged). after_judge R.state j G.next
+              G.behind (λ v x b. run_from G.fuel t (lent m) v x b)) q))
 
-  next_place : n.place ≡ (symbol_at t G.behind).place
-  next_place = ap (λ (y : Symbol). y.place) G.first
+      pub turned-on : {j : coded.Result code.State Ruling} {st : code.State} → j ≡ Ok st
+          → Answers d' m R.state j G.unit → Turned d' g (Ok (Some (record { state = st; at = w; next = n })))
+      turned-on q A = rw q at (turned A)
 
-  goes_to : (k : State) → judged (lent m) R.state G.unit ≡ J.ok k
-      → run t (lent m) ≡ run_from G.fuel t (lent m) (place_of w) k G.behind
-  goes_to k e =
-      G.goes_on
-      ∙ ap
-      (λ (q : J.Judged). after_judge R.state q G.next G.behind (λ v x b. run_from G.fuel t (lent m) v x b)) e
-      ∙ ap (λ (v : U.Where). run_from G.fuel t (lent m) v k G.behind)
-      (sym (ap place_of G.at ∙ place-where G.next))
-
-  fine : {o' v hs' : List ℕ} (k : State) (st : code.State) → judged (lent m) R.state G.unit ≡ J.ok k
-      → Kept t k st o' v hs' → PartsStay g.state st → Turned t m g (after t (Fine st) w n) o' v hs'
-  fine k st e h stay = (
-    record {
-      fuel = G.fuel;
-      state = k;
-      place = G.behind;
-      within = G.within;
-      left = G.left;
-      goes_on = goes_to k e;
-      first = G.first;
-      keeps = h;
-      placed = subst (λ (v : U.Where). Placed v k) (sym (ap place_of G.at ∙ place-where G.next)) (G.placed k e);
-    },
-    omega (arith, G.on, next_place, symbol-lies.starts),
-    omega (arith, next_place, symbol-lies.ends),
-    stay,
-  )
-
-  pub turned : {j : code-judged.Judged} {r : Turn} {o' v hs' : List ℕ} → r ≡ after t j w n
-      → Answers t m R.state g.state j o' v hs' G.unit → Turned t m g r o' v hs'
-  turned {j} {r} {o'} {v} {hs'} e A = subst (λ (r : Turn). Turned t m g r o' v hs') (sym e)
-      (go (judged (lent m) R.state G.unit) refl A.as_judged)
-    where
-      go : (q : J.Judged) → judged (lent m) R.state G.unit ≡ q → Answered t q g.state j o' v hs'
-          → Turned t m g (after t j w n) o' v hs'
-      go (J.ok k) e (st, i, h, stay) = rw i (fine k st e (kept_on t k g.state st o' v hs' stay h) stay)
-      go (J.refused a b) e i =
-          rw i (broken-ends t m o' R.state a b (G.goes_on ∙ ap (λ (q : J.Judged). after_judge R.state q G.next
-          G.behind (λ v x b. run_from G.fuel t (lent m) v x b)) e))
+      pub turned-out : {j : coded.Result code.State Ruling} {r : Ruling} {x : Refusal} → j ≡ Err r
+          → x ≡ refused_in d'.text.now r.number r.place → Answers d' m R.state j G.unit → Turned d' g (Err x)
+      turned-out {r} {x} q f A =
+          let b : x ≡ refused_in t r.number r.place = rw e at f in
+          rw b (rw q at (turned A))
 
 -- ---- the first stage
-module _ (t : List ℕ) (m : ℕ) (o w hs : List ℕ) where
-  run-start : length t ≤ 65535 → run t (lent m) ≡ run_from (enough t) t (lent m) U.start nothing 0
-  unfolding run
-  run-start h = rw (le-ltb 65535 (length t) h)
+run-start : (t : List ℕ) (m : ℕ) → length t ≤ 65535
+    → run t (lent m) ≡ run_from (enough t) t (lent m) U.start nothing 0
+unfolding run
+run-start t m h = rw (le-ltb 65535 (length t) h)
 
-  pub begins : (g : Stage) (y : Layout) (n : ℕ) → length t ≤ 65535 → chains_in y w ≡ replicate n 0
-      → g.state.listing.layout ≡ y → g.at ≡ Start → g.next ≡ cut t (symbol_at t 0)
-      → Keeps t nothing g.state o (index_in y w) (replicate n 0) (rows_in y w) hs → Runs t m g o w hs
-  begins g y n h e el v f k =
-      record {
-        fuel = enough t;
-        state = nothing;
-        place = 0;
-        within = omega arith;
-        left = omega arith;
-        goes_on = rw v (run-start h);
-        first = f;
-        keeps =
-            subst (λ (l : Layout). Keeps t nothing g.state o (index_in l w) (chains_in l w) (rows_in l w) hs) (sym el)
-            (subst (λ (z : List ℕ). Keeps t nothing g.state o (index_in y w) z (rows_in y w) hs) (sym e) k);
-        placed = rw v (record { decls = refl; topic = refl; open_class = refl });
-      }
+pub begins : (d : Desk) (g : Stage) (n : ℕ) → length d.text.now ≤ 65535 → d.chains.now ≡ replicate n 0
+    → g.at ≡ Start → g.next ≡ cut d.text.now (symbol_at d.text.now 0)
+    → Keeps d.text.now nothing g.state d.book.now d.index.now (replicate n 0) d.rows.now d.hand.now → Runs d g
+begins d g n h z v f k = record {
+  fuel = enough d.text.now;
+  state = nothing;
+  place = 0;
+  within = omega arith;
+  left = omega arith;
+  goes_on = rw v (run-start d.text.now (length d.book.now) h);
+  first = f;
+  keeps = subst (λ (y : List ℕ). Keeps d.text.now nothing g.state d.book.now d.index.now y d.rows.now d.hand.now)
+      (sym z) k;
+  placed = rw v (record { decls = refl; topic = refl; open_class = refl });
+}
 
--- ---- judging's answer
-pub after-refused : (t : List ℕ) {j : code-judged.Judged} {n p : ℕ} {q : Position} {x : Answer} (w : Where) (y : Symbol)
-    → j ≡ Broken n p → q ≡ position_in t p → x ≡ Refused n p q.line q.column → End x ≡ after t j w y
-after-refused t w y e i f = rw (e, f, i)
+-- ---- a turn, by its answer
+module _ (d : Desk) (g : Stage) {r : coded.Result (core.Option Stage) Refusal} (h : Turned d g r) where
+  pub end-turn : r ≡ Ok None → Ended d.text.now (length d.book.now)
+      (accepted_as g.state.extent.used g.state.extent.definitions) d.book.now
+  end-turn f = rw f at h
 
-pub after-fine : (t : List ℕ) {j : code-judged.Judged} {st : code.State} (w : Where) (y : Symbol) → j ≡ Fine st
-    → On (record { state = st; at = w; next = y }) ≡ after t j w y
-after-fine t w y e = rw e
+  pub on-turn : {g' : Stage} → r ≡ Ok (Some g')
+      → Runs d g' × (g.next.place < g'.next.place) × (g'.next.place ≤ length d.text.now)
+  on-turn f = rw f at h
 
--- ---- a turn, of a buffer of as many bytes
-pub end-turn : (t : List ℕ) (m m' : ℕ) (g : Stage) (r : Turn) (a : Answer) (o w hs : List ℕ) → m ≡ m' → r ≡ End a
-    → Turned t m g r o w hs → Ended t m' a o
-end-turn t m m' g r a o w hs e f h = rw (e, f) at h
+-- ---- where the same is lent
+pub stays-same : (d : Desk) → Stays d d
+stays-same d =
+    (refl, (refl, refl), (refl, refl), (refl, refl), (refl, refl), (refl, refl), (refl, refl), (refl, refl))
 
-pub on-turn : (t : List ℕ) (m m' : ℕ) (g : Stage) (r : Turn) (g' : Stage) (o w hs : List ℕ) → m ≡ m'
-    → r ≡ On g' → Turned t m g r o w hs
-    → Runs t m' g' o w hs × (g.next.place < g'.next.place) × (g'.next.place ≤ length t)
-    × (g'.state.listing.layout ≡ g.state.listing.layout)
-on-turn t m m' g r g' o w hs e f h = rw (e, f) at h
+module _ (d d' : Desk) (e : Stays d d') where
+  pub loan-stays : Loan d → Loan d'
+  loan-stays l = record {
+    text_short = rw e.0 l.text_short;
+    book_short = rw e.1.1 l.book_short;
+    scratch_wide = rw (e.0, e.6.1) l.scratch_wide;
+    scratch_short = rw e.6.1 l.scratch_short;
+    tables_wide = rw (e.6.1, e.1.1, e.7.1) l.tables_wide;
+  }
 
-pub runs-sized : {t : List ℕ} {m m' : ℕ} {g : Stage} {o w hs : List ℕ} → m ≡ m' → Runs t m' g o w hs → Runs t m g o w hs
-runs-sized e R = rw e R
+  pub suffices : Suffices d → Suffices d'
+  suffices f = rw (e.1.1, e.2.1, e.3.1, e.4.1) f
 
-pub suffices : {m m' w w' : ℕ} {y y' : Layout} → m ≡ m' → w ≡ w' → y ≡ y' → Suffice m' y' w' → Suffice m y w
-suffices d e f h = rw (d, e, f) h
+  pub ended : (a : Coded) → Ended d'.text.now (length d'.book.now) a d'.book.now
+      → Ended d.text.now (length d.book.now) a d'.book.now
+  ended a h = rw (e.0, e.1.1) at h

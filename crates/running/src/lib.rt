@@ -6,17 +6,19 @@ ghost use Rattle.std.specs.Prelude.{◌≡◌, ℕ, ◌≤◌, min, length, repl
 ghost use Rattle.rules.specs.Check.{is_over};
 ghost use Rattle.members.specs.Members.{Hand};
 ghost use Rattle.units.specs.Steps.{place_of};
-ghost use Rattle.state.specs.Parts.{chains_in, Loan};
-ghost use Rattle.answers.specs.declared.Answer.TheVariants.{Refused};
+ghost use Rattle.state.specs.Desks.{Lengths, Loan, Stays};
 ghost use Rattle.answers.specs.Answers.{answer_of};
-ghost use Rattle.running.specs.Running.{Suffice, Runs, Ended, Turned, unread_by, after as Running·after};
+ghost use Rattle.running.specs.Running.{Suffice, Suffices, Runs, Ended, Turned};
+ghost use Rattle.running.specs.Running.{refusal_at, refused_in, unread_by};
 ghost use Rattle.running.specs.Trying.{Tried};
 
-use answers::Answer;
+use answers::{Accepted, Answer, Refusal};
+use ground::Ruling;
 use places::Position;
-use state::{Judged, Layout, State};
+use state::State;
+use state::desk::Desk;
 use symbols::{Cursor, Symbol};
-use units::{Step, Where};
+use units::Where;
 
 // Between two units: what is declared, where the next unit stands, and its first symbol.
 #[derive(Clone, Copy)]
@@ -26,133 +28,111 @@ pub struct Stage {
     pub next: Symbol,
 }
 
-#[derive(Clone, Copy)]
-pub enum Turn {
-    On(Stage),
-    End(Answer),
-}
-
 fn is_over(at: Where) -> bool
     ensures { result ≡ is_over (place_of at) }
 {
-    match at {
-        Where::Over => true,
-        Where::Start => false,
-        Where::AfterHeader => false,
-        Where::Body { .. } => false,
-        Where::Members { .. } => false,
-    }
+    matches!(at, Where::Over)
 }
 
-fn refused_at(number: u8, place: usize, position: Position) -> Answer
-    ensures { result ≡ Refused number place position.line position.column }
+fn refused_at(number: u8, place: usize, position: Position) -> Refusal
+    ensures { result ≡ refusal_at number place position }
 {
-    Answer::Refused {
-        number: number,
-        place: place,
+    Refusal {
+        number,
+        place,
         line: position.line,
         column: position.column,
     }
 }
 
 // The symbol that keeps a unit from being read; a number that refuses is less than 256.
-fn unread(y: Symbol) -> Answer
+fn unread(y: Symbol) -> Refusal
     ensures { result ≡ unread_by y }
 {
     refused_at((y.refusal % 256) as u8, y.place, symbols::position_of(y))
 }
 
-// A unit has been judged; where the next one stands, and its first symbol. Judging has offsets alone.
-fn after(text: &[u8], j: Judged, at: Where, next: Symbol) -> Turn
+// The rule that a unit breaks. Judging has offsets alone.
+fn broken(text: &[u8], r: Ruling) -> Refusal
     requires { length text.now ≤ 65535 }
-    ensures { result ≡ Running·after text.now j at next }
+    ensures { result ≡ refused_in text.now r.number r.place }
 {
-    match j {
-        Judged::Refused { number, place } => {
-            Turn::End(refused_at(number, place, places::position_of(text, place)))
-        }
-        Judged::Fine(state) => Turn::On(Stage {
-            state: state,
-            at: at,
-            next: next,
-        }),
-    }
+    refused_at(r.number, r.place, places::position_of(text, r.place))
 }
 
-// The next unit is read and judged.
-fn step(
-    text: &[u8],
-    book: &mut [u8],
-    work: &mut [u16],
-    hand: &mut [u32],
-    scratch: &mut [u8],
-    tables: &mut [u32],
-    g: Stage,
-) -> Turn
-    requires loan { Loan (length text.now) (length book.old) (length scratch.old) (length tables.old) }
-    requires suffice { Suffice (length book.old) g.state.listing.layout (length work.old) × Hand hand.old }
-    requires runs { Runs text.now (length book.old) g book.old work.old hand.old }
-    ensures { Turned text.now (length book.old) g result
-        book.new work.new hand.new }
+// The next unit is read and judged; none stands behind the model's end.
+fn step(desk: &mut Desk, g: Stage) -> Result<Option<Stage>, Refusal>
+    requires loan { Loan desk.old }
+    requires suffice { Suffices desk.old × Hand desk.old.hand.now }
+    requires runs { Runs desk.old g }
+    ensures stays { Stays desk.old desk.new }
+    ensures turned { Turned desk.new g result }
 {
-    let at = g.at;
-    let st = g.state;
-    let y = g.next;
-    let s = units::read_unit(text, scratch, at, y);
-    match s {
-        Step::Unread(z) => Turn::End(unread(z)),
-        Step::Read { at: w, unit, next } => {
-            if is_over(at) {
-                let a = answers::accepted(st.extent);
-                return Turn::End(a);
-            }
-            let j = judge::judge(text, book, work, hand, scratch, tables, st, unit);
-            after(text, j, w, next)
-        }
+    let scratch = &mut *desk.scratch;
+    let read = units::read_unit(desk.text, scratch, g.at, g.next).map_err(unread)?;
+    if is_over(g.at) {
+        return Ok(None);
     }
+    let judged = judge::judge(desk, g.state, read.unit);
+    let text = desk.text;
+    let state = judged.map_err(|r| broken(text, r))?;
+    Ok(Some(Stage {
+        state,
+        at: read.at,
+        next: read.next,
+    }))
 }
 
-// The units from left to right. The book begins at the front of `book`; what stands behind it there is of no account.
-// The chains of `work` are zero.
-pub fn run(
+// The units from left to right. The book begins at the front of the desk's; what stands behind it there is of no
+// account.
+pub fn run(desk: &mut Desk) -> Answer
+    requires loan { Loan desk.old }
+    requires suffice { Suffices desk.old × Hand desk.old.hand.now }
+    requires zero { (n : ℕ) × (desk.old.chains.now ≡ replicate n 0) }
+    ensures stays { Stays desk.old desk.new }
+    ensures ended { Ended desk.old.text.now (length desk.old.book.now) result desk.new.book.now }
+{
+    let mut stage = Stage {
+        state: state::nothing(),
+        at: Where::Start,
+        next: Cursor::start().next(desk.text),
+    };
+    while let Some(next) = step(desk, stage)? {
+        stage = next;
+    }
+    Ok(Accepted::of(stage.state.extent))
+}
+
+// The numbers of the hand.
+const HAND: usize = members::MOST + members::MOST;
+
+// The desk over what is lent, of which the chains are zero, with a hand of its own.
+fn run_over(
     text: &[u8],
     book: &mut [u8],
-    work: &mut [u16],
-    hand: &mut [u32],
+    index: &mut [u16],
+    rows: &mut [u16],
+    chains: &mut [u16],
     scratch: &mut [u8],
     tables: &mut [u32],
-    layout: Layout,
 ) -> Answer
-    requires loan { Loan (length text.now) (length book.old) (length scratch.old) (length tables.old) }
-    requires suffice { Suffice (length book.old) layout (length work.old) × Hand hand.old }
-    requires by_index { (n : ℕ) × (chains_in layout work.old ≡ replicate n 0) }
+    requires loan { Lengths (length text.now) (length book.old) (length scratch.old) (length tables.old) }
+    requires suffice { Suffice (length book.old) (length index.old) (length rows.old) (length chains.old) }
+    requires zero { (n : ℕ) × (chains.old ≡ replicate n 0) }
     ensures { Ended text.now (length book.old) result book.new }
 {
-    let c = Cursor::start();
-    let next = c.next(text);
-    let state = state::nothing(layout);
-    let mut stage = Stage {
-        state: state,
-        at: Where::Start,
-        next: next,
+    let mut hand = [0u32; HAND];
+    let mut desk = Desk {
+        text,
+        book,
+        index,
+        rows,
+        chains,
+        hand: &mut hand,
+        scratch,
+        tables,
     };
-    loop {
-        let t = step(text, book, work, hand, scratch, tables, stage);
-        match t {
-            Turn::End(a) => {
-                return a;
-            }
-            Turn::On(g) => {
-                stage = g;
-            }
-        }
-    }
-}
-
-fn least(a: usize, b: usize) -> usize
-    ensures { (result ≡ min a b) × (result ≤ a) × (result ≤ b) }
-{
-    if a < b { a } else { b }
+    run(&mut desk)
 }
 
 // The text is checked with the arrays that are lent, of which the chains are zero, and with the first `most` bytes of
@@ -161,19 +141,19 @@ pub fn check_with(
     text: &[u8],
     book: &mut [u8],
     most: usize,
-    work: &mut [u16],
-    hand: &mut [u32],
+    index: &mut [u16],
+    rows: &mut [u16],
+    chains: &mut [u16],
     scratch: &mut [u8],
     tables: &mut [u32],
-    layout: Layout,
 ) -> Answer
-    requires loan { Loan (length text.now) most (length scratch.old) (length tables.old) }
-    requires suffice { Suffice most layout (length work.old) × Hand hand.old }
-    requires by_index { (n : ℕ) × (chains_in layout work.old ≡ replicate n 0) }
+    requires loan { Lengths (length text.now) most (length scratch.old) (length tables.old) }
+    requires suffice { Suffice most (length index.old) (length rows.old) (length chains.old) }
+    requires zero { (n : ℕ) × (chains.old ≡ replicate n 0) }
     ensures { Tried text.now (length book.old) most (answer_of result) book.new }
 {
-    let m = least(book.len(), most);
-    let a = run(text, &mut book[..m], work, hand, scratch, tables, layout);
+    let m = book.len().min(most);
+    let a = run_over(text, &mut book[..m], index, rows, chains, scratch, tables);
     answers::finish(book, a);
     a
 }

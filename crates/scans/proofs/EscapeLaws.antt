@@ -1,19 +1,11 @@
--- What belongs to a backslash, and that it stands in the text.
-use mathlib.Core.Path.{◌≡◌, refl}
-use mathlib.Core.Bool.{Bool, true, false, cond, ◌&&◌, ◌||◌}
-use mathlib.Core.List.{List, [], ◌∷◌}
-use Prim.Native.Nat.{ℕ, suc, ◌+◌, ◌≤◌, ◌<◌}
-use native.Mathlib.Nat.{add-zero}
-use native.Mathlib.Omega.{arith}
-use lib.ListN.{length, drop, get_or, get_or-eq_default}
-use lib.Seq.{get_or-drop}
-use lib.Dec.{ltb}
-use borrow.Author.Tests.{ltb-true, ltb-false}
+-- What belongs to a backslash.
+use Rattle.std.proofs.Common.{◌≡◌, ◌<◌, ◌≤◌, ◌⊎◌, inl, inr, ℕ, Bool, true, false, ◌&&◌, ◌||◌, List, length, get_or}
+use Rattle.std.proofs.Common.{ltb, ltb-true, ltb-false, ne_eqb, arith}
+use lib.ListN.{get_or-eq_default}
 use Rattle.rules.specs.Bytes.{is, is_hexadecimal}
 use Rattle.rules.specs.Symbols.{escape}
 use Rattle.rules.proofs.Tests.{fail-r, not-both}
 use Rattle.rules.proofs.SymbolLaws.{either}
-use Rattle.scans.specs.Scans.{hex_at}
 use Rattle.ground.proofs.TableLaws.{test, second}
 
 -- a byte that is not 0 stands in the text
@@ -21,57 +13,37 @@ pub stands : (t : List ℕ) (i : ℕ) → ¬ (get_or t i 0 ≡ 0) → i < length
 stands t i h =
     test (ltb i (length t)) (λ e. ltb-true _ _ e) (λ e. absurd (h (get_or-eq_default t 0 (ltb-false _ _ e))))
 
--- what belongs to a backslash stands in the text
-pub escape-le : (s : List ℕ) → escape s ≤ length s
-escape-le [] = omega arith
-escape-le (b ∷ s) =
-    either (λ n. n ≤ suc (length s)) (is "\"" b || is "\\" b) (λ _. omega arith)
-    (λ _. either (λ n. n ≤ suc (length s)) (hex b s) (λ p. five p) (λ _. omega arith))
-  where
-    hex : ℕ → List ℕ → Bool
-    hex b s =
-        is "u" b && (is_hexadecimal (get_or s 0 0)
-        && (is_hexadecimal (get_or s 1 0) && (is_hexadecimal (get_or s 2 0) && is_hexadecimal (get_or s 3 0))))
+module _ (s : List ℕ) where
+  abbrev hex : ℕ → Bool
+  hex i = is_hexadecimal (get_or s i 0)
 
-    five : hex b s ≡ true → 5 ≤ suc (length s)
-    five p =
-        let q : is_hexadecimal (get_or s 3 0) ≡ true = second (is_hexadecimal (get_or s 2 0))
-        (second (is_hexadecimal (get_or s 1 0)) (second (is_hexadecimal (get_or s 0 0)) (second (is "u" b) p))) in
-        let f : get_or s 3 0 ≡ 0 → is_hexadecimal (get_or s 3 0) ≡ false = λ o. rw o in
-        omega (arith, stands s 3 (λ o. not-both q (f o)))
+  fifth : (is "u" (get_or s 0 0) && (hex 1 && (hex 2 && (hex 3 && hex 4)))) ≡ true → 4 < length s
+  fifth p =
+      let q : hex 4 ≡ true = second (hex 3) (second (hex 2) (second (hex 1) (second (is "u" (get_or s 0 0)) p))) in
+      let f : get_or s 4 0 ≡ 0 → hex 4 ≡ false = λ o. rw o in
+      stands s 4 (λ o. not-both q (f o))
 
--- ---- by the bytes behind it
-abbrev escape_by : ℕ → Bool → Bool → Bool → Bool → ℕ
-escape_by b o p q r = cond (is "\"" b || is "\\" b) 1 (cond (is "u" b && (o && (p && (q && r)))) 5 0)
+  first : (is "\"" (get_or s 0 0) || is "\\" (get_or s 0 0)) ≡ true → 0 < length s
+  first p =
+      let f : get_or s 0 0 ≡ 0 → (is "\"" (get_or s 0 0) || is "\\" (get_or s 0 0)) ≡ false = λ o. rw o in
+      stands s 0 (λ o. not-both p (f o))
 
-pub escape-at : (t : List ℕ) (i : ℕ)
-    → escape (drop i t)
-    ≡ escape_by (get_or t i 0) (hex_at t (i + 1)) (hex_at t (i + 2)) (hex_at t (i + 3)) (hex_at t (i + 4))
-escape-at t i =
-    rw (
-      get_or-drop i t 0 0,
-      get_or-drop i t 1 0,
-      get_or-drop i t 2 0,
-      get_or-drop i t 3 0,
-      get_or-drop i t 4 0,
-      add-zero i,
-    )
+  -- what belongs to a backslash stands in the text
+  pub escape-le : escape s ≤ length s
+  escape-le =
+      either (λ n. n ≤ length s) (is "\"" (get_or s 0 0) || is "\\" (get_or s 0 0)) (λ p. omega (arith, first p))
+      (λ _.
+      either (λ n. n ≤ length s) (is "u" (get_or s 0 0) && (hex 1 && (hex 2 && (hex 3 && hex 4))))
+      (λ p. omega (arith, fifth p)) (λ _. omega arith))
 
-four : (o p q r : Bool) → escape_by 117 o p q r ≡ cond ((o && p) && (q && r)) 5 0
-four true true q r = refl
-four true false q r = refl
-four false p q r = refl
+  short : length s < 5 → hex 4 ≡ false
+  short h = let l : length s ≤ 4 = omega arith in rw (get_or-eq_default s 0 l)
 
-pub unicode-at : (t : List ℕ) (i : ℕ) → get_or t i 0 ≡ 117 → escape (drop i t)
-    ≡ cond ((hex_at t (i + 1) && hex_at t (i + 1 + 1)) && (hex_at t (i + 3) && hex_at t (i + 3 + 1))) 5 0
-unicode-at t i e =
-    let m : i + 1 + 1 ≡ i + 2 = omega arith in
-    let n : i + 3 + 1 ≡ i + 4 = omega arith in
-    rw (m, n, escape-at t i, e) (four (hex_at t (i + 1)) (hex_at t (i + 2)) (hex_at t (i + 3)) (hex_at t (i + 4)))
-
-pub unicode-short : (t : List ℕ) (i : ℕ) → get_or t i 0 ≡ 117 → length t ≤ i + 4 → escape (drop i t) ≡ 0
-unicode-short t i e h =
-    let o : hex_at t (i + 4) ≡ false = rw (get_or-eq_default t 0 h) in
-    let n : (hex_at t (i + 1) && (hex_at t (i + 2) && (hex_at t (i + 3) && hex_at t (i + 4))))
-    ≡ false = fail-r (hex_at t (i + 1)) (fail-r (hex_at t (i + 2)) (fail-r (hex_at t (i + 3)) o)) in
-    rw (escape-at t i, e, n)
+  -- of four bytes or fewer only a quote or another backslash does
+  pub escape_short : length s < 5 → ((get_or s 0 0 ≡ 34) ⊎ (get_or s 0 0 ≡ 92) → ⊥) → 0 ≡ escape s
+  escape_short h p =
+      rw (
+        ne_eqb (get_or s 0 0) 34 (λ e. p (inl e)),
+        ne_eqb (get_or s 0 0) 92 (λ e. p (inr e)),
+        fail-r (is "u" (get_or s 0 0)) (fail-r (hex 1) (fail-r (hex 2) (fail-r (hex 3) (short h)))),
+      )

@@ -17,9 +17,9 @@ use Rattle.enumerations.specs.Standing.{InText}
 use Rattle.names.specs.Index.{home_number}
 use Rattle.readers.specs.Reads.{name_cut}
 use Rattle.state.specs.declared.State as code
-use Rattle.state.specs.declared.Judged as code-judged
-use Rattle.state.specs.declared.Judged.TheVariants.{Fine, Refused}
-use Rattle.state.specs.Keeping.{Calls, TopicIs, OpenIs, Keeps, PartsStay, JudgedAs, verdict}
+use Rattle.std.specs.Prelude.{Result, Ok, Err}
+use Rattle.ground.specs.declared.Ruling.{Ruling}
+use Rattle.state.specs.Keeping.{Calls, TopicIs, OpenIs, Keeps, JudgedAs, verdict}
 pub use Rattle.state.specs.Keeping.{Small}
 use Rattle.state.proofs.KeepLaws.{definitions-few}
 
@@ -68,24 +68,23 @@ module _ (m p : ℕ) (s : State) (h : m ≤ 65535) where
   room_within w = rw (whole, le-ltb m (length (book s)) w)
 
 -- ---- the answer: a rule of 4, 7 to 18 and 22, then 19, or the next state
-module _ (t : List ℕ) (s : State) (v : U.Unit) (o : List ℕ) (st : code.State)
-    (r : code-judged.Judged) (o' x z y hs : List ℕ) where
-  answer : (j : Judged) → verdict s v o ≡ j → JudgedAs t j st r o' x z y hs
-      → JudgedAs t (verdict s v o) st r o' x z y hs
-  answer j e h = subst (λ (i : Judged). JudgedAs t i st r o' x z y hs) (sym e) h
+module _ (t : List ℕ) (s : State) (v : U.Unit) (o : List ℕ)
+    (r : Result code.State Ruling) (o' x z y hs : List ℕ) where
+  answer : (j : Judged) → verdict s v o ≡ j → JudgedAs t j r o' x z y hs → JudgedAs t (verdict s v o) r o' x z y hs
+  answer j e h = subst (λ (i : Judged). JudgedAs t i r o' x z y hs) (sym e) h
 
-  pub judged-refused : (n p : ℕ) → judge s v ≡ refused n p → r ≡ Refused n p
-      → JudgedAs t (verdict s v o) st r o' x z y hs
+  pub judged-refused : (n p : ℕ) → judge s v ≡ refused n p → r ≡ Err (record { number = n; place = p })
+      → JudgedAs t (verdict s v o) r o' x z y hs
   judged-refused n p e h = answer (refused n p) (ap (room (lent (length o)) (unit_place v)) e) h
 
   pub judged-over : (s' : State) → judge s v ≡ ok s' → length o ≤ 65535 → length o < length (book s')
-      → r ≡ Refused 19 (unit_place v) → JudgedAs t (verdict s v o) st r o' x z y hs
+      → r ≡ Err (record { number = 19; place = unit_place v }) → JudgedAs t (verdict s v o) r o' x z y hs
   judged-over s' e m w h = answer (refused 19 (unit_place v))
       (ap (room (lent (length o)) (unit_place v)) e ∙ room-over (length o) (unit_place v) s' m w) h
 
   pub judged-fine : (s' : State) (st' : code.State) → judge s v ≡ ok s' → length o ≤ 65535 → st'.extent.used ≤ length
-      o → r ≡ Fine st' → Keeps t s' st' o' x z y hs → PartsStay st st' → JudgedAs t (verdict s v o) st r o' x z y hs
-  judged-fine s' st' e m w h k g =
+      o → r ≡ Ok st' → Keeps t s' st' o' x z y hs → JudgedAs t (verdict s v o) r o' x z y hs
+  judged-fine s' st' e m w h k =
       let u = k.used in
       answer (ok s') (ap (room (lent (length o)) (unit_place v)) e
-      ∙ room_within (length o) (unit_place v) s' m (omega arith)) (st', h, k, g)
+      ∙ room_within (length o) (unit_place v) s' m (omega arith)) (st', h, k)

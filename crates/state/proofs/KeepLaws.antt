@@ -260,32 +260,6 @@ grown s s' st o o' l b r d k e f w eb er ed =
     }
 
 -- ---- the states that the code goes through
-pub keeps-nothing : (t : List ℕ) (st : code.State) (o x y hs : List ℕ) (n : ℕ) → st.extent.used ≡ 0
-    → st.extent.records ≡ 0 → st.extent.definitions ≡ 0 → st.listing.count ≡ 0 → st.listing.total ≡ 0
-    → st.context.model.offset ≡ 0 → st.context.model.len ≡ 0 → st.context.home ≡ 0
-    → st.context.open ≡ 0 → st.context.in_hand ≡ 0 → st.context.held ≡ 0
-    → Keeps t nothing st o x (replicate n 0) y hs
-keeps-nothing t st o x y hs n eu er ed ec et eo el eh ep ei ee = record {
-  used = eu;
-  within = omega arith;
-  written = rw eu;
-  numbered = er;
-  fewer = omega arith;
-  defined = ed;
-  model = record { inside = omega arith; named = rw (eo, el) };
-  topic = eh;
-  held = record {
-    all_defs = ec;
-    all_attributes = et;
-    def_rows = λ p d e. absurd (nowhere p e);
-    attribute_rows = λ q a e. absurd (nowhere q e);
-  };
-  chained = chains-none n;
-  fair = fair-nothing t;
-  hand = omega arith;
-  opened = (ep, omega arith, omega arith, rw ee tt);
-}
-
 attributes-declared : (s : State) (d : Def) → s.open_class ≡ none → d.own ≡ []
     → attributes_in (declare s (def d)) ≡ attributes_in s
 attributes-declared s d o w = rw (

@@ -8,7 +8,7 @@ use native.Mathlib.Omega.{arith}
 use lib.ListN.{length}
 use lib.Dec.{ltb, eqb}
 use borrow.Author.Tests.{lt-ltb, ne_eqb}
-use Rattle.ground.proofs.RulingLaws.{Positive}
+use Rattle.std.specs.Prelude.{⊤, Result, Ok, Err, Option as code·Option, Some, None}
 use Rattle.rules.specs.Names as R
 use Rattle.rules.specs.Grammar as G
 use Rattle.rules.specs.Declarations as D
@@ -26,8 +26,6 @@ use Rattle.names.proofs.IndexLaws.{there}
 use Rattle.names.proofs.BaseLaws.{entry-there}
 use Rattle.readers.specs.Reads.{name_cut}
 use Rattle.parts.specs.declared.Properties.{Properties}
-use Rattle.parts.specs.declared.Optional.{Optional}
-use Rattle.parts.specs.declared.Optional.TheVariants.{Nothing, Given}
 use Rattle.parts.specs.Forms.{flags_of, reference_of, optional_of}
 use Rattle.rules.specs.All.{AnyIs}
 use Rattle.wellformed.specs.Fairness.{FairReference}
@@ -59,64 +57,27 @@ reference-inside t (G.bare n) r e f = rw e f.fits
 reference-inside t (G.in_model m n) r e f = rw e (f.0.fits, f.1.fits)
 reference-inside t (G.in_topic m p n) r e f = rw e (f.0.fits, f.1.fits, f.2.fits)
 
-abbrev pub first_of : Reference → ℕ
-first_of (Bare n) = n.offset
-first_of (InModel m n) = m.offset
-first_of (InTopic m p n) = m.offset
-
-pub first-of : (b : G.Reference) → first_of (reference_of b) ≡ first_place b
-first-of (G.bare n) = refl
-first-of (G.in_model m n) = refl
-first-of (G.in_topic m p n) = refl
-
 -- ---- 10 to 12
-module _ (c b : Sort) (k : ℕ) (e : k ≡ sort_number c) (j : ℕ) (f : j ≡ sort_number b) where
-  pub same-sort : j ≡ k → true ≡ may_extend c b
-  same-sort h = rw (sym f ∙ h ∙ e) (go c)
-    where
-      go : (c : Sort) → true ≡ may_extend c c
-      go D.topic = refl
-      go D.class = refl
-      go D.struct = refl
-      go D.domain = refl
-      go D.unit = refl
-
-  pub class-over : ¬ (j ≡ k) → k ≡ 1 → eqb j 2 ≡ may_extend c b
-  class-over h z = rw (sym e ∙ z, sym f) (go b f)
-    where
-      go : (b : Sort) → j ≡ sort_number b → eqb j 2 ≡ (eqb 2 j || eqb 1 j)
-      go D.topic f = rw f
-      go D.class f = absurd (h (f ∙ sym z))
-      go D.struct f = rw f
-      go D.domain f = rw f
-      go D.unit f = rw f
-
-  pub other-sort : ¬ (j ≡ k) → ¬ (k ≡ 1) → false ≡ may_extend c b
-  other-sort h z = rw (
-    ne_eqb 1 (sort_number c) (λ y. z (e ∙ sym y)),
-    ne_eqb (sort_number c) (sort_number b)
-        (λ y. h (f ∙ sym y ∙ sym e)),
-  )
-
 module _ (c : Sort) (b : G.Reference) (d : Def) (place : ℕ) (q : place ≡ first_place b) where
   of-sort : may_extend c d.sort ≡ false
-      → record { number = 11; place = place } ≡ ruling_of (extends_rules c (some b) (some d))
+      → Err (record { number = 11; place = place }) ≡ ruling_of (extends_rules c (some b) (some d))
   unfolding extends_rules
   of-sort u = rw (q, u)
 
   of-final : may_extend c d.sort ≡ true → d.final ≡ true
-      → record { number = 12; place = place } ≡ ruling_of (extends_rules c (some b) (some d))
+      → Err (record { number = 12; place = place }) ≡ ruling_of (extends_rules c (some b) (some d))
   unfolding extends_rules
   of-final u f = rw (q, u, f)
 
   of-fine : may_extend c d.sort ≡ true → d.final ≡ false
-      → record { number = 0; place = 0 } ≡ ruling_of (extends_rules c (some b) (some d))
+      → Ok tt ≡ ruling_of (extends_rules c (some b) (some d))
   unfolding extends_rules
   of-fine u f = rw (u, f)
 
 module _ (t : List ℕ) (ks : List Def) (x : List ℕ) (count : ℕ) (k : Known t ks x count) (c : Sort) (b : G.Reference)
     (p place : ℕ) (w : p ≤ count) (q : place ≡ first_place b) where
-  pub ruling-none : p ≡ 0 → record { number = 10; place = place } ≡ ruling_of (extends_rules c (some b) (entry ks p))
+  pub ruling-none : p ≡ 0
+      → Err (record { number = 10; place = place }) ≡ ruling_of (extends_rules c (some b) (entry ks p))
   unfolding extends_rules
   ruling-none z = rw (z, q)
 
@@ -125,7 +86,7 @@ module _ (t : List ℕ) (ks : List Def) (x : List ℕ) (count : ℕ) (k : Known 
     behind : (d : Def) × (entry ks p ≡ some d)
     behind = let a = k.all in entry-there ks p (omega arith) (omega arith)
 
-    at : (r : Ruling) → ((d : Def) → Says t d (row definition_width x p) → m ≡ may_extend c d.sort
+    at : (r : Result ⊤ Ruling) → ((d : Def) → Says t d (row definition_width x p) → m ≡ may_extend c d.sort
         → r ≡ ruling_of (extends_rules c (some b) (some d))) → r ≡ ruling_of (extends_rules c (some b) (entry ks p))
     at r h =
         let (d, e) = behind in
@@ -133,46 +94,41 @@ module _ (t : List ℕ) (ks : List Def) (x : List ℕ) (count : ℕ) (k : Known 
         h d y (em d.sort (ef d y)) ∙ ap (λ (o : Option Def). ruling_of (extends_rules c (some b) o)) (sym e)
 
     pub ruling-sort : m ≡ false
-        → record { number = 11; place = place } ≡ ruling_of (extends_rules c (some b) (entry ks p))
-    ruling-sort u = at (record { number = 11; place = place }) (λ d y g. of-sort c b d place q (sym g ∙ u))
+        → Err (record { number = 11; place = place }) ≡ ruling_of (extends_rules c (some b) (entry ks p))
+    ruling-sort u = at (Err (record { number = 11; place = place })) (λ d y g. of-sort c b d place q (sym g ∙ u))
 
     module _ (u : m ≡ true) (v : Bool) (ev : (d : Def) → Says t d (row definition_width x p) → v ≡ d.final) where
-      pub ruling-final : v ≡ true → record { number = 12; place = place }
+      pub ruling-final : v ≡ true → Err (record { number = 12; place = place })
           ≡ ruling_of (extends_rules c (some b) (entry ks p))
-      ruling-final h = at (record { number = 12; place = place })
+      ruling-final h = at (Err (record { number = 12; place = place }))
           (λ d y g. of-final c b d place q (sym g ∙ u) (sym (ev d y) ∙ h))
 
-      pub ruling-fine : v ≡ false → record { number = 0; place = 0 } ≡ ruling_of (extends_rules c (some b) (entry ks p))
-      ruling-fine h = at (record { number = 0; place = 0 })
+      pub ruling-fine : v ≡ false → Ok tt ≡ ruling_of (extends_rules c (some b) (entry ks p))
+      ruling-fine h = at (Ok tt)
           (λ d y g. of-fine c b d place q (sym g ∙ u) (sym (ev d y) ∙ h))
 
--- all have a number
-pub extends-positive : (c : Sort) (b : Option G.Reference) (o : Option Def) → Positive (extends_rules c b o)
-unfolding extends_rules
-extends-positive c b o = (omega arith, (omega arith, (omega arith, tt)))
-
 -- ---- a reference, if there is one
-pub nothing_is : (e : Optional) → e ≡ Nothing → (b : Option G.Reference) → e ≡ optional_of b → b ≡ none
+pub nothing_is : (e : code·Option Reference) → e ≡ None → (b : Option G.Reference) → e ≡ optional_of b → b ≡ none
 nothing_is e p none q = refl
 nothing_is e p (some b) q = let z : ◌≡◌ {A = ℕ} 0 1 = cc in absurd (omega arith)
 
-pub given_is : (e : Optional) (r : Reference) → e ≡ Given r → (b : Option G.Reference) → e ≡ optional_of b
+pub given_is : (e : code·Option Reference) (r : Reference) → e ≡ Some r → (b : Option G.Reference) → e ≡ optional_of b
     → (a : G.Reference) × (b ≡ some a) × (r ≡ reference_of a)
 given_is e r p none q = let z : ◌≡◌ {A = ℕ} 0 1 = cc in absurd (omega arith)
 given_is e r p (some b) q = (b, refl, cc)
 
-pub given_inside : (t : List ℕ) (b : Option G.Reference) (e : Optional) (r : Reference) → e ≡ Given r
+pub given_inside : (t : List ℕ) (b : Option G.Reference) (e : code·Option Reference) (r : Reference) → e ≡ Some r
     → e ≡ optional_of b → AnyIs (FairReference t) b → AllInside t r
 given_inside t b e r p q f =
     let (a, u, i) = given_is e r p b q in
     reference-inside t a r i (subst (AnyIs (FairReference t)) u f)
 
 -- what it leads to
-module _ (s : State) (b : Option G.Reference) (e : Optional) (q : e ≡ optional_of b) where
-  pub leads-nowhere : e ≡ Nothing → none ≡ resolved s b
+module _ (s : State) (b : Option G.Reference) (e : code·Option Reference) (q : e ≡ optional_of b) where
+  pub leads-nowhere : e ≡ None → none ≡ resolved s b
   leads-nowhere p = rw (nothing_is e p b q)
 
-  pub leads-to : (t : List ℕ) (r : Reference) → e ≡ Given r → AnyIs (FairReference t) b → (o : Option Def)
+  pub leads-to : (t : List ℕ) (r : Reference) → e ≡ Some r → AnyIs (FairReference t) b → (o : Option Def)
       → ((a : G.Reference) → r ≡ reference_of a → FairReference t a → o ≡ resolve s a) → o ≡ resolved s b
   leads-to t r p f o ho =
       let (a, u, i) = given_is e r p b q in
@@ -180,13 +136,13 @@ module _ (s : State) (b : Option G.Reference) (e : Optional) (q : e ≡ optional
 
   -- ---- EXTENDS
   module _ (c : Sort) where
-    pub extends-nothing : e ≡ Nothing
-        → record { number = 0; place = 0 } ≡ ruling_of (extends_rules c b (resolved s b))
+    pub extends-nothing : e ≡ None
+        → Ok tt ≡ ruling_of (extends_rules c b (resolved s b))
     unfolding extends_rules
     extends-nothing p = rw (nothing_is e p b q)
 
-    pub extends-base : (r : Reference) → e ≡ Given r → (o : Option Def) → o ≡ resolved s b
-        → (place : ℕ) → ((a : G.Reference) → r ≡ reference_of a → place ≡ first_place a) → (u : Ruling)
+    pub extends-base : (r : Reference) → e ≡ Some r → (o : Option Def) → o ≡ resolved s b
+        → (place : ℕ) → ((a : G.Reference) → r ≡ reference_of a → place ≡ first_place a) → (u : Result ⊤ Ruling)
         → ((a : G.Reference) → place ≡ first_place a → u ≡ ruling_of (extends_rules c (some a) o))
         → u ≡ ruling_of (extends_rules c b (resolved s b))
     extends-base r p o ho place hp u hu =
@@ -196,27 +152,8 @@ module _ (s : State) (b : Option G.Reference) (e : Optional) (q : e ≡ optional
 
 -- ---- the base's record number
 module _ (t : List ℕ) (ks : List Def) (x : List ℕ) (count : ℕ) (k : Known t ks x count) (p : ℕ) (w : p ≤ count) where
-  pub number-none : p ≡ 0 → no_base ≡ base_number (bases_of (entry ks p))
-  number-none z = rw z
-
   pub number-some : ¬ (p ≡ 0) → (m : ℕ) → ((d : Def) → Says t d (row definition_width x p) → m ≡ d.number)
       → m ≡ base_number (bases_of (entry ks p))
   number-some z m em =
       let a = k.all in
       let (d, e) = entry-there ks p (omega arith) (omega arith) in rw e (em d (k.says p d e))
-
--- ---- properties
-module _ (l : List (List ℕ)) (p : Properties) (e : p ≡ flags_of l) (r : Bool) where
-  mixed : r ≡ (p.twice || (p.is_abstract && p.is_final)) → r ≡ (has_twice l || (has_abstract l && has_final l))
-  mixed h = subst (λ (q : Properties). r ≡ (q.twice || (q.is_abstract && q.is_final))) e h
-
-  pub mixed-twice : p.twice ≡ true → r ≡ true → r ≡ (has_twice l || (has_abstract l && has_final l))
-  mixed-twice h g = mixed (rw (h, g))
-
-  pub mixed-abstract : p.twice ≡ false → p.is_abstract ≡ true → r ≡ p.is_final
-      → r ≡ (has_twice l || (has_abstract l && has_final l))
-  mixed-abstract h a g = mixed (rw (h, a) g)
-
-  pub mixed-other : p.twice ≡ false → p.is_abstract ≡ false → r ≡ false
-      → r ≡ (has_twice l || (has_abstract l && has_final l))
-  mixed-other h a g = mixed (rw (h, a) g)

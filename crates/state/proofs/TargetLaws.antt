@@ -7,32 +7,30 @@ use mathlib.Core.List.{List, [], ◌∷◌}
 use Prim.Native.Nat.{ℕ, ◌≤◌, ◌<◌}
 use native.Mathlib.Omega.{arith}
 use lib.Dec.{eqb, ltb}
-use borrow.Author.Tests.{eq-eqb, ne_eqb, eqb-true, eqb-false, lt-ltb, le-ltb}
 use types.Run.{OneOf}
 use denote.Enum.Declared.{tag_of}
+use Rattle.std.specs.Prelude.{⊤, Result, Ok, Err, Option as code·Option, Some, None}
 use Rattle.rules.specs.Grammar as G
 use Rattle.rules.specs.Grammar.{WrittenType}
 use Rattle.rules.specs.Declarations as D
 use Rattle.rules.specs.Declarations.{Def, Sort, sort_number, is_found}
 use Rattle.rules.specs.Units.{is_given}
-use Rattle.rules.specs.Judge.{rule, first_place, place_of, or_no_def, reference_in, is_naming, may_extend, may_type}
+use Rattle.rules.specs.Judge.{Rule, rule, first_place, place_of, or_no_def, reference_in, is_naming, may_extend}
+use Rattle.rules.specs.Judge.{may_type}
 use Rattle.rules.specs.Judge.{may_stand_in}
 use Rattle.rules.specs.Judge.{extends_rules}
 use Rattle.rules.specs.All.{AnyIs}
 use Rattle.ground.specs.declared.Reference.{Reference}
 use Rattle.ground.specs.declared.Ruling.{Ruling}
 use Rattle.ground.specs.Rulings.{ruling_of}
-use Rattle.ground.proofs.RulingLaws.{Positive}
 use Rattle.names.specs.Index.{entry, row, Says, Known, definition_width}
 use Rattle.names.proofs.BaseLaws.{entry-there}
-use Rattle.parts.specs.declared.Optional.{Optional}
-use Rattle.parts.specs.declared.Optional.TheVariants.{Nothing, Given}
 use Rattle.parts.specs.declared.types.Meant.{Meant}
 use Rattle.parts.specs.declared.types.Meant.TheVariants.{Named}
 use Rattle.parts.specs.contracts.types.Meant.{the_type as Meant·the-type}
 use Rattle.parts.specs.Forms.{reference_of, optional_of, any_of}
 use Rattle.wellformed.specs.Fairness.{FairReference, FairType}
-use Rattle.state.specs.Targets.{target_rules, among_rules, earlier_of}
+use Rattle.state.specs.Targets.{Ruled, target_rules, among_rules, earlier_of}
 use Rattle.state.proofs.SharedLaws.{nothing_is, given_is}
 
 -- ---- the reference in a type that is fair
@@ -51,13 +49,6 @@ may-domain k D.class e h = absurd (omega arith)
 may-domain k D.struct e h = refl
 may-domain k D.domain e h = refl
 may-domain k D.unit e h = absurd (omega arith)
-
-may-other : (k : ℕ) (d : Sort) → k ≡ sort_number d → ¬ (k ≡ 3) → eqb k 2 ≡ may_type d
-may-other k D.topic e h = rw e
-may-other k D.class e h = rw e
-may-other k D.struct e h = rw e
-may-other k D.domain e h = absurd (h e)
-may-other k D.unit e h = rw e
 
 -- a definition is named
 naming-is : (m : Meant) → m ≡ Named → (w : Option WrittenType) → m ≡ any_of w → is_naming w ≡ true
@@ -89,9 +80,6 @@ module _ (m : Meant) (w : Option WrittenType) (h : m ≡ any_of w) (k : ℕ) (d 
   pub stands-domain : m ≡ Named → k ≡ 3 → true ≡ may_stand_in w d
   stands-domain q z = rw (naming-is m q w h) (may-domain k d e z)
 
-  pub stands-structure : m ≡ Named → ¬ (k ≡ 3) → eqb k 2 ≡ may_stand_in w d
-  stands-structure q z = rw (naming-is m q w h) (may-other k d e z)
-
   pub stands_unit : OneOf (0 ∷ 1 ∷ 2 ∷ 3 ∷ 4 ∷ 5 ∷ []) (tag_of Meant·the-type m) → eqb k 4 ≡ may_stand_in w d
   stands_unit o = rw (naming-not m o w h) (go d e)
     where
@@ -103,16 +91,10 @@ module _ (m : Meant) (w : Option WrittenType) (h : m ≡ any_of w) (k : ℕ) (d 
       go D.unit e = rw e
 
 -- ---- 10 and 11
-module _ (ks : List Def) (p : ℕ) (w : Option WrittenType) (e : Optional) (h : e ≡ optional_of (reference_in w)) where
-  pub no-reference : e ≡ Nothing → (reference_in w ≡ none → entry ks p ≡ none)
-      → record { number = 0; place = 0 } ≡ ruling_of (target_rules w (entry ks p))
-  no-reference q g = let u = nothing_is e q (reference_in w) h in rw (u, g u)
-
-  module _ (r : Reference) (q : e ≡ Given r) (f : ℕ) (ef : (b : G.Reference) → r ≡ reference_of b → f ≡ first_place b)
+module _ (ks : List Def) (p : ℕ) (w : Option WrittenType) (e : code·Option Reference)
+    (h : e ≡ optional_of (reference_in w)) where
+  module _ (r : Reference) (q : e ≡ Some r) (f : ℕ) (ef : (b : G.Reference) → r ≡ reference_of b → f ≡ first_place b)
     where
-      pub target_none : p ≡ 0 → record { number = 10; place = f } ≡ ruling_of (target_rules w (entry ks p))
-      target_none z = let (b, u, i) = given_is e r q (reference_in w) h in rw (u, z, ef b i)
-
       module _ (t x : List ℕ) (count : ℕ) (k : Known t ks x count) (v : p ≤ count) (z : ¬ (p ≡ 0)) (s : ℕ)
           (es : (d : Def) → Says t d (row definition_width x p) → s ≡ sort_number d.sort)
           (b : Bool) (eb : (d : Sort) → s ≡ sort_number d → b ≡ may_stand_in w d) where
@@ -122,54 +104,21 @@ module _ (ks : List Def) (p : ℕ) (w : Option WrittenType) (e : Optional) (h : 
             let (d, q) = entry-there ks p (omega arith) (omega arith) in
             (d, q, eb d.sort (es d (k.says p d q)))
 
-        pub target_fits : b ≡ true → record { number = 0; place = 0 } ≡ ruling_of (target_rules w (entry ks p))
+        pub target_fits : b ≡ true → Ok tt ≡ ruling_of (target_rules w (entry ks p))
         target_fits y =
             let (d, i, g) = it in
             let (a, u, j) = given_is e r q (reference_in w) h in
             let l : may_stand_in w d.sort ≡ true = sym g ∙ y in
             rw (u, i, l)
 
-        pub target-wrong : b ≡ false → record { number = 11; place = f } ≡ ruling_of (target_rules w (entry ks p))
+        pub target-wrong : b ≡ false → Err (record { number = 11; place = f }) ≡ ruling_of (target_rules w (entry ks p))
         target-wrong y =
             let (d, i, g) = it in
             let (a, u, j) = given_is e r q (reference_in w) h in
             let l : may_stand_in w d.sort ≡ false = sym g ∙ y in
             rw (u, i, l, ef a j)
 
--- all have a number
-pub target-positive : (w : Option WrittenType) (o : Option Def) → Positive (target_rules w o)
-target-positive w o = (omega arith, (omega arith, tt))
-
-pub among-positive : (c : Sort) (b : Option G.Reference) (o : Option Def) (w : Option WrittenType) (g : Option Def)
-    → Positive (among_rules c b o w g)
-among-positive c b o w g = (omega arith, (omega arith, (omega arith, (omega arith, (omega arith, tt)))))
-
--- ---- the earlier of two rulings
-module _ (a b : Ruling) where
-  pub earlier-first : b.number ≡ 0 → a ≡ earlier_of a b
-  earlier-first e = rw (eq-eqb b.number 0 e)
-
-  pub earlier-second : ¬ (b.number ≡ 0) → a.number ≡ 0 → b ≡ earlier_of a b
-  earlier-second e f = rw (ne_eqb b.number 0 e, eq-eqb a.number 0 f)
-
-  module _ (e : ¬ (b.number ≡ 0)) (f : ¬ (a.number ≡ 0)) where
-    pub earlier-less : b.number < a.number → b ≡ earlier_of a b
-    earlier-less h = rw (ne_eqb b.number 0 e, ne_eqb a.number 0 f, lt-ltb b.number a.number h)
-
-    pub earlier_more : a.number ≤ b.number → a ≡ earlier_of a b
-    earlier_more h = rw (ne_eqb b.number 0 e, ne_eqb a.number 0 f, le-ltb b.number a.number h)
-
-  -- none is broken in either
-  pub earlier-off : (earlier_of a b).number ≡ 0 → (a.number ≡ 0) × (b.number ≡ 0)
-  earlier-off h = go (eqb b.number 0) refl (eqb a.number 0) refl (ltb b.number a.number) h
-    where
-      go : (v : Bool) → eqb b.number 0 ≡ v → (w : Bool) → eqb a.number 0 ≡ w → (l : Bool)
-          → (cond v a (cond w b (cond l b a))).number ≡ 0 → (a.number ≡ 0) × (b.number ≡ 0)
-      go true v w u l i = (i, eqb-true b.number 0 v)
-      go false v true u l i = absurd (eqb-false b.number 0 v i)
-      go false v false u true i = absurd (eqb-false b.number 0 v i)
-      go false v false u false i = absurd (eqb-false a.number 0 u i)
-
+-- ---- rules that are judged in two lists
 -- the first that is broken of rules at p and rules at q
 pub earlier-among : (c : Sort) (b : Option G.Reference) (o : Option Def) (w : Option WrittenType) (g : Option Def)
     → earlier_of (ruling_of (extends_rules c b o)) (ruling_of (target_rules w g)) ≡ ruling_of (among_rules c b o w g)
@@ -196,3 +145,30 @@ earlier-among c b o w g =
     go p q false false false true false = refl
     go p q false false false false true = refl
     go p q false false false false false = refl
+
+-- the value is that of the first list, where none of both is broken
+pub earlier-ruled : {A : Type 0} (r : Result A Ruling) (q : Result ⊤ Ruling) (l m n : List Rule) (P : A → Type 0)
+    → Ruled r l P → q ≡ ruling_of m → earlier_of (ruling_of l) (ruling_of m) ≡ ruling_of n
+    → Ruled (earlier_of r q) n P
+earlier-ruled (Ok x) (Ok y) l m n P h e g = (sym (rw (h.0, ← e) at g), h.1)
+earlier-ruled (Ok x) (Err b) l m n P h e g = sym (rw (h.0, ← e) at g)
+earlier-ruled (Err a) (Ok y) l m n P h e g = sym (rw (h, ← e) at g)
+earlier-ruled {A} (Err a) (Err b) l m n P h e g = go (ltb b.number a.number) (rw (h, ← e) at g)
+  where
+    go : (v : Bool) → cond v (Err b) (Err a) ≡ ruling_of n
+        → Ruled {A = A} (cond v (Err b) (Err a)) n P
+    go true f = sym f
+    go false f = sym f
+
+-- none is broken in either
+pub earlier-off : {A : Type 0} (a : Result A Ruling) (b : Result ⊤ Ruling) (x : A) → earlier_of a b ≡ Ok x
+    → (a ≡ Ok x) × (b ≡ Ok tt)
+earlier-off (Ok x) (Ok y) z e = (e, refl)
+earlier-off (Ok x) (Err b) z e = absurd (cc)
+earlier-off (Err a) (Ok y) z e = absurd (cc)
+earlier-off {A} (Err a) (Err b) z e = go (ltb b.number a.number) e
+  where
+    go : (v : Bool) → ◌≡◌ {A = Result A Ruling} (cond v (Err b) (Err a)) (Ok z)
+        → (◌≡◌ {A = Result A Ruling} (Err a) (Ok z)) × (◌≡◌ {A = Result ⊤ Ruling} (Err b) (Ok tt))
+    go true f = absurd (cc)
+    go false f = absurd (cc)

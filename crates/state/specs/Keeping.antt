@@ -1,5 +1,5 @@
 -- What the code holds of a state between units: the book, the index of definitions, the attributes and the open class.
-use Rattle.std.specs.Prelude.{◌≡◌, List, ℕ, ◌+◌, ◌*◌, ◌≤◌, length, take}
+use Rattle.std.specs.Prelude.{◌≡◌, List, ℕ, ◌+◌, ◌*◌, ◌≤◌, length, take, Result, Ok, Err}
 use Rattle.std.proofs.Math.Option.{Option, none, some}
 use Rattle.rules.specs.Names as R
 use Rattle.rules.specs.Units as U
@@ -9,6 +9,7 @@ use Rattle.rules.specs.Judge as J
 use Rattle.rules.specs.Judge.{judge}
 use Rattle.rules.specs.Check.{unit_place, lent, room}
 use Rattle.ground.specs.declared.Name.{Name}
+use Rattle.ground.specs.declared.Ruling.{Ruling}
 use Rattle.names.specs.Index.{entry, row, definition_width}
 use Rattle.names.specs.Chains.{Chains}
 use Rattle.names.specs.References.{name_of, Inside}
@@ -18,9 +19,7 @@ use Rattle.units.specs.declared.Unit.{Unit}
 use Rattle.units.specs.Steps.{Is}
 use Rattle.wellformed.specs.Fairness.{FairUnit, FairState, MayStand}
 use Rattle.state.specs.declared.State as code
-use Rattle.state.specs.Parts.{index_in, chains_in, rows_in}
-use Rattle.state.specs.declared.Judged as code-judged
-use Rattle.state.specs.declared.Judged.TheVariants.{Fine, Refused}
+use Rattle.state.specs.declared.desk.Desk.{Desk}
 use Rattle.book.specs.Sizes.{topic_size, head_size}
 
 -- m is the name n of the text
@@ -72,15 +71,11 @@ pub record Small (st : code.State) : Type 0 where
   pub home : st.context.home ≤ st.extent.records
   pub rows : topic_size * st.listing.count + head_size * st.listing.total ≤ st.extent.used
 
--- the parts of `work` stay where they lie
-abbrev pub PartsStay : code.State → code.State → Type 0
-PartsStay st st' = st'.listing.layout ≡ st.listing.layout
-
 -- the answer of judging, and what the code then holds
-abbrev pub JudgedAs : List ℕ → J.Judged → code.State → code-judged.Judged → List ℕ → List ℕ
-    → List ℕ → List ℕ → List ℕ → Type 0
-JudgedAs t (J.ok s) st r o x z y hs = (st' : code.State) × (r ≡ Fine st') × Keeps t s st' o x z y hs × PartsStay st st'
-JudgedAs t (J.refused n p) st r o x z y hs = r ≡ Refused n p
+abbrev pub JudgedAs : List ℕ → J.Judged → Result code.State Ruling → List ℕ → List ℕ → List ℕ → List ℕ → List ℕ
+    → Type 0
+JudgedAs t (J.ok s) r o x z y hs = (st : code.State) × (r ≡ Ok st) × Keeps t s st o x z y hs
+JudgedAs t (J.refused n p) r o x z y hs = r ≡ Err (record { number = n; place = p })
 
 -- the unit v, read as u with its enumeration's records in the scratch rs, comes in the state s
 pub record Comes (t : List ℕ) (s : State) (v : U.Unit) (u : Unit) (rs : List ℕ) : Type 0 where
@@ -93,13 +88,12 @@ pub record Comes (t : List ℕ) (s : State) (v : U.Unit) (u : Unit) (rs : List �
 abbrev pub verdict : State → U.Unit → List ℕ → J.Judged
 verdict s v o = room (lent (length o)) (unit_place v) (judge s v)
 
--- ---- the same with all rows and chains in the one slice w
-abbrev pub Kept : List ℕ → State → code.State → List ℕ → List ℕ → List ℕ → Type 0
-Kept t s st o w hs =
-    let l = st.listing.layout in
-    Keeps t s st o (index_in l w) (chains_in l w) (rows_in l w) hs
+-- ---- the same of a desk, whose book may have other bytes o
+abbrev pub KeptIn : Desk → List ℕ → State → code.State → Type 0
+KeptIn d o s st = Keeps d.text.now s st o d.index.now d.chains.now d.rows.now d.hand.now
 
-abbrev pub Answered : List ℕ → J.Judged → code.State → code-judged.Judged → List ℕ → List ℕ → List ℕ → Type 0
-Answered t j st r o w hs =
-    let l = st.listing.layout in
-    JudgedAs t j st r o (index_in l w) (chains_in l w) (rows_in l w) hs
+abbrev pub Kept : Desk → State → code.State → Type 0
+Kept d s st = KeptIn d d.book.now s st
+
+abbrev pub Answered : Desk → J.Judged → Result code.State Ruling → Type 0
+Answered d j r = JudgedAs d.text.now j r d.book.now d.index.now d.chains.now d.rows.now d.hand.now

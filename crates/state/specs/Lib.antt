@@ -1,4 +1,4 @@
-pub mod Parts
+pub mod Desks
 pub mod Keeping
 pub mod Next
 pub mod Targets

@@ -13,11 +13,11 @@ longer e b r d = record { used = e.used + b; records = e.records + r; definition
 
 -- a definition of the index more
 abbrev pub one_definition : Listing → Listing
-one_definition l = record { count = l.count + 1; total = l.total; layout = l.layout }
+one_definition l = record { count = l.count + 1; total = l.total }
 
 -- an attribute more
 abbrev pub one_attribute : Listing → Listing
-one_attribute l = record { count = l.count; total = l.total + 1; layout = l.layout }
+one_attribute l = record { count = l.count; total = l.total + 1 }
 
 abbrev pub grown_by : State → ℕ → ℕ → ℕ → State
 grown_by st b r d = record { extent = longer st.extent b r d; listing = st.listing; context = st.context }

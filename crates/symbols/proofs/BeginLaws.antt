@@ -24,8 +24,10 @@ use Rattle.symbols.specs.Cut.{made, cut_on, next_of}
 use Rattle.symbols.specs.declared.Class.TheVariants.{Letter, Digit, Sign, Quote, Comment, Punctuation, Blank}
 use Rattle.symbols.specs.declared.Class.TheVariants.{LineEnd, Other}
 use Rattle.symbols.specs.declared.Class.{Class}
-use Rattle.scans.specs.declared.Pass.{Pass}
-use Rattle.scans.specs.declared.Pass.TheVariants.{To, Open, None}
+use Rattle.std.specs.Prelude.{Result, Ok, Err}
+use Rattle.scans.specs.declared.Passed.{Passed}
+use Rattle.scans.specs.declared.NoComment.{NoComment}
+use Rattle.scans.specs.declared.NoComment.TheVariants.{Open, Absent}
 use Rattle.ground.specs.Parts.{run_end}
 use Rattle.scans.specs.Scans.{is_blank, comment_at}
 use Rattle.symbols.specs.Begins.{class_of, word_cut, signed_cut, string_cut, mark_cut}
@@ -243,24 +245,26 @@ module _ (t : List ℕ) (i : ℕ) (x : Line) (h : i < length t) (l : get_or t i 
       at : is_separator b ≡ true → symbol_at t i ≡ symbol_at t (i + 1)
       at p = ap (beyond t) (gap-one t i x h p)
 
-  symbol-behind : (p : Pass) → class_of b ≡ Comment → comment_at t i x ≡ p → symbol_at t i ≡ beyond t (onward t i p)
+  symbol-behind : (r : Result Passed NoComment) → class_of b ≡ Comment → comment_at t i x ≡ r
+      → symbol_at t i ≡ beyond t (onward t i r)
   unfolding symbol_at
-  symbol-behind p c e =
+  symbol-behind r c e =
       let s = not_is (split {x = not (is_separator b)} (class-first b Comment l c)).0 in
       ap (beyond t) (gap-comment t i x h s ∙ ap (onward t i) e)
 
-  pub next-passed : (j : ℕ) (y : Line) → class_of b ≡ Comment → comment_at t i x ≡ To j y
-      → next t i x ≡ next_of t (record { at = j; line = y })
+  pub next-passed : (p : Passed) → class_of b ≡ Comment → comment_at t i x ≡ Ok p
+      → next t i x ≡ next_of t (record { at = p.end; line = p.line })
   unfolding symbol_at
-  next-passed j y c e =
-      let (a, k, v) = comment-ahead t i j x y h e in
-      passed_to t i x j y (omega arith) k v at
+  next-passed p c e =
+      let (a, k, v) = comment-ahead t i x p h e in
+      passed_to t i x p.end p.line (omega arith) k v at
     where
-      at : symbol_at t i ≡ symbol_at t j
-      at = symbol-behind (To j y) c e
+      at : symbol_at t i ≡ symbol_at t p.end
+      at = symbol-behind (Ok p) c e
 
-  pub next-open : class_of b ≡ Comment → comment_at t i x ≡ Open → next t i x ≡ made 5 3 i 0 x
-  next-open c e = begins-here t i x (symbol (fault unclosed) i []) (symbol-behind Open c e) refl
+  pub next-open : class_of b ≡ Comment → comment_at t i x ≡ Err Open → next t i x ≡ made 5 3 i 0 x
+  next-open c e = begins-here t i x (symbol (fault unclosed) i []) (symbol-behind (Err Open) c e) refl
 
-  pub next-slash : class_of b ≡ Comment → comment_at t i x ≡ None → next t i x ≡ made 5 2 i 0 x
-  next-slash c e = none-on (symbol-behind None c e) (split {x = not (is_separator b)} (class-first b Comment l c)).1
+  pub next-slash : class_of b ≡ Comment → comment_at t i x ≡ Err Absent → next t i x ≡ made 5 2 i 0 x
+  next-slash c e =
+      none-on (symbol-behind (Err Absent) c e) (split {x = not (is_separator b)} (class-first b Comment l c)).1

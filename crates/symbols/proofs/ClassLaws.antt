@@ -1,79 +1,17 @@
 -- What a byte's class says of it.
-use mathlib.Core.Path.{◌≡◌, refl, sym, ap, ◌∙◌}
-use mathlib.Core.Bool.{Bool, true, false, cond, not, ◌&&◌, ◌||◌}
-use mathlib.Core.Logic.{◌⊎◌, inl, inr}
-use mathlib.Core.List.{List, [], ◌∷◌}
-use Prim.Native.Nat.{ℕ, ◌+◌, ◌≤◌, ◌<◌}
+use mathlib.Core.Path.{◌≡◌, refl}
+use mathlib.Core.Bool.{Bool, true, false, not, ◌&&◌, ◌||◌}
+use Prim.Native.Nat.{ℕ, ◌<◌}
 use native.Mathlib.Omega.{arith}
-use lib.Dec.{eqb}
-use borrow.Author.Tests.{eqb-true}
-use types.Run.{OneOf}
 use Rattle.rules.specs.Bytes.{is, is_letter, is_digit, is_line_end, is_separator}
 use Rattle.rules.specs.Symbols.{is_mark_byte}
-use Rattle.rules.proofs.Tests.{split, or-fails, not_is}
+use Rattle.rules.proofs.Tests.{or-fails, not_is}
 use Rattle.symbols.specs.declared.Class.{Class}
 use Rattle.symbols.specs.declared.Class.TheVariants.{Letter, Digit, Sign, Quote, Comment, Punctuation, Blank}
 use Rattle.symbols.specs.declared.Class.TheVariants.{LineEnd, Other}
 use Rattle.scans.specs.Scans.{is_blank}
 use Rattle.symbols.specs.Begins.{class_of}
-use Rattle.ground.proofs.TableLaws.{every, on, Beside, is_key_of, beside}
-
--- ---- classes as numbers
-abbrev pub rank : Class → ℕ
-rank Letter = 0
-rank Digit = 1
-rank Sign = 2
-rank Quote = 3
-rank Comment = 4
-rank Punctuation = 5
-rank Blank = 6
-rank LineEnd = 7
-rank Other = 8
-
-abbrev ranked : ℕ → Class
-ranked n = cond (eqb n 0) Letter (cond (eqb n 1) Digit (cond (eqb n 2) Sign
-    (cond (eqb n 3) Quote (cond (eqb n 4) Comment (cond (eqb n 5) Punctuation (cond (eqb n 6) Blank
-    (cond (eqb n 7) LineEnd Other)))))))
-
-ranked-rank : (k : Class) → ranked (rank k) ≡ k
-ranked-rank Letter = refl
-ranked-rank Digit = refl
-ranked-rank Sign = refl
-ranked-rank Quote = refl
-ranked-rank Comment = refl
-ranked-rank Punctuation = refl
-ranked-rank Blank = refl
-ranked-rank LineEnd = refl
-ranked-rank Other = refl
-
-same_rank : (k : Class) (b : ℕ) → eqb (rank k) (rank (class_of b)) ≡ true → k ≡ class_of b
-same_rank k b p = sym (ranked-rank k) ∙ ap ranked (eqb-true (rank k) (rank (class_of b)) p) ∙ ranked-rank (class_of b)
-
-abbrev pub has : List (List ℕ) → Class → ℕ → Bool
-has l k b = is_key_of b l || eqb (rank k) (rank (class_of b))
-
--- the bytes of a range that are no keys have one class
-pub class-is : (l : List (List ℕ)) (k : Class) (lo n : ℕ) → every (has l k) lo n ≡ true → (b : ℕ) → Beside l b
-    → lo ≤ b → b < lo + n → k ≡ class_of b
-class-is l k lo n t b r h j =
-    let p : has l k b ≡ true = on (has l k) lo n t b h j in
-    same_rank k b (rw (beside b l r) at p)
-
-abbrev pub keys_have : Class → List ℕ → Bool
-keys_have k [] = true
-keys_have k (x ∷ ks) = let r = keys_have k ks in eqb (rank k) (rank (class_of x)) && r
-
--- and so have the keys of an arm
-pub class-key : (k : Class) (ks : List ℕ) (b : ℕ) → keys_have k ks ≡ true → OneOf ks b → k ≡ class_of b
-class-key k [] b t o = absurd o
-class-key k (x ∷ []) b t o = rw o (same_rank k x (split {x = eqb (rank k) (rank (class_of x))} t).0)
-class-key k (x ∷ y ∷ ks) b t o = at (split {x = eqb (rank k) (rank (class_of x))} t) o
-    (λ u v. class-key k (y ∷ ks) b u v)
-  where
-    at : (eqb (rank k) (rank (class_of x)) ≡ true) × (keys_have k (y ∷ ks) ≡ true) → (b ≡ x) ⊎ OneOf (y ∷ ks) b
-        → (keys_have k (y ∷ ks) ≡ true → OneOf (y ∷ ks) b → k ≡ class_of b) → k ≡ class_of b
-    at s (inl e) go = rw e (same_rank k x s.0)
-    at s (inr r) go = go s.1 r
+use Rattle.ground.proofs.TableLaws.{on}
 
 -- ---- what begins with a byte
 abbrev pub begins : ℕ → Bool

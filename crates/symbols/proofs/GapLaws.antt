@@ -19,18 +19,20 @@ use Rattle.places.specs.declared.Line.{Line}
 use Rattle.places.specs.Standing.{behind_byte, line_to}
 use Rattle.places.proofs.StandingLaws.{to-go, to-over}
 use Rattle.places.proofs.LevelLaws.{Level, level-run, level-two, to_level}
-use Rattle.scans.specs.declared.Pass.{Pass}
-use Rattle.scans.specs.declared.Pass.TheVariants.{To, Open, None}
-use Rattle.scans.specs.Scans.{not_line_end, two_at, close_of, comment_at}
+use Rattle.std.specs.Prelude.{Result, Ok, Err}
+use Rattle.scans.specs.declared.Passed.{Passed}
+use Rattle.scans.specs.declared.NoComment.{NoComment}
+use Rattle.scans.specs.declared.NoComment.TheVariants.{Open, Absent}
+use Rattle.scans.specs.Scans.{not_line_end, two_at, close_of, comment_at, passed_to}
 use Rattle.ground.proofs.TableLaws.{test, second}
 use Rattle.ground.proofs.ScanLaws.{drop-tail, next-byte, run-le}
 use Rattle.scans.proofs.EscapeLaws.{stands}
 
 -- what is left to pass behind a comment that began at o
-abbrev pub onward : List ℕ → ℕ → Pass → Gap
-onward t o (To j x) = gap (drop j t) apart j
-onward t o Open = open_at o
-onward t o None = up_to o
+abbrev pub onward : List ℕ → ℕ → Result Passed NoComment → Gap
+onward t o (Ok p) = gap (drop p.end t) apart p.end
+onward t o (Err Open) = open_at o
+onward t o (Err Absent) = up_to o
 
 -- the bytes of a test that only separators pass
 pub gap-run : (p : ℕ → Bool) → ((b : ℕ) → p b ≡ true → is_separator b ≡ true) → (t s : List ℕ) (k : ℕ) → drop k t ≡ s
@@ -96,27 +98,25 @@ module _ (t : List ℕ) (i : ℕ) (x : Line) (h : i < length t) where
 
 -- ---- a comment runs forward within the text, and counts its line ends
 module _ (t : List ℕ) where
-  abbrev Ahead : ℕ → Line → Pass → Type 0
-  Ahead i x (To j y) = (i < j) × (j ≤ length t) × (y ≡ line_to t i j x)
-  Ahead i x Open = Unit {0}
-  Ahead i x None = Unit {0}
+  abbrev Ahead : ℕ → Line → Result Passed NoComment → Type 0
+  Ahead i x (Ok p) = (i < p.end) × (p.end ≤ length t) × (p.line ≡ line_to t i p.end x)
+  Ahead i x (Err e) = Unit {0}
 
-  after_one : (k : ℕ) (x : Line) (p : Pass) → Ahead (suc k) (behind_byte t k x) p → Ahead k x p
-  after_one k x (To j y) (h, l, e) = (omega arith, l, e ∙ sym (to-go t k j x (omega arith)))
-  after_one k x Open h = tt
-  after_one k x None h = tt
+  after_one : (k : ℕ) (x : Line) (r : Result Passed NoComment) → Ahead (suc k) (behind_byte t k x) r → Ahead k x r
+  after_one k x (Ok p) (h, l, e) = (omega arith, l, e ∙ sym (to-go t k p.end x (omega arith)))
+  after_one k x (Err e) h = tt
 
   over-two : (k : ℕ) (x : Line) → Level (take 2 (drop k t)) → line_to t k (k + 2) x ≡ x
   over-two k x v = let n : k + 2 - k ≡ 2 = omega arith in to_level t k (k + 2) x (rw n v)
 
-  after_two : (k : ℕ) (x : Line) (p : Pass) → Level (take 2 (drop k t)) → Ahead (k + 2) x p → Ahead k x p
-  after_two k x (To j y) v (h, l, e) = (
+  after_two : (k : ℕ) (x : Line) (r : Result Passed NoComment) → Level (take 2 (drop k t)) → Ahead (k + 2) x r
+      → Ahead k x r
+  after_two k x (Ok p) v (h, l, e) = (
     omega arith,
     l,
-    e ∙ sym (to-over t k (k + 2) j x (omega arith) (omega arith) ∙ ap (line_to t (k + 2) j) (over-two k x v)),
+    e ∙ sym (to-over t k (k + 2) p.end x (omega arith) (omega arith) ∙ ap (line_to t (k + 2) p.end) (over-two k x v)),
   )
-  after_two k x Open v h = tt
-  after_two k x None v h = tt
+  after_two k x (Err e) v h = tt
 
   close-ahead : (s : List ℕ) (k : ℕ) (x : Line) → drop k t ≡ s → Ahead k x (close_of t s k x)
   close-ahead [] k x e = tt
@@ -125,7 +125,7 @@ module _ (t : List ℕ) where
       (λ _. after_one k x (close_of t s (suc k) (behind_byte t k x))
       (close-ahead s (suc k) (behind_byte t k x) (drop-tail t k e)))
     where
-      stop : (is "*" b && is "/" (get_or s 0 0)) ≡ true → Ahead k x (To (suc (suc k)) x)
+      stop : (is "*" b && is "/" (get_or s 0 0)) ≡ true → Ahead k x (passed_to (suc (suc k)) x)
       stop p =
           let (u, v) = split {x = is "*" b} p in
           let f : b ≡ 42 = eqb-true _ _ u in
@@ -137,7 +137,7 @@ module _ (t : List ℕ) where
           (omega arith, omega arith, sym (ap (λ j. line_to t k j x) n ∙ over-two k x m))
 
   line-ahead : (i : ℕ) (x : Line) → i < length t → two_at t i 33 33 ≡ true
-      → Ahead i x (To (run_end not_line_end t (i + 1)) x)
+      → Ahead i x (passed_to (run_end not_line_end t (i + 1)) x)
   line-ahead i x h p =
       let f : get_or t i 0 ≡ 33 = eqb-true _ _ (split {x = eqb (get_or t i 0) 33} p).0 in
       let n : i + 1 + span not_line_end (drop (i + 1) t) - i ≡ suc (span not_line_end (drop (i + 1) t)) = omega arith in
@@ -164,6 +164,6 @@ module _ (t : List ℕ) where
           level-two (drop i t) (rw (get_or-drop i t 0 0, z, f)) (rw (get_or-drop i t 1 0, g)) in
           after_two i x (close_of t (drop (i + 2) t) (i + 2) x) m (close-ahead (drop (i + 2) t) (i + 2) x refl)
 
-  pub comment-ahead : (i j : ℕ) (x y : Line) → i < length t → comment_at t i x ≡ To j y
-      → (i < j) × (j ≤ length t) × (y ≡ line_to t i j x)
-  comment-ahead i j x y h e = rw e at (ahead i x h)
+  pub comment-ahead : (i : ℕ) (x : Line) (p : Passed) → i < length t → comment_at t i x ≡ Ok p
+      → (i < p.end) × (p.end ≤ length t) × (p.line ≡ line_to t i p.end x)
+  comment-ahead i x p h e = rw e at (ahead i x h)

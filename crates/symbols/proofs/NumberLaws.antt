@@ -125,6 +125,3 @@ module _ (t : List ℕ) (at sign : ℕ) where
         (λ d.
         let x : f ≡ e = q ∙ rw d in
         absurd (omega arith))
-
-pub no_digit : (t : List ℕ) (i : ℕ) → i < length t → is_digit (get_or t i 0) ≡ false → digit_count (part t i 1) ≡ 0
-no_digit t i h e = rw (drop-cons t i 0 h, e)

@@ -8,7 +8,7 @@ ghost use Rattle.symbols.specs.Cut.{made, faulty_as, length_at, position_at, sta
 ghost use Rattle.symbols.specs.Begins.{class_of, word_cut, number_cut, unsigned_cut, signed_cut, string_cut, mark_cut};
 
 use places::{Line, Position};
-use scans::Pass;
+use scans::NoComment;
 
 // A place in the text, from which on the next symbol is cut, and the line that it stands on.
 #[derive(Clone, Copy)]
@@ -49,12 +49,12 @@ fn make(code: u32, refusal: u32, place: usize, len: usize, line: Line) -> Symbol
     ensures { result ≡ made code refusal place len line }
 {
     Symbol {
-        code: code,
-        refusal: refusal,
-        place: place,
+        code,
+        refusal,
+        place,
         next: Cursor {
             at: place + len,
-            line: line,
+            line,
         },
     }
 }
@@ -84,10 +84,7 @@ pub fn faulty(number: u32, y: Symbol) -> Symbol
 pub fn length_of(y: Symbol) -> usize
     ensures { result ≡ length_at y }
 {
-    if y.place < y.next.at {
-        return y.next.at - y.place;
-    }
-    0
+    y.next.at.saturating_sub(y.place)
 }
 
 // The line and the column of a symbol.
@@ -98,13 +95,7 @@ pub fn position_of(y: Symbol) -> Position
 }
 
 // ---- bytes
-// A byte as a code.
-fn code_of(b: u8) -> u32
-    ensures { result ≡ b }
-{
-    b as u32
-}
-
+#[tactic(auto, unfolding(crate::specs::Begins::class_of))]
 fn class_of(b: u8) -> Class
     ensures { result ≡ class_of b }
 {
@@ -134,7 +125,7 @@ fn word(text: &[u8], at: usize, line: Line) -> Symbol
     if code == b'.' {
         return make(5, 6, at, len, line);
     }
-    make(code_of(code), 5, at, len, line)
+    make(u32::from(code), 5, at, len, line)
 }
 
 // ---- numbers
@@ -181,15 +172,15 @@ fn string(text: &[u8], at: usize, line: Line) -> Symbol
     ensures { result ≡ string_cut text.now at line }
 {
     let mut i = at + 1;
+    // No `for`: a step is one, two or six bytes.
     while i < text.len() {
         if text[i] == b'"' {
             return make(3, 5, at, i + 1 - at, line);
         }
-        let n = scans::step(text, i);
-        if n == 0 {
-            return fault(2, i, line);
+        match scans::step(text, i) {
+            Some(n) => i += n,
+            None => return fault(2, i, line),
         }
-        i += n;
     }
     fault(3, at, line)
 }
@@ -202,7 +193,7 @@ fn punctuation(text: &[u8], at: usize, line: Line) -> Symbol
     if scans::two(text, at, b'.', b'.') {
         return make(4, 5, at, 2, line);
     }
-    make(code_of(text[at]), 5, at, 1, line)
+    make(u32::from(text[at]), 5, at, 1, line)
 }
 
 impl Cursor {
@@ -222,24 +213,21 @@ impl Cursor {
     {
         let mut at = self.at;
         let mut line = self.line;
+        // No `for`: what stands between symbols is passed at once.
         while at < text.len() {
-            let k = class_of(text[at]);
-            match k {
+            match class_of(text[at]) {
                 Class::Letter => return word(text, at, line),
                 Class::Digit => return number(text, at, 0, line),
                 Class::Sign => return signed(text, at, line),
                 Class::Quote => return string(text, at, line),
-                Class::Comment => {
-                    let p = scans::comment(text, at, line);
-                    match p {
-                        Pass::To { end, line: last } => {
-                            at = end;
-                            line = last;
-                        }
-                        Pass::Open => return fault(3, at, line),
-                        Pass::None => return fault(2, at, line),
+                Class::Comment => match scans::comment(text, at, line) {
+                    Ok(passed) => {
+                        at = passed.end;
+                        line = passed.line;
                     }
-                }
+                    Err(NoComment::Open) => return fault(3, at, line),
+                    Err(NoComment::Absent) => return fault(2, at, line),
+                },
                 Class::Punctuation => return punctuation(text, at, line),
                 Class::Blank => at = scans::blanks_end(text, at + 1),
                 Class::LineEnd => {

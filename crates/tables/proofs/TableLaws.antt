@@ -3,7 +3,7 @@ use mathlib.Core.Path.{◌≡◌, refl, sym, ap, ◌∙◌}
 use mathlib.Core.Logic.{◌⊎◌, inl, inr, ⊎_elim}
 use mathlib.Core.Bool.{Bool, true, false, cond, ◌&&◌, ◌||◌}
 use mathlib.Core.List.{List, [], ◌∷◌}
-use Prim.Native.Nat.{ℕ, ◌+◌, ◌-◌, ◌*◌, ◌%◌, ◌≤◌, ◌<◌}
+use Prim.Native.Nat.{ℕ, ◌+◌, ◌*◌, ◌≤◌, ◌<◌}
 use native.Mathlib.Omega.{arith}
 use lib.ListN.{length, get_or, set, length-set}
 use lib.Seq.{get_or-set_same, get_or-set_other}
@@ -13,58 +13,38 @@ use Rattle.rules.specs.Bytes.{same}
 use Rattle.rules.proofs.Tests.{split, not-both, is_false, alike, or_l, or_r}
 use Rattle.rules.proofs.ByteLaws.{same-eq}
 use Rattle.ground.specs.Parts.{part}
-use Rattle.rules.proofs.PartLaws.{part-cons}
-use Rattle.book.specs.declared.Part.{Part}
-use Rattle.enumerations.specs.Lists.{nowhere, is_element, written, same_names}
-use Rattle.tables.specs.Tables.{Entry, seek_in, is_entered, hash_from, key_of, slot, cell_of, Sized, next_of, list_of}
+use Rattle.ground.specs.declared.Name as code
+use Rattle.std.specs.Prelude.{Option, Some, None}
+use Rattle.std.specs.Option.{option_eq}
+use Rattle.std.specs.Bool.{then_some}
+use Rattle.enumerations.specs.Lists.{is_element, written, same_names}
+use Rattle.tables.specs.Tables.{Entry, seek_in, is_entered, key_of, slot, number_of, cell_of, Sized, next_of, list_of}
 use Rattle.tables.specs.Tables.{hits, Link, Chain, Next, Before, Filled, Gathered}
 use Rattle.tables.specs.declared.Grid.{Grid}
 use Rattle.book.specs.Sizes.{element_size}
 
--- ---- the hash of a part of the text, i bytes of which are passed
-module _ (t : List ℕ) (o l i k : ℕ) where
-  pub hash-next : i < l → o + l ≤ length t → hash_from k (part t (o + i) (l - i))
-      ≡ hash_from ((k * 131 + get_or t (o + i) 0) % 16777216) (part t (o + (i + 1)) (l - (i + 1)))
-  hash-next h w =
-      let a : o + i + 1 ≡ o + (i + 1) = omega arith in
-      let b : l - i - 1 ≡ l - (i + 1) = omega arith in
-      rw (part-cons t (o + i) (l - i) (omega arith) (omega arith), a, b)
-
-  pub hash-end : l ≤ i → hash_from k (part t (o + i) (l - i)) ≡ k
-  hash-end h = let e : l - i ≡ 0 = omega arith in rw e
-
 -- ---- keys
-module _ (t : List ℕ) (k l : ℕ) (n : Part) where
-  pub key_in : leb (n.start + n.len) (length t) ≡ true
-      → hash_from (l % 16777216) (part t n.start n.len) % k ≡ key_of t k l n
-  unfolding key_of
-  key_in e = rw e
-
-  pub key-out : leb (n.start + n.len) (length t) ≡ false → 0 ≡ key_of t k l n
-  unfolding key_of
-  key-out e = rw e
-
-module _ (t : List ℕ) (n m : Part) (h : same_names t n m ≡ true) where
+module _ (t : List ℕ) (n m : code.Name) (h : same_names t n m ≡ true) where
   record Alike : Type 0 where
-    in_text : leb (n.start + n.len) (length t) ≡ true
-    in-text-2 : leb (m.start + m.len) (length t) ≡ true
-    parts : part t n.start n.len ≡ part t m.start m.len
+    in_text : leb (n.offset + n.len) (length t) ≡ true
+    in-text-2 : leb (m.offset + m.len) (length t) ≡ true
+    parts : part t n.offset n.len ≡ part t m.offset m.len
 
   names-alike : Alike
   unfolding same_names
   names-alike =
-      let q : (leb (n.start + n.len) (length t) ≡ true)
-      × ((leb (m.start + m.len) (length t) && same (part t n.start n.len) (part t m.start m.len))
+      let q : (leb (n.offset + n.len) (length t) ≡ true)
+      × ((leb (m.offset + m.len) (length t) && same (part t n.offset n.len) (part t m.offset m.len))
       ≡ true) = split h in
-      let r : (leb (m.start + m.len) (length t) ≡ true)
-      × (same (part t n.start n.len) (part t m.start m.len) ≡ true) = split q.1 in
+      let r : (leb (m.offset + m.len) (length t) ≡ true)
+      × (same (part t n.offset n.len) (part t m.offset m.len) ≡ true) = split q.1 in
       record { in_text = q.0; in-text-2 = r.0; parts = same-eq _ _ r.1 }
 
   same_key : (k l : ℕ) → key_of t k l n ≡ key_of t k l m
   unfolding key_of
   same_key k l = rw (names-alike.in_text, names-alike.in-text-2, names-alike.parts)
 
-  names_same : (w : Part) → same_names t n w ≡ same_names t m w
+  names_same : (w : code.Name) → same_names t n w ≡ same_names t m w
   unfolding same_names
   names_same w = rw (names-alike.in_text, names-alike.in-text-2, names-alike.parts)
 
@@ -86,39 +66,22 @@ same-cell : (g : Grid) (z : List ℕ) (i p q : ℕ) → slot g p ≡ slot g q �
 unfolding cell_of
 same-cell g z i p q e = rw e
 
-pub number-none : (p : ℕ) → false ≡ eqb 0 (p + 1)
-number-none p = sym (ne_eqb 0 (p + 1) (λ e. omega arith))
-
-pub number_of : (m p : ℕ) → ¬ (m ≡ 0) → eqb (m - 1) p ≡ eqb m (p + 1)
-number_of m p h =
-    alike (λ e. let q = eqb-true (m - 1) p e in eq-eqb m (p + 1) (omega arith))
-    (λ e. let q = eqb-true m (p + 1) e in eq-eqb (m - 1) p (omega arith))
-
 number-one : (a b : ℕ) → eqb (a + 1) (b + 1) ≡ eqb a b
 number-one a b = alike (λ e. let q = eqb-true (a + 1) (b + 1) e in eq-eqb a b (omega arith))
     (λ e. let q = eqb-true a b e in eq-eqb (a + 1) (b + 1) (omega arith))
 
-module _ (t s : List ℕ) (g : Grid) (z : List ℕ) (p l : ℕ) (n : Part) where
-  pub hit-list : eqb (list_of g z p) (l + 1) ≡ false → false ≡ hits t s g z p l n
-  unfolding hits
-  hit-list e = rw e
+pub number_eq : (o : Option ℕ) (l : ℕ) → option_eq eqb o (Some l) ≡ eqb (number_of o) (l + 1)
+number_eq None l = sym (ne_eqb 0 (l + 1) (λ e. omega arith))
+number_eq (Some p) l = sym (number-one p l)
 
-  pub hit-element : eqb (list_of g z p) (l + 1) ≡ true → is_element s p ≡ false → false ≡ hits t s g z p l n
-  unfolding hits
-  hit-element e h = rw (e, h)
-
-  pub hit-name : eqb (list_of g z p) (l + 1) ≡ true → is_element s p ≡ true
-      → same_names t n (written s p) ≡ hits t s g z p l n
-  unfolding hits
-  hit-name e h = rw (e, h)
-
+module _ (t s : List ℕ) (g : Grid) (z : List ℕ) (p l : ℕ) (n : code.Name) where
   hit-entry : (m : ℕ) → list_of g z p ≡ m + 1 → is_element s p ≡ true
       → hits t s g z p l n ≡ (eqb m l && same_names t n (written s p))
   unfolding hits
   hit-entry m e h = rw (e, h, number-one m l)
 
 -- ---- the search along a chain
-module _ (t s : List ℕ) (g : Grid) (z : List ℕ) (l : ℕ) (n : Part) where
+module _ (t s : List ℕ) (g : Grid) (z : List ℕ) (l : ℕ) (n : code.Name) where
   abbrev test : Entry → Bool
   test e = eqb e.list l && same_names t n (written s e.at)
 
@@ -143,7 +106,7 @@ module _ (t s : List ℕ) (g : Grid) (z : List ℕ) (l : ℕ) (n : Part) where
     listed : list_of g z e.at ≡ e.list + 1
     stands : Next s g e.list e.at
     before : Before s g rest e.at
-    goes : seek_in t s l n es ≡ cond (test e) (e.at + element_size) (seek_in t s l n rest)
+    goes : seek_in t s l n es ≡ cond (test e) (Some (e.at + element_size)) (seek_in t s l n rest)
 
   head : (es : List Entry) (x p : ℕ) → Chain t s g z key x es → Before s g es p → 0 < x → Head x es
   head [] x p c b h = absurd (omega arith)
@@ -175,14 +138,14 @@ module _ (t s : List ℕ) (g : Grid) (z : List ℕ) (l : ℕ) (n : Part) where
             goes = rw (skip e q) H.goes;
           }
 
-  none_left : (es : List Entry) (x : ℕ) → Chain t s g z key x es → x ≡ 0 → seek_in t s l n es ≡ nowhere
+  none_left : (es : List Entry) (x : ℕ) → Chain t s g z key x es → x ≡ 0 → seek_in t s l n es ≡ None
   none_left [] x c h = refl
   none_left (e ∷ es) x c h =
       go (eqb (key_of t g.keys e.list (written s e.at)) key) refl c (λ d. none_left es x d h)
     where
       go : (y : Bool) → eqb (key_of t g.keys e.list (written s e.at)) key ≡ y
-          → Link y g z x e (λ y. Chain t s g z key y es) → (Chain t s g z key x es → seek_in t s l n es ≡ nowhere)
-          → seek_in t s l n (e ∷ es) ≡ nowhere
+          → Link y g z x e (λ y. Chain t s g z key y es) → (Chain t s g z key x es → seek_in t s l n es ≡ None)
+          → seek_in t s l n (e ∷ es) ≡ None
       go true q c f = let a = c.0 in absurd (omega arith)
       go false q c f = rw (skip e q) (f c)
 
@@ -209,46 +172,59 @@ module _ (t s : List ℕ) (g : Grid) (z : List ℕ) (l : ℕ) (n : Part) where
       record { rest = es; top = p; chain = rw (ex, e) (rw e at (F.chains k h)); before = F.before; same_found = refl }
 
   module _ (es : List Entry) (x : ℕ) (B : Behind es x) where
-    pub behind-none : x ≡ 0 → nowhere ≡ seek_in t s l n es
+    pub behind-none : x ≡ 0 → None ≡ seek_in t s l n es
     behind-none h = sym (B.same_found ∙ none_left B.rest x B.chain h)
 
-    module _ (h : 0 < x) where
+    module _ (p : ℕ) (h : x ≡ p + 1) where
       H : Head x B.rest
-      H = head B.rest x B.top B.chain B.before h
+      H = head B.rest x B.top B.chain B.before (omega arith)
 
-      place : x - 1 ≡ H.e.at
+      place : p ≡ H.e.at
       place = omega (arith, H.is)
 
-      judged : hits t s g z (x - 1) l n ≡ test H.e
-      judged = rw place (hit-entry t s g z H.e.at l n H.e.list H.listed H.stands.element)
+      judged : hits t s g z p l n ≡ test H.e
+      judged =
+          ap (λ (v : ℕ). hits t s g z v l n) place
+          ∙ hit-entry t s g z H.e.at l n H.e.list H.listed H.stands.element
 
-      pub behind-hit : hits t s g z (x - 1) l n ≡ true → x - 1 + element_size ≡ seek_in t s l n es
-      behind-hit y = sym (B.same_found ∙ H.goes ∙ rw (sym judged ∙ y, place))
+      pub behind-hit : hits t s g z p l n ≡ true → Some (p + element_size) ≡ seek_in t s l n es
+      behind-hit y =
+          ap (λ (v : ℕ). Some (v + element_size)) place ∙ sym (B.same_found ∙ H.goes ∙ rw (sym judged ∙ y))
 
-      pub behind-on : hits t s g z (x - 1) l n ≡ false → (m : ℕ) → m ≡ next_of g z (x - 1) → Behind es m
+      pub behind-on : hits t s g z p l n ≡ false → (m : ℕ) → m ≡ next_of g z p → Behind es m
       behind-on y m em =
+          let d : m ≡ next_of g z H.e.at = em ∙ ap (next_of g z) place in
           record {
             rest = H.rest;
             top = H.e.at;
-            chain = rw (em, place) H.chain;
+            chain = rw d H.chain;
             before = H.before;
             same_found = B.same_found ∙ H.goes ∙ rw (sym judged ∙ y);
           }
 
-      pub behind-up : (m : ℕ) → m ≡ next_of g z (x - 1) → m < x
+      pub behind-up : (m : ℕ) → m ≡ next_of g z p → m ≤ p
       behind-up m em =
           let d : m ≡ next_of g z H.e.at = em ∙ ap (next_of g z) place in
           omega (arith, chain-low key H.rest (next_of g z H.e.at) H.e.at H.chain H.before, H.is)
 
--- ---- an empty table
-pub zero_more : (z : List ℕ) (i : ℕ) → ((k : ℕ) → k < i → get_or z k 0 ≡ 0) → i < length z → (k : ℕ)
-    → k < i + 1 → get_or (set z i 0) k 0 ≡ 0
-zero_more z i h w k u = go (eqb k i) refl
-  where
-    go : (c : Bool) → eqb k i ≡ c → get_or (set z i 0) k 0 ≡ 0
-    go true e = rw (eqb-true k i e) (get_or-set_same z i 0 0 w)
-    go false e = let a = eqb-false k i e in get_or-set_other z i k 0 0 a ∙ h k (let b : ¬ (k ≡ i) = a in omega arith)
+-- the next of a chain, where it stands before the place p
+abbrev pub earlier : ℕ → Option ℕ → Option ℕ
+earlier p None = None
+earlier p (Some q) = then_some (ltb q p) q
 
+pub earlier-all : (p : ℕ) (o : Option ℕ) → number_of o ≤ p → number_of (earlier p o) ≡ number_of o
+earlier-all p None h = refl
+earlier-all p (Some q) h = rw (lt-ltb q p (omega arith))
+
+pub earlier-low : (p : ℕ) (o : Option ℕ) → number_of (earlier p o) ≤ number_of o
+earlier-low p None = omega arith
+earlier-low p (Some q) = go (ltb q p)
+  where
+    go : (c : Bool) → number_of (then_some c q) ≤ q + 1
+    go true = omega arith
+    go false = omega arith
+
+-- ---- an empty table
 pub none_filled : (t s : List ℕ) (g : Grid) (z : List ℕ) (p : ℕ) → Sized g z
     → ((i : ℕ) → i < 3 * g.keys → get_or z i 0 ≡ 0) → Filled t s g z [] p
 none_filled t s g z p S h =

@@ -1,10 +1,10 @@
 -- Elements by their list and name: chains through the elements of one enumeration, in lent numbers.
 use Rattle.std.specs.Prelude.{◌≡◌, Bool, true, false, cond, ◌&&◌, ◌||◌, List, [], ◌∷◌, ℕ, ◌+◌, ◌-◌, ◌*◌, ◌/◌, ◌%◌}
-use Rattle.std.specs.Prelude.{◌≤◌, ◌<◌, length, get_or, eqb, ltb, leb}
+use Rattle.std.specs.Prelude.{◌≤◌, ◌<◌, length, get_or, eqb, ltb, leb, Option, Some, None, is_some}
 use Rattle.rules.specs.Enumerations.{Enum}
 use Rattle.ground.specs.Parts.{part}
-use Rattle.book.specs.declared.Part.{Part}
-use Rattle.enumerations.specs.Lists.{nowhere, is_element, written, same_names, find_from}
+use Rattle.ground.specs.declared.Name as code
+use Rattle.enumerations.specs.Lists.{is_element, written, same_names, find_from}
 use Rattle.enumerations.specs.Standing.{end_of, Stands}
 use Rattle.tables.specs.declared.Grid.{Grid}
 use Rattle.book.specs.Sizes.{element_size, list_size}
@@ -15,11 +15,11 @@ pub record Entry : Type 0 where
   pub at : ℕ
 
 -- past the name of the element n of the list l, of those entered the last
-abbrev pub seek_in : List ℕ → List ℕ → ℕ → Part → List Entry → ℕ
-seek_in t s l n [] = nowhere
+abbrev pub seek_in : List ℕ → List ℕ → ℕ → code.Name → List Entry → Option ℕ
+seek_in t s l n [] = None
 seek_in t s l n (e ∷ es) =
     let r = seek_in t s l n es in
-    cond (eqb e.list l && same_names t n (written s e.at)) (e.at + element_size) r
+    cond (eqb e.list l && same_names t n (written s e.at)) (Some (e.at + element_size)) r
 
 -- whether an element of the list l is entered
 abbrev pub is_entered : ℕ → List Entry → Bool
@@ -32,11 +32,16 @@ hash_from k [] = k
 hash_from k (b ∷ l) = hash_from ((k * 131 + b) % 16777216) l
 
 -- of k keys, that of the name n in the list l
-unfoldable pub key_of : List ℕ → ℕ → ℕ → Part → ℕ
-key_of t k l n = cond (leb (n.start + n.len) (length t)) (hash_from (l % 16777216) (part t n.start n.len) % k) 0
+unfoldable pub key_of : List ℕ → ℕ → ℕ → code.Name → ℕ
+key_of t k l n = cond (leb (n.offset + n.len) (length t)) (hash_from (l % 16777216) (part t n.offset n.len) % k) 0
 
 abbrev pub slot : Grid → ℕ → ℕ
 slot g p = (p - g.from) / element_size
+
+-- the number of a place; 0 is none
+abbrev pub number_of : Option ℕ → ℕ
+number_of None = 0
+number_of (Some p) = p + 1
 
 unfoldable pub cell_of : Grid → List ℕ → ℕ → ℕ → ℕ
 cell_of g z i p = cond (ltb (slot g p) g.keys) (get_or z (i + slot g p) 0) 0
@@ -53,7 +58,7 @@ abbrev pub list_of : Grid → List ℕ → ℕ → ℕ
 list_of g z p = cell_of g z (g.keys + g.keys) p
 
 -- the element at p is of the list l and has the name n
-unfoldable pub hits : List ℕ → List ℕ → Grid → List ℕ → ℕ → ℕ → Part → Bool
+unfoldable pub hits : List ℕ → List ℕ → Grid → List ℕ → ℕ → ℕ → code.Name → Bool
 hits t s g z p l n = eqb (list_of g z p) (l + 1) && (is_element s p && same_names t n (written s p))
 
 -- ---- what the numbers say
@@ -87,12 +92,12 @@ pub record Filled (t s : List ℕ) (g : Grid) (z : List ℕ) (es : List Entry) (
 
 -- whether the element at p clashes with an entered one of its list l; if not, it is entered
 pub record Clash (t s : List ℕ) (g : Grid) (es : List Entry) (l p : ℕ) (z : List ℕ) (r : Bool) : Type 0 where
-  pub says : r ≡ ltb (seek_in t s l (written s p) es) nowhere
+  pub says : r ≡ is_some (seek_in t s l (written s p) es)
   pub more : r ≡ false → Filled t s g z (record { list = l; at = p } ∷ es) (p + element_size)
 
 -- what is entered of the list l is what is found in it
 abbrev pub Serves : List ℕ → List ℕ → List Entry → ℕ → Type 0
-Serves t s es l = (n : Part) → seek_in t s l n es ≡ find_from (length s + 1) t s l n
+Serves t s es l = (n : code.Name) → seek_in t s l n es ≡ find_from (length s + 1) t s l n
 
 -- every list that has an element entered is entered whole
 pub record Gathered (t s : List ℕ) (g : Grid) (z : List ℕ) : Type 0 where
@@ -106,7 +111,7 @@ pub record Grown (t s : List ℕ) (g : Grid) (es : List Entry) (z : List ℕ) (l
   pub entries : List Entry
   pub filled : Filled t s g z entries q
   pub same_entered : (m : ℕ) → m < l → is_entered m entries ≡ is_entered m es
-  pub same_found : (m : ℕ) → m < l → (n : Part) → seek_in t s m n entries ≡ seek_in t s m n es
+  pub same_found : (m : ℕ) → m < l → (n : code.Name) → seek_in t s m n entries ≡ seek_in t s m n es
   pub whole : (m : ℕ) → l ≤ m → is_entered m entries ≡ true → Serves t s entries m
 
 -- the list e at l lies in the grid
@@ -118,11 +123,6 @@ pub record GridFor (s : List ℕ) (p : ℕ) (g : Grid) : Type 0 where
   pub some : 0 < g.keys
   pub small : 6 * g.keys ≤ length s + element_size
   pub room : (t : List ℕ) (e : Enum) → Stands t s e p → InGrid g e (p + list_size)
-
--- the numbers z are the table of the enumeration at p
-pub record TableOf (t s : List ℕ) (p : ℕ) (g : Grid) (z : List ℕ) : Type 0 where
-  pub sized : Sized g z
-  pub gathered : (e : Enum) → Stands t s e p → Gathered t s g z
 
 -- ---- how many numbers are lent
 -- k are a table for an enumeration in n bytes

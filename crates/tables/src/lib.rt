@@ -6,15 +6,16 @@
 
 pub mod twice;
 
-ghost use Rattle.std.specs.Prelude.{◌≡◌, List, ◌∷◌, ℕ, ◌+◌, ◌%◌, ◌≤◌, ◌<◌, length, get_or, eqb};
-ghost use Rattle.ground.specs.Parts.{part};
-ghost use Rattle.enumerations.specs.Lists.{find_from};
-ghost use Rattle.tables.specs.Tables.{Entry, seek_in, hash_from, key_of, slot, cell_of, hits, Sized, Next, Filled};
-ghost use Rattle.tables.specs.Tables.{Clash, Gathered, GridFor};
+ghost use Rattle.std.specs.Prelude.{◌≡◌, List, ◌∷◌, ℕ, ◌+◌, ◌*◌, ◌%◌, ◌≤◌, ◌<◌, length, get_or, eqb};
+ghost use Rattle.enumerations.specs.Lists.{find_of};
+ghost use Rattle.tables.specs.Tables.{Entry, seek_in, hash_from, key_of, slot, number_of, cell_of, list_of, hits};
+ghost use Rattle.tables.specs.Tables.{Sized, Next};
+ghost use Rattle.tables.specs.Tables.{Filled, Clash, Gathered, GridFor};
 ghost use Rattle.book.specs.Sizes.{element_size};
 
-use book::{ELEMENT_SIZE, LIST_SIZE, Part, written_name};
-use enumerations::{NOWHERE, find, is_element, is_opening, is_within, list_end, same_name};
+use book::{ELEMENT_SIZE, LIST_SIZE, written_name};
+use enumerations::{find, is_element, is_opening, list_end, part_of, same_name};
+use ground::Name;
 
 // An enumeration's elements stand from `from` on. One is six bytes long, so that its place by six is a number of its
 // own, below `keys`: there are as many keys as elements have room, and an enumeration takes as much of the table as it
@@ -25,115 +26,119 @@ pub struct Grid {
     pub keys: usize,
 }
 
+// Elements among the records in `s`, with their names in the text, and the numbers in which they are entered.
+#[derive(Clone, Copy)]
+pub struct Table<'t, 's, 'n> {
+    pub text: &'t [u8],
+    pub s: &'s [u8],
+    pub numbers: &'n [u32],
+    pub grid: Grid,
+    pub ghost sized: { Sized grid numbers.now },
+}
+
 // ---- keys and numbers
+// The hashes are below this.
+const HASHES: usize = 16777216;
+
 // Of a name in a list.
-fn hash(text: &[u8], list: usize, name: Part) -> usize
-    requires { name.start + name.len ≤ length text.now }
-    ensures { result ≡ hash_from (list % 16777216) (part text.now name.start name.len) }
+fn hash(list: usize, name: &[u8]) -> usize
+    ensures { result ≡ hash_from (list % 16777216) name.now }
 {
-    let start = name.start;
-    let len = name.len;
-    let mut k = list % 16777216;
-    let mut i = 0;
-    while i < len {
-        k = (k * 131 + ground::wide(text[start + i])) % 16777216;
-        i += 1;
+    let mut k = list % HASHES;
+    for b in name {
+        k = (k * 131 + usize::from(*b)) % HASHES;
     }
     k
 }
 
-fn key_of(text: &[u8], keys: usize, list: usize, name: Part) -> usize
+#[tactic(auto, unfolding(crate::specs::Tables::key_of))]
+fn key_of(text: &[u8], keys: usize, list: usize, name: Name) -> usize
     requires { 0 < keys }
     ensures { (result ≡ key_of text.now keys list name) × (result < keys) }
 {
-    if is_within(text.len(), name) {
-        return hash(text, list, name) % keys;
+    match part_of(text, name) {
+        Some(bytes) => hash(list, bytes) % keys,
+        None => 0,
     }
-    0
 }
 
-fn slot_of(g: Grid, p: usize) -> usize
-    ensures { result ≡ slot g p }
+// The place that a number is one more than.
+fn place_of(number: u32) -> Option<usize>
+    ensures { (number_of result ≡ number) × (number_of result < 4294967296) }
 {
-    if p < g.from {
-        return 0;
-    }
-    (p - g.from) / ELEMENT_SIZE
+    (number as usize).checked_sub(1)
 }
 
-// The number of the element at a place, among the numbers from i on.
-fn cell(table: &[u32], g: Grid, i: usize, p: usize) -> usize
-    requires { i + g.keys ≤ length table.now }
-    ensures { (result ≡ cell_of g table.now i p) × (result < 4294967296) }
-{
-    let j = slot_of(g, p);
-    if j < g.keys {
-        return ground::wide4(table[i + j]);
+impl Grid {
+    fn slot(self, p: usize) -> usize
+        ensures { result ≡ slot self p }
+    {
+        p.saturating_sub(self.from) / ELEMENT_SIZE
     }
-    0
-}
-
-// The number m is that of a place.
-fn is_number(m: usize, place: usize) -> bool
-    ensures { result ≡ eqb m (place + 1) }
-{
-    if m == 0 {
-        return false;
-    }
-    m - 1 == place
 }
 
 // ---- looking up
-fn is_hit(text: &[u8], s: &[u8], table: &[u32], g: Grid, p: usize, list: usize, name: Part) -> bool
-    requires { Sized g table.now }
-    ensures { result ≡ hits text.now s.now g table.now p list name }
-{
-    if is_number(cell(table, g, g.keys + g.keys, p), list) {
-        if is_element(s, p) {
-            return same_name(text, name, written_name(s, p));
+impl Table<'_, '_, '_> {
+    // What is numbered for the element at a place, in the row of numbers from i on.
+    fn cell(&self, i: usize, p: usize) -> Option<usize>
+        requires { i + self.now.grid.keys ≤ length self.now.numbers.now }
+        ensures { (number_of result ≡ cell_of self.now.grid self.now.numbers.now i p)
+            × (number_of result < 4294967296) }
+    {
+        let j = self.grid.slot(p);
+        if j < self.grid.keys {
+            return place_of(self.numbers[i + j]);
         }
+        None
     }
-    false
-}
 
-// Past the name of the element of a list that is entered under a name; NOWHERE for none.
-fn seek(text: &[u8], s: &[u8], table: &[u32], g: Grid, list: usize, name: Part) -> usize
-    requires { Sized g table.now }
-    ensures { (es : List Entry) (p : ℕ) → Filled text.now s.now g table.now es p
-        → result ≡ seek_in text.now s.now list name es }
-{
-    let keys = g.keys;
-    let k = key_of(text, keys, list, name);
-    let mut x = ground::wide4(table[k]);
-    while 0 < x {
-        let p = x - 1;
-        if is_hit(text, s, table, g, p, list, name) {
-            return p + ELEMENT_SIZE;
-        }
-        let next = cell(table, g, keys, p);
-        if x <= next {
-            return NOWHERE;
-        }
-        x = next;
+    // The element at a place is entered as one of the list.
+    #[tactic(auto, using(crate::proofs::TableLaws::number_eq))]
+    fn is_of_list(&self, p: usize, list: usize) -> bool
+        ensures { result ≡ eqb (list_of self.now.grid self.now.numbers.now p) (list + 1) }
+    {
+        self.cell(2 * self.grid.keys, p) == Some(list)
     }
-    NOWHERE
-}
 
-// The same of any list: one that is not entered is searched through. Of the enumeration that is gathered none is,
-// unless it is empty.
-pub fn find_in(text: &[u8], s: &[u8], table: &[u32], g: Grid, list: usize, name: Part) -> usize
-    requires { Sized g table.now }
-    ensures { Gathered text.now s.now g table.now
-        → result ≡ find_from (length s.now + 1) text.now s.now list name }
-{
-    let m = seek(text, s, table, g, list, name);
-    if m < NOWHERE {
-        return m;
+    #[tactic(auto, using(enumerations::proofs::ListLaws::as_written), unfolding(crate::specs::Tables::hits))]
+    fn is_hit(&self, p: usize, list: usize, name: Name) -> bool
+        ensures { result ≡ hits self.now.text.now self.now.s.now self.now.grid self.now.numbers.now p list name }
+    {
+        self.is_of_list(p, list)
+            && is_element(self.s, p)
+            && same_name(self.text, name, written_name(self.s, p))
     }
-    if is_number(cell(table, g, g.keys + g.keys, list), list) {
-        return m;
+
+    // Past the name of the element of a list that is entered under a name.
+    fn seek(&self, list: usize, name: Name) -> Option<usize>
+        ensures { (es : List Entry) (p : ℕ)
+            → Filled self.now.text.now self.now.s.now self.now.grid self.now.numbers.now es p
+            → result ≡ seek_in self.now.text.now self.now.s.now list name es }
+    {
+        let k = key_of(self.text, self.grid.keys, list, name);
+        let mut at = place_of(self.numbers[k]);
+        while let Some(p) = at {
+            if self.is_hit(p, list, name) {
+                return Some(p + ELEMENT_SIZE);
+            }
+            at = self.cell(self.grid.keys, p).filter(|&next| next < p);
+        }
+        None
     }
-    find(text, s, list, name)
+
+    // The same of any list, if there is one: one that is not entered is searched through. Of the enumeration that is
+    // gathered none is, unless it is empty.
+    pub fn find(&self, list: Option<usize>, name: Name) -> Option<usize>
+        ensures { Gathered self.now.text.now self.now.s.now self.now.grid self.now.numbers.now
+            → result ≡ find_of self.now.text.now self.now.s.now list name }
+    {
+        let list = list?;
+        let m = self.seek(list, name);
+        if m.is_some() || self.is_of_list(list, list) {
+            return m;
+        }
+        find(self.text, self.s, list, name)
+    }
 }
 
 // ---- entering
@@ -142,11 +147,7 @@ pub fn clear(table: &mut [u32], n: usize)
     requires { n ≤ length table.old }
     ensures { (i : ℕ) → i < n → get_or table.new i 0 ≡ 0 }
 {
-    let mut i = 0;
-    while i < n {
-        table[i] = 0;
-        i += 1;
-    }
+    table[..n].fill(0);
 }
 
 // The element at a place is put before the others of its key.
@@ -159,7 +160,7 @@ fn enter(text: &[u8], s: &[u8], table: &mut [u32], g: Grid, list: usize, at: usi
         (at + element_size) }
 {
     let keys = g.keys;
-    let j = slot_of(g, at);
+    let j = g.slot(at);
     if j < keys {
         let k = key_of(text, keys, list, written_name(s, at));
         table[keys + j] = table[k];
@@ -176,7 +177,13 @@ pub fn clashes(text: &[u8], s: &[u8], table: &mut [u32], g: Grid, list: usize, a
         → Next s.now g list at
         → Clash text.now s.now g es list at table.new result }
 {
-    if seek(text, s, table, g, list, written_name(s, at)) < NOWHERE {
+    let entered = Table {
+        text,
+        s,
+        numbers: table,
+        grid: g,
+    };
+    if entered.seek(list, written_name(s, at)).is_some() {
         return true;
     }
     enter(text, s, table, g, list, at);
@@ -188,12 +195,12 @@ pub fn grid_of(s: &[u8], at: usize) -> Grid
     ensures { GridFor s.now at result }
 {
     if is_opening(s, at) {
-        let e = list_end(s, at + LIST_SIZE);
-        let end = e.at;
+        let from = at + LIST_SIZE;
+        let end = list_end(s, from).at;
         if end <= s.len() {
             return Grid {
-                from: at + LIST_SIZE,
-                keys: (end - (at + LIST_SIZE)) / ELEMENT_SIZE + 1,
+                from,
+                keys: (end - from) / ELEMENT_SIZE + 1,
             };
         }
     }

@@ -4,23 +4,30 @@ ghost use Rattle.std.specs.Prelude.{◌≡◌, List, [], ◌+◌, ◌*◌, ◌�
 ghost use Rattle.std.proofs.Math.Option.{none};
 ghost use Rattle.rules.specs.Enumerations.{Enum, twice};
 ghost use Rattle.enumerations.specs.Standing.{Deep, Stands, ListAt};
-ghost use Rattle.book.specs.declared.Found.TheVariants.{Nothing};
 ghost use Rattle.tables.specs.Doubling.{PastIn, found_of, CheckedAs};
-ghost use Rattle.tables.specs.Tables.{Entry, Sized, Filled, Gathered, InGrid, GridFor, TableOf, TableFor};
+ghost use Rattle.tables.specs.Tables.{Entry, Sized, Filled, Gathered, InGrid, GridFor, TableFor};
 
-use crate::{Grid, clashes, clear, grid_of};
-use book::{ELEMENT_SIZE, Found, LIST_SIZE, written_name};
+use crate::{Grid, Table, clashes, clear, grid_of};
+use book::{ELEMENT_SIZE, LIST_SIZE, written_name};
 use enumerations::{is_element, is_opening};
 
-// The place of the name of a doubled element; or past the list, if it has none.
+// An element has the name of an earlier one of its list: the place of its name.
 #[derive(Clone, Copy)]
-pub enum Checked {
-    Twice(usize),
-    Past(usize),
+pub struct Repeated {
+    pub place: usize,
 }
 
-// Of the list at a place, nested at most `left` deep inside. Up to there its elements are entered.
-fn in_list(text: &[u8], s: &[u8], list: usize, left: usize, table: &mut [u32], g: Grid) -> Checked
+// Past the list at a place, nested at most `left` deep inside, if no element is doubled. Up to there its elements are
+// entered. The numbers stay a parameter: a struct that holds them as `&mut` has to promise in each contract that it
+// still holds the same, and is no plainer.
+fn in_list(
+    text: &[u8],
+    s: &[u8],
+    list: usize,
+    left: usize,
+    table: &mut [u32],
+    g: Grid,
+) -> Result<usize, Repeated>
     requires { Sized g table.old × (list ≤ length s.now) × (length s.now < 4294967295) }
     ensures within { PastIn result list (length s.now) }
     ensures first { (e : Enum) (es : List Entry) → ListAt text.now s.now e list
@@ -32,48 +39,40 @@ fn in_list(text: &[u8], s: &[u8], list: usize, left: usize, table: &mut [u32], g
         let name = written_name(s, at);
         let next = at + ELEMENT_SIZE;
         if clashes(text, s, table, g, list, at) {
-            return Checked::Twice(name.start);
+            return Err(Repeated { place: name.offset });
         }
         if is_opening(s, next) {
             if left == 0 {
-                return Checked::Past(next);
+                return Ok(next);
             }
-            let c = in_list(text, s, next + LIST_SIZE, left - 1, table, g);
-            match c {
-                Checked::Twice(p) => return Checked::Twice(p),
-                Checked::Past(q) => {
-                    at = q;
-                    continue;
-                }
-            }
+            at = in_list(text, s, next + LIST_SIZE, left - 1, table, g)?;
+            continue;
         }
         at = next;
     }
     if at < s.len() {
-        return Checked::Past(at + 1);
+        return Ok(at + 1);
     }
-    Checked::Past(at)
+    Ok(at)
 }
 
 // Of the enumeration at a place, with the grid for it.
-fn entered(text: &[u8], s: &[u8], at: usize, table: &mut [u32], g: Grid) -> Found
+fn entered(text: &[u8], s: &[u8], at: usize, table: &mut [u32], g: Grid) -> Option<usize>
     requires { Sized g table.old × (length s.now < 4294967295) × GridFor s.now at g }
     ensures { (e : Enum) → Stands text.now s.now e at → (result ≡ found_of (twice e []))
-        × (result ≡ Nothing → Gathered text.now s.now g table.new) }
+        × (result ≡ None → Gathered text.now s.now g table.new) }
 {
-    clear(table, g.keys + g.keys + g.keys);
+    clear(table, 3 * g.keys);
     if is_opening(s, at) {
-        let c = in_list(text, s, at + LIST_SIZE, 7, table, g);
-        match c {
-            Checked::Twice(p) => return Found::At(p),
-            Checked::Past(_) => return Found::Nothing,
-        }
+        return in_list(text, s, at + LIST_SIZE, 7, table, g)
+            .err()
+            .map(|d| d.place);
     }
-    Found::Nothing
+    None
 }
 
 // Of the enumeration at a place: a few steps for each of its records, and a look into the table for each element.
-pub fn doubled(text: &[u8], s: &[u8], at: usize, table: &mut [u32]) -> Found
+pub fn doubled(text: &[u8], s: &[u8], at: usize, table: &mut [u32]) -> Option<usize>
     requires { (length s.now < 4294967295) × TableFor (length s.now) (length table.old) }
     ensures { (e : Enum) → Stands text.now s.now e at → result ≡ found_of (twice e []) }
 {
@@ -81,17 +80,26 @@ pub fn doubled(text: &[u8], s: &[u8], at: usize, table: &mut [u32]) -> Found
 }
 
 // The table of the enumeration at a place, at the cost of `doubled`. It is left empty if an element is doubled.
-pub fn gather(text: &[u8], s: &[u8], at: usize, table: &mut [u32]) -> Grid
+pub fn gather<'t, 's, 'n>(
+    text: &'t [u8],
+    s: &'s [u8],
+    at: usize,
+    table: &'n mut [u32],
+) -> Table<'t, 's, 'n>
     requires { (length s.now < 4294967295) × TableFor (length s.now) (length table.old) }
-    ensures { TableOf text.now s.now at result table.new }
+    ensures same_text { result.text.now ≡ text.now }
+    ensures same_records { result.s.now ≡ s.now }
+    ensures gathered { (e : Enum) → Stands text.now s.now e at
+        → Gathered text.now s.now result.grid result.numbers.now }
 {
-    let g = grid_of(s, at);
-    let f = entered(text, s, at, table, g);
-    match f {
-        Found::At(_) => {
-            clear(table, g.keys + g.keys + g.keys);
-            g
-        }
-        Found::Nothing => g,
+    let grid = grid_of(s, at);
+    if entered(text, s, at, table, grid).is_some() {
+        clear(table, 3 * grid.keys);
+    }
+    Table {
+        text,
+        s,
+        numbers: table,
+        grid,
     }
 }

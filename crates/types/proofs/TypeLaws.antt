@@ -5,6 +5,7 @@ use mathlib.Core.Option.{Option, none, some}
 use mathlib.Core.List.{List, [], ◌∷◌, ◌++◌, append_assoc}
 use Prim.Native.Nat.{ℕ, ◌+◌, ◌≤◌}
 use native.Mathlib.Omega.{arith}
+use Rattle.std.specs.Prelude.{⊤, Ok}
 use lib.ListN.{length, take, drop, length-append}
 use lib.Seq.{length-take-le, take_at, take-append-le, take-take, drop_at}
 use Rattle.rules.specs.Enumerations.{Enum, twice}
@@ -51,17 +52,17 @@ scratched t o p (some (G.numeric q r)) f h = tt
 scratched t o p (some (G.enum e)) f h = scratched-enum t o p e f.0 f.1 h
 scratched t o p (some (G.named r)) f h = tt
 
-once-enum : (o : Option ℕ) → (ruling_of (doubled o ∷ [])).number ≡ 0 → o ≡ none
-once-enum none h = refl
-once-enum (some p) h = absurd (omega arith)
+once-enum : (o : Option ℕ) (x : ⊤) → ruling_of (doubled o ∷ []) ≡ Ok x → o ≡ none
+once-enum none x h = refl
+once-enum (some p) x h = cc
 
 -- where 9 of the elements is not broken
-pub once-of : (w : Option WrittenType) → (ruling_of (element_rule w ∷ [])).number ≡ 0 → Once w
-once-of none h = tt
-once-of (some (G.text m n)) h = tt
-once-of (some (G.numeric q r)) h = tt
-once-of (some (G.enum e)) h = once-enum (twice e []) h
-once-of (some (G.named r)) h = tt
+pub once-of : (w : Option WrittenType) (x : ⊤) → ruling_of (element_rule w ∷ []) ≡ Ok x → Once w
+once-of none x h = tt
+once-of (some (G.text m n)) x h = tt
+once-of (some (G.numeric q r)) x h = tt
+once-of (some (G.enum e)) x h = once-enum (twice e []) x h
+once-of (some (G.named r)) x h = tt
 
 -- ---- 17 in its two parts
 both : (a : Bool) → a ≡ (a && true)

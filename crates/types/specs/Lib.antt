@@ -1,3 +1,2 @@
-pub mod Rulings
 pub mod Writing
 pub mod Meaning

@@ -3,7 +3,7 @@
 
 pub mod laying;
 
-ghost use Rattle.std.specs.Prelude.{◌≡◌, true, false, not, ◌&&◌, ◌||◌, List, [], ◌∷◌, ℕ, ◌+◌, ◌≤◌, ◌<◌, length, take};
+ghost use Rattle.std.specs.Prelude.{◌≡◌, false, not, ◌||◌, List, [], ◌∷◌, ℕ, ◌+◌, ◌≤◌, ◌<◌, length, take};
 ghost use Rattle.std.specs.Prelude.{eqb};
 ghost use Rattle.std.proofs.Math.Option.{Option};
 ghost use Rattle.std.specs.Int.Signed.{lt_z};
@@ -21,20 +21,19 @@ ghost use Rattle.names.specs.Index.{entry, Rows, Known, Chained};
 ghost use Rattle.wellformed.specs.Fairness.{Begins, UnitIn, Rising};
 ghost use Rattle.ground.specs.Rulings.{ruling_of};
 ghost use Rattle.fitting.specs.Values.{unit_number, Valued, Typed, Sized, FairOrNone};
-ghost use Rattle.types.specs.Rulings.{ruling_if};
-ghost use Rattle.types.specs.Writing.{Scratched, Once, Ordered, plain_fits, merge_fits};
-ghost use Rattle.types.specs.Meaning.{is_alone, is_listed, is_number};
+ghost use Rattle.types.specs.Writing.{Scratched, Once, merge_fits};
 ghost use Rattle.book.specs.Sizes.{head_size};
 
-use book::Found;
-use fitting::{Typing, fits, is_enumeration, place_of, unit_of};
-use ground::{Ruling, fine};
-use merging::Laid;
+use enumerations::Size;
+use fitting::{Typing, fits, unit_of};
+use ground::Ruling;
+use merging::Misfit;
 use numbers::Number;
 use parts::types::Meant;
 
-// A type over its base's, if it has a base; else the base's is a structure. keeps: its unit is the base's or descends
-// from it.
+// A type over its base's. keeps: its unit is the base's or descends from it.
+// based stands beside base: where there is no base each step judges over a structure, to which an Option would be
+// unwrapped at each.
 #[derive(Clone, Copy)]
 pub struct Over {
     pub based: bool,
@@ -44,14 +43,17 @@ pub struct Over {
 }
 
 // The type that is written, over a base's; its unit as a type by value has it.
-pub fn meant(m: Meant, base: Typing, unit: usize) -> Typing
+pub fn meant(m: Meant, base: Typing, unit: Option<usize>) -> Typing
     ensures { (w : Option WrittenType) (target : Option Def) (b : Ty) → m ≡ any_of w
         → unit ≡ unit_number (measure_in target) → Valued b base → Valued (domain_type w target b) result }
 {
     match m {
         Meant::Alone => base,
-        Meant::Text { kind } => Typing::Text { kind, length: 0 },
-        Meant::Limited { kind, length, .. } => Typing::Text { kind, length },
+        Meant::Text { kind } => Typing::Text { kind, length: None },
+        Meant::Limited { kind, length, .. } => Typing::Text {
+            kind,
+            length: Some(length),
+        },
         Meant::Range { first, second } => Typing::Range {
             decimals: first.decimals,
             low: first.value,
@@ -65,138 +67,49 @@ pub fn meant(m: Meant, base: Typing, unit: usize) -> Typing
 }
 
 // ---- rules
-fn broken_if(number: u8, place: usize, broken: bool) -> Ruling
-    ensures { result ≡ ruling_if number place broken }
-{
-    if broken {
-        return Ruling { number, place };
-    }
-    fine()
-}
-
-fn is_alone(m: Meant) -> bool
-    ensures { result ≡ is_alone m }
-{
-    match m {
-        Meant::Alone => true,
-        Meant::Text { .. } => false,
-        Meant::Limited { .. } => false,
-        Meant::Range { .. } => false,
-        Meant::Numeric => false,
-        Meant::Enumeration { .. } => false,
-        Meant::Named => false,
-    }
-}
-
-// An enumeration is written.
-fn is_listed(m: Meant) -> bool
-    ensures { result ≡ is_listed m }
-{
-    match m {
-        Meant::Alone => false,
-        Meant::Text { .. } => false,
-        Meant::Limited { .. } => false,
-        Meant::Range { .. } => false,
-        Meant::Numeric => false,
-        Meant::Enumeration { .. } => true,
-        Meant::Named => false,
-    }
-}
-
-// A range or NUMERIC.
-fn is_number(m: Meant) -> bool
-    ensures { result ≡ is_number m }
-{
-    match m {
-        Meant::Alone => false,
-        Meant::Text { .. } => false,
-        Meant::Limited { .. } => false,
-        Meant::Range { .. } => true,
-        Meant::Numeric => true,
-        Meant::Enumeration { .. } => false,
-        Meant::Named => false,
-    }
-}
-
 // Bounds of unlike decimals, or in the wrong order.
 fn is_bad(first: Number, second: Number) -> bool
     ensures { result ≡ (not (eqb first.decimals second.decimals) || lt_z second.value first.value) }
 {
-    if first.decimals == second.decimals {
-        return numbers::is_less(second.value, first.value);
-    }
-    true
-}
-
-// An enumeration without elements takes three bytes.
-fn is_lone(bytes: usize, based: bool) -> bool
-    ensures { result ≡ (eqb bytes 3 && not based) }
-{
-    if bytes == 3 {
-        if based {
-            return false;
-        }
-        return true;
-    }
-    false
+    first.decimals != second.decimals || second.value < first.value
 }
 
 // 9 of the elements.
-pub fn element_ruling(text: &[u8], scratch: &[u8], m: Meant, tables: &mut [u32]) -> Ruling
+pub fn element_ruling(
+    text: &[u8],
+    scratch: &[u8],
+    m: Meant,
+    tables: &mut [u32],
+) -> Result<(), Ruling>
     requires { (length scratch.now ≤ 262144) × TableFor (length scratch.now) (length tables.old) }
     ensures { (w : Option WrittenType) → m ≡ any_of w → Scratched text.now scratch.now w
         → result ≡ ruling_of (element_rule w ∷ []) }
 {
-    if is_listed(m) {
-        let d = tables::twice::doubled(text, scratch, 0, tables);
-        return match d {
-            Found::At(place) => broken_if(9, place, true),
-            Found::Nothing => broken_if(9, 0, false),
-        };
+    if let Meant::Enumeration { .. } = m
+        && let Some(place) = tables::twice::doubled(text, scratch, 0, tables)
+    {
+        return Err(Ruling { number: 9, place });
     }
-    broken_if(9, 0, false)
+    Ok(())
 }
 
-// 14 of bounds and lengths; 15 of an outermost `(FINAL)` without a base.
-pub fn type_ruling(m: Meant, place: usize, based: bool) -> Ruling
+// 14 of bounds and lengths; 15 of an outermost `(FINAL)` without a base, which takes three bytes.
+pub fn type_ruling(m: Meant, place: usize, based: bool) -> Result<(), Ruling>
     ensures { (w : Option WrittenType) → m ≡ any_of w → AnyIs (Begins place) w
         → result ≡ ruling_of (type_rules based place w) }
 {
     match m {
-        Meant::Alone => broken_if(0, 0, false),
-        Meant::Text { .. } => broken_if(0, 0, false),
         Meant::Limited {
-            length,
-            place: at,
+            length: 0,
+            place,
             ..
-        } => broken_if(14, at, length == 0),
-        Meant::Range { first, second } => broken_if(14, place, is_bad(first, second)),
-        Meant::Numeric => broken_if(0, 0, false),
-        Meant::Enumeration { bytes } => broken_if(15, place, is_lone(bytes, based)),
-        Meant::Named => broken_if(0, 0, false),
-    }
-}
-
-// 17 of what is written, but for an enumeration; of the base's kind.
-pub fn plain_fits(m: Meant, own: Typing, base: Typing) -> bool
-    requires { Sized own × Sized base }
-    ensures { (t : List ℕ) (w : Option WrittenType) (target : Option Def) (b : Ty) → m ≡ any_of w → Ordered w
-        → FairOrNone t b → Valued (domain_type w target b) own → Valued b base
-        → kind_of (domain_type w target b) ≡ kind_of b → result ≡ plain_fits w b }
-{
-    match m {
-        Meant::Alone => true,
-        Meant::Text { .. } => fits(own, base),
-        Meant::Limited { length, .. } => {
-            if length == 0 {
-                return true;
-            }
-            fits(own, base)
-        }
-        Meant::Range { .. } => fits(own, base),
-        Meant::Numeric => fits(own, base),
-        Meant::Enumeration { .. } => true,
-        Meant::Named => true,
+        } => Err(Ruling { number: 14, place }),
+        Meant::Range { first, second } if is_bad(first, second) => Err(Ruling {
+            number: 14,
+            place,
+        }),
+        Meant::Enumeration { bytes: 3 } if !based => Err(Ruling { number: 15, place }),
+        _ => Ok(()),
     }
 }
 
@@ -209,24 +122,26 @@ pub fn fits_in_book(text: &[u8], book: &[u8], own: Typing, base: Typing, tables:
         → kind_of x ≡ kind_of b
         → result ≡ Types·fits x b }
 {
-    if is_enumeration(own) {
-        return holding::fits(text, book, place_of(own), place_of(base), tables);
+    match (own, base) {
+        (Typing::Enumeration { place: own }, Typing::Enumeration { place: base }) => {
+            holding::fits(text, book, own, base, tables)
+        }
+        _ => fits(own, base),
     }
-    fits(own, base)
 }
 
 // ---- 22
-// The unit at a position is the base's, which is one more than its record number, or descends from it; 0 is none.
-fn unit_fits(index: &[u16], count: usize, unit: usize, base: usize) -> bool
+// The unit at a position is the base's or descends from it; at 0 is none.
+fn unit_fits(index: &[u16], count: usize, unit: usize, base: Option<usize>) -> bool
     requires { (unit ≤ count) × Rows index.now count }
     ensures { (t : List ℕ) (ks : List Def) → Known t ks index.now count
         → Chained ks index.now → Rising ks → (b : Ty) → UnitIn ks b → base ≡ unit_number (unit_of b)
         → result ≡ unit_fits (measure_in (entry ks unit)) (unit_of b) }
 {
-    if base == 0 {
-        return unit == 0;
+    match base {
+        None => unit == 0,
+        Some(number) => names::descends(index, count, unit, number),
     }
-    names::descends(index, count, unit, base - 1)
 }
 
 // The unit of what is written, at a position, is the base's or descends from it.
@@ -237,14 +152,11 @@ pub fn keeps_unit(index: &[u16], count: usize, m: Meant, unit: usize, base: Typi
         → (w : Option WrittenType) (target : Option Def) (b : Ty) → m ≡ any_of w → entry ks unit ≡ target
         → UnitIn ks b → Valued b base → result ≡ keeps_unit (domain_type w target b) b }
 {
-    if is_alone(m) {
-        return true;
+    match m {
+        Meant::Alone => true,
+        Meant::Range { .. } | Meant::Numeric => unit_fits(index, count, unit, unit_of(base)),
+        _ => unit_of(base).is_none(),
     }
-    let u = unit_of(base);
-    if is_number(m) {
-        return unit_fits(index, count, unit, u);
-    }
-    u == 0
 }
 
 // ---- records
@@ -258,7 +170,7 @@ pub fn lay(
     m: Meant,
     over: Over,
     tables: &mut [u32],
-) -> Laid
+) -> Result<Size, Misfit>
     requires sized { Sized over.own }
     requires used_in_bounds { (used ≤ length out.old) × (length out.old ≤ 65535) × (length scratch.now ≤ 262144) }
     requires tables_for { TablesFor (length scratch.now) (length out.old) (length tables.old) }
@@ -269,17 +181,15 @@ pub fn lay(
         → LaidAs (merge_fits w b) (type_records (domain_type w target b)) (used + head_size) out.old
         out.new result }
 {
-    let own = over.own;
-    let base = over.base;
     let at = used + book::HEAD_SIZE;
-    if is_alone(m) {
-        return laying::alone(out, used, at, own, base);
+    match m {
+        Meant::Alone => Ok(laying::alone(out, used, at, over.own, over.base)),
+        Meant::Enumeration { .. } => match over.base {
+            Typing::Enumeration { place } => merging::merged(
+                text, out, used, place, scratch, at, tables,
+            ),
+            _ => Ok(laying::copied(out, at, scratch)),
+        },
+        _ => Ok(laying::plain(out, at, over.own)),
     }
-    if is_listed(m) {
-        if is_enumeration(base) {
-            return merging::merged(text, out, used, place_of(base), scratch, at, tables);
-        }
-        return laying::copied(out, at, scratch);
-    }
-    laying::plain(out, at, own)
 }

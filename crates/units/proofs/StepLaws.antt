@@ -4,10 +4,12 @@ use mathlib.Core.Logic.{⊎_elim}
 use mathlib.Core.Bool.{Bool, true, false, cond, not, ◌&&◌, ◌||◌}
 use mathlib.Core.Option.{Option, none, some}
 use mathlib.Core.List.{List, [], ◌∷◌}
-use Prim.Native.Nat.{ℕ}
+use Prim.Native.Nat.{ℕ, ◌≤◌}
 use native.Mathlib.Omega.{arith}
+use Rattle.std.specs.Prelude.{Option as code·Option, Ok, Err}
+use Rattle.ground.specs.declared.Reference.{Reference}
 use lib.Dec.{eqb}
-use borrow.Author.Tests.{eqb-true, ne_eqb}
+use borrow.Author.Tests.{eqb-true, eq-eqb, ne_eqb}
 use Rattle.rules.specs.Bytes.{ascii, same, is_one_of}
 use Rattle.rules.specs.Symbols as rules
 use Rattle.rules.specs.Symbols.{Fault, word, name, symbol_at, end_of, is_kind, is_mark, is_word, is_one_word}
@@ -28,7 +30,6 @@ use Rattle.readers.proofs.CodeLaws.{Test, is_name, is_number, is-quoted, is_stop
 use Rattle.readers.proofs.ReadLaws.{Passes, onward, bind, stay, mapped, if-true, if-false, expected, taken, is-yes}
 use Rattle.readers.proofs.ReadLaws.{is-no, named-cut, a-name}
 use Rattle.parts.specs.declared.Properties.{Properties}
-use Rattle.parts.specs.declared.Optional.{Optional}
 use Rattle.parts.specs.declared.Owner.TheVariants as Owner
 use Rattle.parts.specs.declared.types.Written.{Written}
 use Rattle.parts.specs.Forms.{words_of, flags_of, optional_of, given_of, type_by, MeansAll}
@@ -40,11 +41,9 @@ use Rattle.units.specs.declared.ModelHead.{ModelHead}
 use Rattle.units.specs.declared.Unit as C
 use Rattle.units.specs.declared.Unit.TheVariants.{Header, Model, Topic, Class, Domain, Attribute, Measure}
 use Rattle.units.specs.declared.Unit.TheVariants.{Close, Mark}
-use Rattle.units.specs.declared.Step.{Step}
-use Rattle.units.specs.declared.Step.TheVariants.{Read, Unread}
 use Rattle.units.specs.Steps.{around_of, run_of, run_cut, behind_of, where_of, place_of, run_unit, end_mark, language}
 use Rattle.units.specs.Steps.{anything, IsAny}
-use Rattle.units.specs.Steps.{UnreadAt, StepIs, Steps, ended_of}
+use Rattle.units.specs.Steps.{Step, UnreadAt, StepIs, Steps, ended_of}
 
 -- ---- one part after another
 abbrev Faults : List ℕ → Symbol → Step → Type 0
@@ -105,8 +104,12 @@ module _ {t o p : List ℕ} {r : Step} where
         where
           go : (b : Bool) → StepIs t o p (and_then t
               (cond b (done z (symbol_at t (end_of z))) (refused (fault_of z.kind) z.place)) (λ e. step x w e))
-              (cond b (Read (where_of w) u (next_of t (cut t z).next)) (Unread (cut t z)))
-          go true = (u, ap (Read (where_of w) u) (next-cut t z s.level s.ends), i)
+              (cond b (Ok (record { at = where_of w; unit = u; next = next_of t (cut t z).next })) (Err (cut t z)))
+          go true = (
+            u,
+            ap (λ (n : Symbol). Ok (record { at = where_of w; unit = u; next = n })) (next-cut t z s.level s.ends),
+            i,
+          )
           go false = let l = s.ends in (cut t z, refl, refl, omega arith)
 
 where-around : (t : Bool) → not (U.is_model (around_of t)) ≡ t
@@ -239,7 +242,7 @@ module _ {t : List ℕ} (o : List ℕ) {y : Symbol} {r : Step} where
   unfolding last_step
   over-steps g = ends Mark none U.over refl is_stop g refl
 
-  pub class-steps : (topic : Bool) {n l m k : Symbol} {i : Name} {ps : Properties} {b : Optional} {s : ℕ}
+  pub class-steps : (topic : Bool) {n l m k : Symbol} {i : Name} {ps : Properties} {b : code·Option Reference} {s : ℕ}
       → (eqb y.code 69 || eqb y.code 70) ≡ true → n ≡ passed t y y.code
       → l ≡ passed t n 1 → i ≡ named n → Reads t (properties (words_of Owner.Definition)) (λ p. ps ≡ flags_of p) l m
       → Reads t extends (λ a. b ≡ optional_of a) m k → s ≡ sort_number (U.class_sort (eqb y.code 70))
@@ -258,7 +261,7 @@ module _ {t : List ℕ} (o : List ℕ) {y : Symbol} {r : Step} where
       (same w.bytes (ascii "STRUCTURE"), refl, rw (f ∙ q₁, q₂, q₃, j, structure-flag h w c))) f₄) f₃) f₂)
       (through r₂.passes f₂)
 
-  pub measure-steps : (topic : Bool) {l m k : Symbol} {i : Name} {ps : Properties} {b : Optional}
+  pub measure-steps : (topic : Bool) {l m k : Symbol} {i : Name} {ps : Properties} {b : code·Option Reference}
       → l ≡ passed t y 1 → i ≡ named y → Reads t (properties (words_of Owner.Measure)) (λ p. ps ≡ flags_of p) l m
       → Reads t extends (λ a. b ≡ optional_of a) m k
       → r ≡ ended_of t k 59 (Measure (record { sort = 4; name = i; properties = ps; base = b })) (Body topic Units)
@@ -275,7 +278,7 @@ module _ {t : List ℕ} (o : List ℕ) {y : Symbol} {r : Step} where
 -- ---- domains and attributes
 module _ {t o o' : List ℕ} (topic : Bool) {y : Symbol} {r : Step} {l m : Symbol} {i : Name} {ps : Properties} {v :
     Written} (e₁ : l ≡ passed t y 1) (f : i ≡ named y) where
-  pub domain-steps : {k q e : Symbol} {b : Optional} {x : Bool}
+  pub domain-steps : {k q e : Symbol} {b : code·Option Reference} {x : Bool}
       → Reads t (properties (words_of Owner.Definition)) (λ p. ps ≡ flags_of p) l m
       → Reads t extends (λ a. b ≡ optional_of a) m k
       → q ≡ passed t k 61 → x ≡ given_of b → Reads t (written x (type_by false)) (MeansAll o o' v) q e →
@@ -320,6 +323,21 @@ domain-word = is_word_lem (ascii "DOMAIN") 74 refl
 pub unit-word : Test (is_word (ascii "UNIT")) 82
 unit-word = is_word_lem (ascii "UNIT") 82 refl
 
+both-fail : (b : Bool) (k n : ℕ) → (b ≡ true → k ≡ n → ⊥) → (b && eqb k n) ≡ false
+both-fail true k n h = ne_eqb k n (h refl)
+both-fail false k n h = refl
+
+-- by the code
+pub class-code : (k : ℕ) → 69 ≤ k → k ≤ 70 → (eqb k 69 || eqb k 70) ≡ true
+class-code k h g = go (eqb k 69) refl
+  where
+    go : (x : Bool) → eqb k 69 ≡ x → (x || eqb k 70) ≡ true
+    go true e = refl
+    go false e = eq-eqb k 70 (let n : k ≡ 69 → ⊥ = λ i. let q = rw i at e in cc in omega arith)
+
+no-class : (k : ℕ) → (k ≡ 69 → ⊥) → (k ≡ 70 → ⊥) → (eqb k 69 || eqb k 70) ≡ false
+no-class k h g = rw (ne_eqb k 69 h, ne_eqb k 70 g)
+
 is-model : (t : Bool) → U.is_model (around_of t) ≡ not t
 is-model true = refl
 is-model false = refl
@@ -330,11 +348,6 @@ module _ {t : List ℕ} {y : Symbol} where
   at-topic topic x e z c =
       rw (is-model topic, (is_word_lem (ascii "TOPIC") 68 refl).test z c.stands.coded) (rw c.cuts at e)
 
-  -- a name, where the run is one that takes it
-  at_name : (run x : Bool) → (run && eqb y.code 1) ≡ x → (z : rules.Symbol) → Cuts t z y
-      → (run && is_kind name z) ≡ x
-  at_name run x e z c = rw (is_name.test z c.stands.coded) (rw c.cuts at e)
-
   at-attribute : (first x : Bool) → (first && eqb y.code 75) ≡ x → (z : rules.Symbol) → Cuts t z y
       → (U.is_head (behind_of first) && is_word (ascii "ATTRIBUTE") z) ≡ x
   at-attribute first x e z c =
@@ -342,82 +355,79 @@ module _ {t : List ℕ} {y : Symbol} where
 
 module _ {t o p : List ℕ} {y : Symbol} {r : Step} (topic : Bool) where
   module _ (run : Run) where
-    pub body-topic : (not topic && eqb y.code 68) ≡ true → Steps t o p topic_unit y r
+    pub body-topic : topic ≡ false → y.code ≡ 68 → Steps t o p topic_unit y r
         → Steps t o p (body_unit (around_of topic) (run_of run)) y r
     unfolding body_unit
-    body-topic h g = when _ _ _ (at-topic topic true h) g
+    body-topic f k g = when _ _ _ (at-topic topic true (rw (f, k))) g
 
-    module _ (h₁ : (not topic && eqb y.code 68) ≡ false) where
-      pub body-class : (eqb y.code 69 || eqb y.code 70) ≡ true → Steps t o p (class_unit (around_of topic)) y r
-          → Steps t o p (body_unit (around_of topic) (run_of run)) y r
-      unfolding body_unit
-      body-class h g = unless _ _ _ (at-topic topic false h₁) (when _ _ _ (class-test true h) g)
+    pub body-class : 69 ≤ y.code → y.code ≤ 70 → Steps t o p (class_unit (around_of topic)) y r
+        → Steps t o p (body_unit (around_of topic) (run_of run)) y r
+    unfolding body_unit
+    body-class h k g = unless _ _ _ (at-topic topic false (both-fail (not topic) y.code 68 (λ _. omega arith)))
+        (when _ _ _ (class-test true (class-code y.code h k)) g)
 
-      module _ (h₂ : (eqb y.code 69 || eqb y.code 70) ≡ false) where
-        pub body-domains : y.code ≡ 74 → Steps t o p (word_step (ascii "DOMAIN") (U.body (around_of topic) U.domains)) y
-            r → Steps t o p (body_unit (around_of topic) (run_of run)) y r
-        unfolding body_unit
-        body-domains h g = unless _ _ _ (at-topic topic false h₁)
-            (unless _ _ _ (class-test false h₂) (when _ _ _ (is-yes domain-word h) g))
+    pub body-domains : y.code ≡ 74 → Steps t o p (word_step (ascii "DOMAIN") (U.body (around_of topic) U.domains)) y r
+        → Steps t o p (body_unit (around_of topic) (run_of run)) y r
+    unfolding body_unit
+    body-domains h g = unless _ _ _ (at-topic topic false (both-fail (not topic) y.code 68 (λ _. omega arith)))
+        (unless _ _ _ (class-test false (no-class y.code (omega arith) (omega arith)))
+        (when _ _ _ (is-yes domain-word h) g))
 
-        module _ (h₃ : y.code ≡ 74 → ⊥) where
-          pub body-units : y.code ≡ 82 → Steps t o p (word_step (ascii "UNIT") (U.body (around_of topic) U.units)) y r
-              → Steps t o p (body_unit (around_of topic) (run_of run)) y r
-          unfolding body_unit
-          body-units h g = unless _ _ _ (at-topic topic false h₁) (unless _ _ _ (class-test false h₂)
-              (unless _ _ _ (is-no domain-word h₃) (when _ _ _ (is-yes unit-word h) g)))
+    pub body-units : y.code ≡ 82 → Steps t o p (word_step (ascii "UNIT") (U.body (around_of topic) U.units)) y r
+        → Steps t o p (body_unit (around_of topic) (run_of run)) y r
+    unfolding body_unit
+    body-units h g = unless _ _ _ (at-topic topic false (both-fail (not topic) y.code 68 (λ _. omega arith)))
+        (unless _ _ _ (class-test false (no-class y.code (omega arith) (omega arith)))
+        (unless _ _ _ (is-no domain-word (omega arith)) (when _ _ _ (is-yes unit-word h) g)))
 
-          pub body_run : (y.code ≡ 82 → ⊥) → Steps t o p (run_unit (around_of topic) (run_of run)) y r
-              → Steps t o p (body_unit (around_of topic) (run_of run)) y r
-          unfolding body_unit
-          body_run h g = unless _ _ _ (at-topic topic false h₁) (unless _ _ _ (class-test false h₂)
-              (unless _ _ _ (is-no domain-word h₃) (unless _ _ _ (is-no unit-word h) g)))
+    pub body_run : (not topic ≡ true → y.code ≡ 68 → ⊥) → (y.code ≡ 69 → ⊥) → (y.code ≡ 70 → ⊥)
+        → (y.code ≡ 74 → ⊥) → (y.code ≡ 82 → ⊥) → Steps t o p (run_unit (around_of topic) (run_of run)) y r
+        → Steps t o p (body_unit (around_of topic) (run_of run)) y r
+    unfolding body_unit
+    body_run a b c d e g = unless _ _ _ (at-topic topic false (both-fail (not topic) y.code 68 a))
+        (unless _ _ _ (class-test false (no-class y.code b c))
+        (unless _ _ _ (is-no domain-word d) (unless _ _ _ (is-no unit-word e) g)))
 
-    module _ {a : Bool} (e₁ : a ≡ U.of_domains (run_of run)) where
-      pub run-domain : (a && eqb y.code 1) ≡ true → Steps t o p (domain_unit (around_of topic)) y r
-          → Steps t o p (run_unit (around_of topic) (run_of run)) y r
-      run-domain h g = when _ _ _ (at_name (U.of_domains (run_of run)) true (rw e₁ at h)) g
+    pub run-domain : run ≡ Domains → y.code ≡ 1 → Steps t o p (domain_unit (around_of topic)) y r
+        → Steps t o p (run_unit (around_of topic) (run_of run)) y r
+    run-domain h k g = rw h (when _ _ _ (is-yes is_name k) g)
 
-      module _ {b : Bool} (h : (a && eqb y.code 1) ≡ false) (e₂ : b ≡ U.of_units (run_of run)) where
-        pub run-measure : (b && eqb y.code 1) ≡ true → Steps t o p (unit_unit (around_of topic)) y r
-            → Steps t o p (run_unit (around_of topic) (run_of run)) y r
-        run-measure k g = unless _ _ _ (at_name (U.of_domains (run_of run)) false (rw e₁ at h))
-            (when _ _ _ (at_name (U.of_units (run_of run)) true (rw e₂ at k)) g)
+    pub run-measure : run ≡ Units → y.code ≡ 1 → Steps t o p (unit_unit (around_of topic)) y r
+        → Steps t o p (run_unit (around_of topic) (run_of run)) y r
+    run-measure h k g = rw h (unless _ (domain_unit (around_of topic)) _ (λ _ _. refl)
+        (when _ _ _ (is-yes is_name k) g))
 
-        pub run-close : (b && eqb y.code 1) ≡ false → Steps t o p (body_end (around_of topic)) y r
-            → Steps t o p (run_unit (around_of topic) (run_of run)) y r
-        run-close k g = unless _ _ _ (at_name (U.of_domains (run_of run)) false (rw e₁ at h))
-            (unless _ _ _ (at_name (U.of_units (run_of run)) false (rw e₂ at k)) g)
+  pub run-close : (run : Run) → (run ≡ Domains → y.code ≡ 1 → ⊥) → (run ≡ Units → y.code ≡ 1 → ⊥)
+      → Steps t o p (body_end (around_of topic)) y r → Steps t o p (run_unit (around_of topic) (run_of run)) y r
+  run-close Nothing h k g =
+      unless _ (domain_unit (around_of topic)) _ (λ _ _. refl)
+      (unless _ (unit_unit (around_of topic)) _ (λ _ _. refl) g)
+  run-close Domains h k g =
+      unless _ _ _ (is-no is_name (h refl)) (unless _ (unit_unit (around_of topic)) _ (λ _ _. refl) g)
+  run-close Units h k g =
+      unless _ (domain_unit (around_of topic)) _ (λ _ _. refl) (unless _ _ _ (is-no is_name (k refl)) g)
 
   module _ (first : Bool) where
-    pub members-open : (first && eqb y.code 75) ≡ true
+    pub members-open : first ≡ true → y.code ≡ 75
         → Steps t o p (word_step (ascii "ATTRIBUTE") (U.members (around_of topic) U.a_member)) y r
         → Steps t o p (member_unit (around_of topic) (behind_of first)) y r
     unfolding member_unit
-    members-open h g = when _ _ _ (at-attribute first true h) g
+    members-open f k g = when _ _ _ (at-attribute first true (rw (f, k))) g
 
-    pub members-attribute : (first && eqb y.code 75) ≡ false → y.code ≡ 1 → Steps t o p
-        (attribute_unit (around_of topic)) y r → Steps t o p (member_unit (around_of topic) (behind_of first)) y r
+    pub members-attribute : y.code ≡ 1 → Steps t o p (attribute_unit (around_of topic)) y r
+        → Steps t o p (member_unit (around_of topic) (behind_of first)) y r
     unfolding member_unit
-    members-attribute h k g = unless _ _ _ (at-attribute first false h) (when _ _ _ (is-yes is_name k) g)
+    members-attribute k g = unless _ _ _ (at-attribute first false (both-fail first y.code 75 (λ _. omega arith)))
+        (when _ _ _ (is-yes is_name k) g)
 
-    pub members-close : (first && eqb y.code 75) ≡ false → (y.code ≡ 1 → ⊥)
+    pub members-close : (first ≡ true → y.code ≡ 75 → ⊥) → (y.code ≡ 1 → ⊥)
         → Steps t o p (end_unit ";" (U.body (around_of topic) U.no_run)) y r
         → Steps t o p (member_unit (around_of topic) (behind_of first)) y r
     unfolding member_unit
-    members-close h k g = unless _ _ _ (at-attribute first false h) (unless _ _ _ (is-no is_name k) g)
+    members-close h k g = unless _ _ _ (at-attribute first false (both-fail first y.code 75 h))
+        (unless _ _ _ (is-no is_name k) g)
 
 -- ---- the rest
-module _ {t o : List ℕ} {y : Symbol} {r : Step} (topic : Bool) where
-  pub topic-ends : topic ≡ true → Steps t o o (end_unit ";" (U.body U.in_model U.no_run)) y r
-      → Steps t o o (body_end (around_of topic)) y r
-  unfolding body_end
-  topic-ends h g = rw h g
-
-  pub model-ends : topic ≡ false → Steps t o o (end_unit "." U.over) y r → Steps t o o (body_end (around_of topic)) y r
-  unfolding body_end
-  model-ends h g = rw h g
-
 module _ {t : List ℕ} {y : Symbol} where
   pub language-there : {n c e : Symbol} → y.code ≡ 40 → n ≡ passed t y 40 → c ≡ passed t n 1 → e ≡ passed t c 41
       → Reads t language anything y e
@@ -430,29 +440,3 @@ module _ {t : List ℕ} {y : Symbol} where
 
   pub language-absent : (y.code ≡ 40 → ⊥) → Reads t language anything y y
   language-absent k = if-false (is_mark "(") _ _ (is-no (is-mark "(" (omega arith) (omega arith)) k) (stay none tt)
-
-module _ {t o p : List ℕ} {y : Symbol} {r : Step} (w : Where) where
-  pub unit-at : (v : Where) → w ≡ v → Steps t o p (unit_at (place_of v)) y r → Steps t o p (unit_at (place_of w)) y r
-  unit-at v e g = rw e g
-
-module _ {t o p : List ℕ} {y : Symbol} {r : Step} where
-  pub at-start : Steps t o p header_unit y r → Steps t o p (unit_at U.start) y r
-  unfolding unit_at
-  at-start g = g
-
-  pub at-header : Steps t o p model_unit y r → Steps t o p (unit_at U.after_header) y r
-  unfolding unit_at
-  at-header g = g
-
-  pub at_body : (a : U.Around) (b : U.Run) → Steps t o p (body_unit a b) y r → Steps t o p (unit_at (U.body a b)) y r
-  unfolding unit_at
-  at_body a b g = g
-
-  pub at-members : (a : U.Around) (b : U.Behind) → Steps t o p (member_unit a b) y r
-      → Steps t o p (unit_at (U.members a b)) y r
-  unfolding unit_at
-  at-members a b g = g
-
-  pub at-over : Steps t o p last_step y r → Steps t o p (unit_at U.over) y r
-  unfolding unit_at
-  at-over g = g

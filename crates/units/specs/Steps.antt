@@ -1,5 +1,6 @@
 -- Units as the code hands them on, and what it promises of the units of the rules.
 use Rattle.std.specs.Prelude.{◌≡◌, Bool, true, false, not, cond, ◌&&◌, List, ℕ, ◌≤◌, length, eqb}
+use Rattle.std.specs.Prelude.{Result as code·Result, Ok, Err}
 use Rattle.std.proofs.Math.Option.{Option, none, some}
 use Prim.Native.Char.{Char}
 use Rattle.rules.specs.Names as Names
@@ -23,8 +24,11 @@ use Rattle.units.specs.declared.Head.{Head}
 use Rattle.units.specs.declared.Unit as code
 use Rattle.units.specs.declared.Unit.TheVariants.{Header, Model, Topic, Class, Domain, Attribute, Measure}
 use Rattle.units.specs.declared.Unit.TheVariants.{Close, Mark}
-use Rattle.units.specs.declared.Step.{Step}
-use Rattle.units.specs.declared.Step.TheVariants.{Read, Unread}
+use Rattle.units.specs.declared.UnitRead.{UnitRead}
+
+-- what reading a unit gives: the unit, or the symbol that keeps it from being read
+abbrev pub Step : Type 0
+Step = code·Result UnitRead Symbol
 
 -- what the flags of a place say
 abbrev pub around_of : Bool → U.Around
@@ -109,12 +113,13 @@ IsAny o p (some x) u = Is o p x u
 
 -- a symbol that, taken as a faulty one, is the fault f at the place k of the text
 abbrev pub UnreadAt : List ℕ → Fault → ℕ → Step → Type 0
-UnreadAt t f k r = (y : Symbol) × (r ≡ Unread y) × (faulty_as y.refusal y ≡ cut t (fault_at f k)) × (k ≤ length t)
+UnreadAt t f k r = (y : Symbol) × (r ≡ Err y) × (faulty_as y.refusal y ≡ cut t (fault_at f k)) × (k ≤ length t)
 
 -- a unit, where the next one stands, and the first symbol behind it; or the refusal
 abbrev pub StepIs : List ℕ → List ℕ → List ℕ → Result U.Step → Step → Type 0
 StepIs t o p (done q z) r =
-    (u : code.Unit) × (r ≡ Read (where_of q.next) u (cut t (symbol_at t q.behind))) × IsAny o p q.unit u
+    (u : code.Unit) × (r ≡ Ok (record { at = where_of q.next; unit = u; next = cut t (symbol_at t q.behind) }))
+    × IsAny o p q.unit u
 StepIs t o p (refused f k) r = UnreadAt t f k r
 
 -- from the symbol y on, the code steps as R does; a faulty y is the refusal
@@ -124,4 +129,4 @@ pub record Steps (t o p : List ℕ) (R : Reader U.Step) (y : Symbol) (r : Step) 
 
 -- what the last symbol of a unit, y, makes of it
 abbrev pub ended_of : List ℕ → Symbol → ℕ → code.Unit → Where → Step
-ended_of t y k u w = cond (eqb y.code k) (Read w u (next_of t y.next)) (Unread y)
+ended_of t y k u w = cond (eqb y.code k) (Ok (record { at = w; unit = u; next = next_of t y.next })) (Err y)

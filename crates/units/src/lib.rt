@@ -2,19 +2,19 @@
 // as a faulty symbol, which no reader takes; the unit's end finds it.
 #![tactic(auto)]
 
-ghost use Rattle.std.specs.Prelude.{◌≡◌, true, cond, not, ◌&&◌, ◌||◌, List, ℕ, ◌*◌, ◌≤◌, length, eqb};
+ghost use Rattle.std.specs.Prelude.{◌≡◌, true, cond, ◌||◌, List, ℕ, ◌*◌, ◌≤◌, length, eqb};
 ghost use Rattle.rules.specs.Names.{sort_number};
 ghost use Rattle.rules.specs.Units.{header_unit, model_unit, topic_unit, class_sort, class_unit, domain_unit};
 ghost use Rattle.rules.specs.Units.{unit_unit};
-ghost use Rattle.rules.specs.Units.{attribute_unit, end_unit, of_domains, of_units, body_end, body_unit, member_unit};
+ghost use Rattle.rules.specs.Units.{attribute_unit, end_unit, body_end, body_unit, member_unit};
 ghost use Rattle.rules.specs.Units.{unit_at};
 ghost use Rattle.readers.specs.Reads.{Held, Reads};
 ghost use Rattle.units.specs.Steps.{around_of, run_of, behind_of, place_of, end_mark, language, anything};
 ghost use Rattle.units.specs.Steps.{run_unit, Steps, ended_of};
 
-use ground::{Name, sorts};
+use ground::{Name, Reference, sorts};
 use parts::types::Written;
-use parts::{Optional, Owner, Properties};
+use parts::{Owner, Properties};
 use readers::{expect, name_of};
 use symbols::Symbol;
 
@@ -45,20 +45,21 @@ pub struct ModelHead {
     pub version: Name,
 }
 
-// Of a class, a structure or a unit of numbers, by the number of its sort.
+// Of a class, a structure or a unit of numbers, by the number of its sort: fixed memory, the rows of the index of
+// definitions, holds sorts as numbers.
 #[derive(Clone, Copy)]
 pub struct Head {
     pub sort: usize,
     pub name: Name,
     pub properties: Properties,
-    pub base: Optional,
+    pub base: Option<Reference>,
 }
 
 #[derive(Clone, Copy)]
 pub struct DomainUnit {
     pub name: Name,
     pub properties: Properties,
-    pub base: Optional,
+    pub base: Option<Reference>,
     pub written: Written,
 }
 
@@ -84,31 +85,30 @@ pub enum Unit {
     Mark,
 }
 
-// A unit, where the next one stands and its first symbol; or the symbol that keeps it from being read. Where the next
-// one stands comes first, beside the variant's own byte: behind the unit it would leave bytes empty before the symbol.
+// A unit, where the next one stands and its first symbol. Where the next one stands comes first: behind the unit it
+// would leave bytes empty before the symbol.
 #[derive(Clone, Copy)]
-pub enum Step {
-    Read { at: Where, unit: Unit, next: Symbol },
-    Unread(Symbol),
+pub struct UnitRead {
+    pub at: Where,
+    pub unit: Unit,
+    pub next: Symbol,
 }
 
-// The unit's last symbol, which is to have the code.
-fn ended(text: &[u8], y: Symbol, code: u32, unit: Unit, at: Where) -> Step
+// The unit's last symbol, which is to have the code; else it is the symbol that keeps the unit from being read.
+fn ended(text: &[u8], y: Symbol, code: u32, unit: Unit, at: Where) -> Result<UnitRead, Symbol>
     ensures { result ≡ ended_of text.now y code unit at }
 {
-    if y.code == code {
-        let c = y.next;
-        let next = c.next(text);
-        return Step::Read {
-            at: at,
-            unit: unit,
-            next: next,
-        };
+    if y.code != code {
+        return Err(y);
     }
-    Step::Unread(y)
+    Ok(UnitRead {
+        at,
+        unit,
+        next: y.next.next(text),
+    })
 }
 
-fn header(text: &[u8], y: Symbol) -> Step
+fn header(text: &[u8], y: Symbol) -> Result<UnitRead, Symbol>
     ensures { (o : List ℕ) → Steps text.now o o header_unit y result }
 {
     let number = expect(text, y, readers::INTERLIS);
@@ -129,7 +129,7 @@ fn language_part(text: &[u8], y: Symbol) -> Symbol
     y
 }
 
-fn model(text: &[u8], y: Symbol) -> Step
+fn model(text: &[u8], y: Symbol) -> Result<UnitRead, Symbol>
     ensures { (o : List ℕ) → Steps text.now o o model_unit y result }
 {
     let name = expect(text, y, readers::MODEL);
@@ -151,7 +151,7 @@ fn model(text: &[u8], y: Symbol) -> Step
     ended(text, end, readers::EQUALS, Unit::Model(head), at)
 }
 
-fn topic(text: &[u8], y: Symbol) -> Step
+fn topic(text: &[u8], y: Symbol) -> Result<UnitRead, Symbol>
     ensures { (o : List ℕ) → Steps text.now o o topic_unit y result }
 {
     let name = expect(text, y, readers::TOPIC);
@@ -162,15 +162,6 @@ fn topic(text: &[u8], y: Symbol) -> Step
     };
     let unit = Unit::Topic(name_of(name));
     ended(text, end, readers::EQUALS, unit, at)
-}
-
-fn is_class(code: u32) -> bool
-    ensures { result ≡ (eqb code 69 || eqb code 70) }
-{
-    if code == readers::CLASS {
-        return true;
-    }
-    code == readers::STRUCTURE
 }
 
 fn class_sort(structure: bool) -> usize
@@ -184,110 +175,105 @@ fn class_sort(structure: bool) -> usize
 }
 
 // CLASS or STRUCTURE, which is y.
-fn class(text: &[u8], y: Symbol, in_topic: bool) -> Step
+fn class(text: &[u8], y: Symbol, in_topic: bool) -> Result<UnitRead, Symbol>
     requires { Held text.now y }
     ensures { (o : List ℕ) → (eqb y.code 69 || eqb y.code 70) ≡ true
         → Steps text.now o o (class_unit (around_of in_topic)) y result }
 {
     let name = expect(text, y, y.code);
     let behind = expect(text, name, readers::NAME);
-    let p = parts::read_properties(text, behind, Owner::Definition);
-    let behind = p.next;
-    let b = parts::read_extends(text, behind);
-    let properties = p.properties;
-    let base = b.reference;
+    let properties = parts::read_properties(text, behind, Owner::Definition);
+    let base = parts::read_extends(text, properties.next);
     let head = Head {
         sort: class_sort(y.code == readers::STRUCTURE),
         name: name_of(name),
-        properties: properties,
-        base: base,
+        properties: properties.value,
+        base: base.value,
     };
     let at = Where::Members {
         topic: in_topic,
         first: true,
     };
-    let end = b.next;
-    ended(text, end, readers::EQUALS, Unit::Class(head), at)
+    ended(text, base.next, readers::EQUALS, Unit::Class(head), at)
 }
 
-fn domain(text: &[u8], scratch: &mut [u8], y: Symbol, in_topic: bool) -> Step
+fn domain(text: &[u8], scratch: &mut [u8], y: Symbol, in_topic: bool) -> Result<UnitRead, Symbol>
     requires held { Held text.now y }
     requires text_in_bounds { 3 * length text.now ≤ length scratch.old }
     ensures { Steps text.now scratch.old scratch.new
         (domain_unit (around_of in_topic)) y result }
 {
     let behind = expect(text, y, readers::NAME);
-    let p = parts::read_properties(text, behind, Owner::Definition);
-    let behind = p.next;
-    let b = parts::read_extends(text, behind);
-    let behind = b.next;
-    let first = expect(text, behind, readers::EQUALS);
-    let properties = p.properties;
-    let base = b.reference;
-    let w = parts::types::read_written(text, scratch, first, parts::is_given(base), false);
-    let written = w.written;
+    let properties = parts::read_properties(text, behind, Owner::Definition);
+    let base = parts::read_extends(text, properties.next);
+    let first = expect(text, base.next, readers::EQUALS);
+    let written = parts::types::read_written(text, scratch, first, base.value.is_some(), false);
     let unit = DomainUnit {
         name: name_of(y),
-        properties: properties,
-        base: base,
-        written: written,
+        properties: properties.value,
+        base: base.value,
+        written: written.value,
     };
     let at = Where::Body {
         topic: in_topic,
         run: Run::Domains,
     };
-    let end = w.next;
-    ended(text, end, readers::SEMICOLON, Unit::Domain(unit), at)
+    ended(
+        text,
+        written.next,
+        readers::SEMICOLON,
+        Unit::Domain(unit),
+        at,
+    )
 }
 
-fn measure(text: &[u8], y: Symbol, in_topic: bool) -> Step
+fn measure(text: &[u8], y: Symbol, in_topic: bool) -> Result<UnitRead, Symbol>
     requires { Held text.now y }
     ensures { (o : List ℕ) → Steps text.now o o (unit_unit (around_of in_topic)) y result }
 {
     let behind = expect(text, y, readers::NAME);
-    let p = parts::read_properties(text, behind, Owner::Measure);
-    let behind = p.next;
-    let b = parts::read_extends(text, behind);
-    let properties = p.properties;
-    let base = b.reference;
+    let properties = parts::read_properties(text, behind, Owner::Measure);
+    let base = parts::read_extends(text, properties.next);
     let head = Head {
         sort: sorts::UNIT,
         name: name_of(y),
-        properties: properties,
-        base: base,
+        properties: properties.value,
+        base: base.value,
     };
     let at = Where::Body {
         topic: in_topic,
         run: Run::Units,
     };
-    let end = b.next;
-    ended(text, end, readers::SEMICOLON, Unit::Measure(head), at)
+    ended(text, base.next, readers::SEMICOLON, Unit::Measure(head), at)
 }
 
-fn attribute(text: &[u8], scratch: &mut [u8], y: Symbol, in_topic: bool) -> Step
+fn attribute(text: &[u8], scratch: &mut [u8], y: Symbol, in_topic: bool) -> Result<UnitRead, Symbol>
     requires held { Held text.now y }
     requires text_in_bounds { 3 * length text.now ≤ length scratch.old }
     ensures { Steps text.now scratch.old scratch.new
         (attribute_unit (around_of in_topic)) y result }
 {
     let behind = expect(text, y, readers::NAME);
-    let p = parts::read_properties(text, behind, Owner::Attribute);
-    let behind = p.next;
-    let first = expect(text, behind, readers::COLON);
-    let properties = p.properties;
-    let w = parts::types::read_written(text, scratch, first, properties.extended, true);
-    let written = w.written;
+    let properties = parts::read_properties(text, behind, Owner::Attribute);
+    let first = expect(text, properties.next, readers::COLON);
+    let extended = properties.value.extended;
+    let written = parts::types::read_written(text, scratch, first, extended, true);
     let unit = AttributeUnit {
         name: name_of(y),
-        properties: properties,
-        written: written,
+        properties: properties.value,
+        written: written.value,
     };
     let at = Where::Members {
         topic: in_topic,
         first: false,
     };
-    let end = w.next;
-    ended(text, end, readers::SEMICOLON, Unit::Attribute(unit), at)
+    ended(
+        text,
+        written.next,
+        readers::SEMICOLON,
+        Unit::Attribute(unit),
+        at,
+    )
 }
 
 // Behind END and the name: the model's END is the last.
@@ -301,7 +287,7 @@ fn end_mark(last: bool) -> u32
     }
 }
 
-fn close(text: &[u8], y: Symbol, last: bool, at: Where) -> Step
+fn close(text: &[u8], y: Symbol, last: bool, at: Where) -> Result<UnitRead, Symbol>
     ensures { (o : List ℕ) → Steps text.now o o (end_unit (end_mark last) (place_of at)) y result }
 {
     let name = expect(text, y, readers::END);
@@ -311,7 +297,7 @@ fn close(text: &[u8], y: Symbol, last: bool, at: Where) -> Step
 }
 
 // A topic ends with `;`, the model with `.`.
-fn body_end(text: &[u8], y: Symbol, in_topic: bool) -> Step
+fn body_end(text: &[u8], y: Symbol, in_topic: bool) -> Result<UnitRead, Symbol>
     ensures { (o : List ℕ) → Steps text.now o o (body_end (around_of in_topic)) y result }
 {
     if in_topic {
@@ -324,115 +310,92 @@ fn body_end(text: &[u8], y: Symbol, in_topic: bool) -> Step
     close(text, y, true, Where::Over)
 }
 
-fn opens_topic(code: u32, in_topic: bool) -> bool
-    ensures { result ≡ (not in_topic && eqb code 68) }
-{
-    if in_topic {
-        return false;
-    }
-    code == readers::TOPIC
-}
-
-// Whether a symbol that only may stand where `may` says so has the code.
-fn allowed(may: bool, code: u32, wanted: u32) -> bool
-    ensures { result ≡ (may && eqb code wanted) }
-{
-    if may {
-        return code == wanted;
-    }
-    false
-}
-
-fn of_domains(run: Run) -> bool
-    ensures { result ≡ of_domains (run_of run) }
-{
-    match run {
-        Run::Nothing => false,
-        Run::Domains => true,
-        Run::Units => false,
-    }
-}
-
-fn of_units(run: Run) -> bool
-    ensures { result ≡ of_units (run_of run) }
-{
-    match run {
-        Run::Nothing => false,
-        Run::Domains => false,
-        Run::Units => true,
-    }
-}
-
 // A unit that begins with no word of its own, by the run that is open, or the end.
-fn run_unit(text: &[u8], scratch: &mut [u8], y: Symbol, in_topic: bool, run: Run) -> Step
+fn run_unit(
+    text: &[u8],
+    scratch: &mut [u8],
+    y: Symbol,
+    in_topic: bool,
+    run: Run,
+) -> Result<UnitRead, Symbol>
     requires held { Held text.now y }
     requires text_in_bounds { 3 * length text.now ≤ length scratch.old }
     ensures { Steps text.now scratch.old scratch.new
         (run_unit (around_of in_topic) (run_of run)) y result }
 {
-    if allowed(of_domains(run), y.code, readers::NAME) {
-        return domain(text, scratch, y, in_topic);
+    match run {
+        Run::Domains if y.code == readers::NAME => domain(text, scratch, y, in_topic),
+        Run::Units if y.code == readers::NAME => measure(text, y, in_topic),
+        _ => body_end(text, y, in_topic),
     }
-    if allowed(of_units(run), y.code, readers::NAME) {
-        return measure(text, y, in_topic);
-    }
-    body_end(text, y, in_topic)
 }
 
-fn body_unit(text: &[u8], scratch: &mut [u8], y: Symbol, in_topic: bool, run: Run) -> Step
+fn body_unit(
+    text: &[u8],
+    scratch: &mut [u8],
+    y: Symbol,
+    in_topic: bool,
+    run: Run,
+) -> Result<UnitRead, Symbol>
     requires held { Held text.now y }
     requires text_in_bounds { 3 * length text.now ≤ length scratch.old }
     ensures { Steps text.now scratch.old scratch.new
         (body_unit (around_of in_topic) (run_of run)) y result }
 {
-    if opens_topic(y.code, in_topic) {
-        return topic(text, y);
+    match y.code {
+        readers::TOPIC if !in_topic => topic(text, y),
+        readers::CLASS | readers::STRUCTURE => class(text, y, in_topic),
+        readers::DOMAIN => {
+            let at = Where::Body {
+                topic: in_topic,
+                run: Run::Domains,
+            };
+            ended(text, y, readers::DOMAIN, Unit::Mark, at)
+        }
+        readers::UNIT => {
+            let at = Where::Body {
+                topic: in_topic,
+                run: Run::Units,
+            };
+            ended(text, y, readers::UNIT, Unit::Mark, at)
+        }
+        _ => run_unit(text, scratch, y, in_topic, run),
     }
-    if is_class(y.code) {
-        return class(text, y, in_topic);
-    }
-    if y.code == readers::DOMAIN {
-        let at = Where::Body {
-            topic: in_topic,
-            run: Run::Domains,
-        };
-        return ended(text, y, readers::DOMAIN, Unit::Mark, at);
-    }
-    if y.code == readers::UNIT {
-        let at = Where::Body {
-            topic: in_topic,
-            run: Run::Units,
-        };
-        return ended(text, y, readers::UNIT, Unit::Mark, at);
-    }
-    run_unit(text, scratch, y, in_topic, run)
 }
 
-fn member_unit(text: &[u8], scratch: &mut [u8], y: Symbol, in_topic: bool, first: bool) -> Step
+fn member_unit(
+    text: &[u8],
+    scratch: &mut [u8],
+    y: Symbol,
+    in_topic: bool,
+    first: bool,
+) -> Result<UnitRead, Symbol>
     requires held { Held text.now y }
     requires text_in_bounds { 3 * length text.now ≤ length scratch.old }
     ensures { Steps text.now scratch.old scratch.new
         (member_unit (around_of in_topic) (behind_of first)) y result }
 {
-    if allowed(first, y.code, readers::ATTRIBUTE) {
-        let at = Where::Members {
-            topic: in_topic,
-            first: false,
-        };
-        return ended(text, y, readers::ATTRIBUTE, Unit::Mark, at);
+    match y.code {
+        readers::ATTRIBUTE if first => {
+            let at = Where::Members {
+                topic: in_topic,
+                first: false,
+            };
+            ended(text, y, readers::ATTRIBUTE, Unit::Mark, at)
+        }
+        readers::NAME => attribute(text, scratch, y, in_topic),
+        _ => {
+            let at = Where::Body {
+                topic: in_topic,
+                run: Run::Nothing,
+            };
+            close(text, y, false, at)
+        }
     }
-    if y.code == readers::NAME {
-        return attribute(text, scratch, y, in_topic);
-    }
-    let at = Where::Body {
-        topic: in_topic,
-        run: Run::Nothing,
-    };
-    close(text, y, false, at)
 }
 
 // The unit that stands at y. The scratch has three bytes for a byte of text.
-pub fn read_unit(text: &[u8], scratch: &mut [u8], at: Where, y: Symbol) -> Step
+pub fn read_unit(text: &[u8], scratch: &mut [u8], at: Where, y: Symbol) -> Result<UnitRead, Symbol>
     requires held { Held text.now y }
     requires text_in_bounds { 3 * length text.now ≤ length scratch.old }
     ensures { Steps text.now scratch.old scratch.new
@@ -441,8 +404,8 @@ pub fn read_unit(text: &[u8], scratch: &mut [u8], at: Where, y: Symbol) -> Step
     match at {
         Where::Start => header(text, y),
         Where::AfterHeader => model(text, y),
-        Where::Body { topic: t, run: r } => body_unit(text, scratch, y, t, r),
-        Where::Members { topic: t, first: f } => member_unit(text, scratch, y, t, f),
+        Where::Body { topic, run } => body_unit(text, scratch, y, topic, run),
+        Where::Members { topic, first } => member_unit(text, scratch, y, topic, first),
         Where::Over => ended(text, y, readers::STOP, Unit::Mark, Where::Over),
     }
 }

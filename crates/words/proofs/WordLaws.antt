@@ -1,22 +1,20 @@
 -- The reserved words: a word's code is the one in its row.
-use mathlib.Core.Path.{◌≡◌, refl, sym, ap, ◌∙◌, subst⁻¹}
+use mathlib.Core.Path.{◌≡◌, refl, sym, ap, ◌∙◌}
 use mathlib.Core.Logic.{◌⊎◌, inl, inr}
 use mathlib.Core.Bool.{Bool, true, false, cond, not, ◌&&◌, ◌||◌}
 use mathlib.Core.List.{List, [], ◌∷◌, ◌++◌}
-use Prim.Native.Nat.{ℕ, suc, ◌+◌, ◌-◌, ◌≤◌, ◌<◌}
-use native.Mathlib.Nat.{add-zero}
-use native.Mathlib.Numerals.{add-one}
+use Prim.Native.Nat.{ℕ, ◌+◌, ◌-◌, ◌≤◌, ◌<◌}
 use native.Mathlib.Omega.{arith}
-use lib.ListN.{length, drop, get_or, length-drop, length-append}
-use lib.Seq.{take_at, drop_at, drop-drop, get_or-drop, get_or-take}
-use lib.Dec.{eqb, leb, ltb}
-use borrow.Author.Tests.{eqb-true, eq-eqb, le-ltb, lt-leb}
+use lib.ListN.{length, take, drop, get_or, length-drop, length-append}
+use lib.Seq.{take_at, drop_at, take-length, get_or-drop, get_or-take}
+use lib.Pointwise.{pointwise}
+use lib.Dec.{eqb, leb}
+use borrow.Author.Tests.{eqb-true, eq-eqb, lt-leb}
 use Rattle.rules.specs.Bytes.{part, same, is_one_of}
 use Rattle.rules.specs.Reserved.{forms, table}
 use Rattle.rules.proofs.Tests.{never, contra, split, or_split}
-use Rattle.rules.proofs.ByteLaws.{same-eq}
+use Rattle.rules.proofs.ByteLaws.{same-eq, same_refl, same-sym}
 use Rattle.ground.proofs.TableLaws.{test, second, Beside, is_key_of, beside}
-use Rattle.ground.proofs.ScanLaws.{drop-tail}
 use Rattle.words.specs.Words.{position, word_code, rows, are_long, code_among}
 use Rattle.rules.proofs.PartLaws.{length_part}
 
@@ -103,83 +101,84 @@ no_last t at n z h l =
     get_or-take n (drop at t) (n - 1) 0 (omega arith) ∙ rw m at (get_or-drop at t (n - 1) 0) in
     no_word (part t at n) (λ w. leb (get_or w (length w - 1) 0) 90) refl (rw (length_part t at n h, e) (lt-leb _ _ l))
 
--- a length below hi, from lo on, that no reserved word has
-pub no_length : (lo hi : ℕ) (keys : List (List ℕ)) (t : List ℕ) (at n : ℕ)
-    → every (λ w. is_key_of (length w) keys || (ltb (length w) lo || leb hi (length w))) (forms ++ table) ≡ true
-    → at + n ≤ length t → lo ≤ n → n < hi → Beside keys n → 1 ≡ word_code (part t at n)
-no_length lo hi keys t at n a h k l r =
-    no_word (part t at n) (λ w. is_key_of (length w) keys || (ltb (length w) lo || leb hi (length w))) a
-    (rw (length_part t at n h, beside n keys r, le-ltb n lo k, lt-leb hi n l))
-
 those-long : (n : ℕ) (l : List (List ℕ)) → are_long n (those (λ w. eqb (length w) n) l) ≡ true
 those-long n [] = refl
 those-long n (w ∷ l) = let go = those-long n l in test (eqb (length w) n) (λ e. rw (e, e) go) (λ e. rw e go)
 
 -- a word's code, found in the rows of its length
-pub word-found : (t list : List ℕ) (at len n r : ℕ) → at + len ≤ length t → len ≡ n
-    → list ≡ rows (words_of n forms table)
-    → ((l : List (List ℕ)) → list ≡ rows l → are_long len l ≡ true → r ≡ code_among (part t at len) l)
-    → r ≡ word_code (part t at len)
-word-found t list at len n r h e q f =
-    let g : are_long len (words_of n forms table)
-    ≡ true = subst⁻¹ (λ (x : ℕ). are_long x (words_of n forms table) ≡ true) e
-    (those-long n (forms ++ those (λ w. not (is_one_of w forms)) table)) in
-    f (words_of n forms table) q g ∙ code_of (part t at len) n (length_part t at len h ∙ e)
+pub word-found : (b list : List ℕ) (n r : ℕ) → length b ≡ n → list ≡ rows (words_of n forms table)
+    → ((l : List (List ℕ)) → list ≡ rows l → are_long (length b) l ≡ true → r ≡ code_among b l) → r ≡ word_code b
+word-found b list n r e q f =
+    let g : are_long (length b) (words_of n forms table)
+    ≡ true = rw e (those-long n (forms ++ those (λ w. not (is_one_of w forms)) table)) in
+    f (words_of n forms table) q g ∙ code_of b n e
 
--- a word of n bytes
-pub code-long : (t : List ℕ) (at len n r : ℕ) → len ≡ n → r ≡ word_code (part t at n) → r ≡ word_code (part t at len)
-code-long t at len n r e q = subst⁻¹ (λ (x : ℕ). r ≡ word_code (part t at x)) e q
+-- a word of a length that no reserved word has
+pub no_length : (b : List ℕ) (keys : List (List ℕ)) → every (λ w. is_key_of (length w) keys) (forms ++ table) ≡ true
+    → Beside keys (length b) → 1 ≡ word_code b
+no_length b keys a k = no_word b (λ w. is_key_of (length w) keys) a (beside (length b) keys k)
 
--- ---- rows: i bytes of the list are passed, and the words r are left of l
-pub record Left (b list : List ℕ) (n i : ℕ) (l r : List (List ℕ)) : Type 0 where
-  pub are : drop i list ≡ rows r
-  pub long : are_long n r ≡ true
+-- ---- rows: of the words l those of r are left, in the bytes s
+pub record Left (b : List ℕ) (l : List (List ℕ)) (s : List ℕ) (r : List (List ℕ)) : Type 0 where
+  pub are : s ≡ rows r
+  pub long : are_long (length b) r ≡ true
   pub alike : is_one_of b l ≡ is_one_of b r
 
-module _ (b list : List ℕ) (n i : ℕ) (l : List (List ℕ)) where
-  word-long : (w : List ℕ) (r : List (List ℕ)) → Left b list n i l (w ∷ r) → length w ≡ n
-  word-long w r x = eqb-true (length w) n (split {x = eqb (length w) n} x.long).0
+pointwise-same : (m n : List ℕ) → pointwise eqb m n ≡ same m n
+pointwise-same [] [] = refl
+pointwise-same [] (b ∷ n) = refl
+pointwise-same (a ∷ m) [] = refl
+pointwise-same (a ∷ m) (b ∷ n) = ap (λ r. eqb a b && r) (pointwise-same m n)
 
-  length-left : (w : List ℕ) (r : List (List ℕ)) → Left b list n i l (w ∷ r)
-      → length list - i ≡ suc (length w + length (rows r))
-  length-left w r x = sym (length-drop i list) ∙ ap length x.are ∙ ap suc (length-append w (rows r))
+-- the row that the bytes s begin with
+module _ (b : List ℕ) (l : List (List ℕ)) (s row rest : List ℕ) (e : s ≡ row ++ rest)
+    (n : length row ≡ length b + 1) where
+  module _ (w : List ℕ) (r : List (List ℕ)) (x : Left b l s (w ∷ r)) where
+    long : length (word_code w ∷ w) ≡ length b + 1
+    long = omega (arith, eqb-true (length w) (length b) (split {x = eqb (length w) (length b)} x.long).0)
 
-  -- the row that begins at i
-  word_at : (w : List ℕ) (r : List (List ℕ)) → Left b list n i l (w ∷ r) → part list (i + 1) n ≡ w
-  word_at w r x =
-      let e : drop (i + 1) list ≡ w ++ rows r = rw (add-one i) (drop-tail list i x.are) in
-      rw e (take_at w (rows r) n (word-long w r x))
+    both : row ++ rest ≡ (word_code w ∷ w) ++ rows r
+    both = sym e ∙ x.are
 
-  code_at : (w : List ℕ) (r : List (List ℕ)) → Left b list n i l (w ∷ r) → get_or list i 0 ≡ word_code w
-  code_at w r x =
-      let g : get_or (drop i list) 0 0
-      ≡ get_or list i 0 = get_or-drop i list 0 0 ∙ ap (λ (m : ℕ). get_or list m 0) (add-zero i) in
-      sym (rw x.are at g)
+    row_is : row ≡ word_code w ∷ w
+    row_is =
+        sym (take_at row rest (length b + 1) n) ∙ ap (take (length b + 1)) both
+        ∙ take_at (word_code w ∷ w) (rows r) (length b + 1) long
 
-  pub row-found : (r : List (List ℕ)) → i < length list → Left b list n i l r → same b (part list (i + 1) n) ≡ true
-      → get_or list i 0 ≡ code_among b l
-  row-found [] h x p = absurd (omega (arith, ap length x.are, length-drop i list))
-  row-found (w ∷ r) h x p =
-      let q : same b w ≡ true = rw (word_at w r x) at p in
-      rw (code_at w r x, x.alike, q) (ap word_code (sym (same-eq b w q)))
+    rest_is : rest ≡ rows r
+    rest_is =
+        sym (drop_at row rest (length b + 1) n) ∙ ap (drop (length b + 1)) both
+        ∙ drop_at (word_code w ∷ w) (rows r) (length b + 1) long
 
-  pub row_next : (r : List (List ℕ)) → i < length list → Left b list n i l r → same b (part list (i + 1) n) ≡ false
-      → (k : List (List ℕ)) × Left b list n (i + (n + 1)) l k
-  row_next [] h x p = absurd (omega (arith, ap length x.are, length-drop i list))
-  row_next (w ∷ r) h x p =
-      let q : same b w ≡ false = rw (word_at w r x) at p in (
+  some : s ≡ [] → ⊥
+  some z = omega (arith, ap length (sym e ∙ z), length-append row rest)
+
+  -- the word in the row, as the code compares it
+  word_of : pointwise eqb (take (length row - 1) (drop 1 row)) b ≡ same (drop 1 row) b
+  word_of =
+      let f : length (drop 1 row) ≡ length row - 1 = omega (arith, length-drop {A = ℕ}) in
+      rw (← f, take-length) (pointwise-same (drop 1 row) b)
+
+  pub row-found : (r : List (List ℕ)) → Left b l s r
+      → pointwise eqb (take (length row - 1) (drop 1 row)) b ≡ true → get_or row 0 0 ≡ code_among b l
+  row-found [] x q = absurd (some x.are)
+  row-found (w ∷ r) x q =
+      let f : w ≡ b = same-eq w b (rw (row_is w r x) at (sym word_of ∙ q)) in
+      let g : same b w ≡ true = rw f (same_refl b) in
+      rw (row_is w r x, x.alike, g, f)
+
+  pub row_next : (r : List (List ℕ)) → Left b l s r
+      → pointwise eqb (take (length row - 1) (drop 1 row)) b ≡ false → (k : List (List ℕ)) × Left b l rest k
+  row_next [] x q = absurd (some x.are)
+  row_next (w ∷ r) x q =
+      let f : same b w ≡ false = same-sym b w ∙ rw (row_is w r x) at (sym word_of ∙ q) in (
         r,
-        record {
-          are = rw (add-one n, ← drop-drop (suc n) i list, x.are) (drop_at w (rows r) n (word-long w r x));
-          long = second (eqb (length w) n) x.long;
-          alike = x.alike ∙ rw q;
-        },
+        record { are = rest_is w r x; long = second (eqb (length w) (length b)) x.long; alike = x.alike ∙ rw f },
       )
 
-  pub row_fits : (r : List (List ℕ)) → i < length list → Left b list n i l r → n < length list - i
-  row_fits [] h x = absurd (omega (arith, ap length x.are, length-drop i list))
-  row_fits (w ∷ r) h x = omega (arith, length-left w r x, word-long w r x)
-
-  pub rows-done : (r : List (List ℕ)) → length list ≤ i → Left b list n i l r → 1 ≡ code_among b l
-  rows-done [] h x = rw x.alike
-  rows-done (w ∷ r) h x = absurd (omega (arith, length-left w r x))
+pub rows-done : (b : List ℕ) (l r : List (List ℕ)) (s : List ℕ) → Left b l s r → length s < length b + 1
+    → 1 ≡ code_among b l
+rows-done b l [] s x h = rw x.alike
+rows-done b l (w ∷ r) s x h =
+    let n : length w ≡ length b = eqb-true (length w) (length b) (split {x = eqb (length w) (length b)} x.long).0 in
+    absurd (omega (arith, ap length x.are, length-append w (rows r)))

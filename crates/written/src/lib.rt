@@ -2,7 +2,7 @@
 // for them.
 #![tactic(auto)]
 
-ghost use Rattle.std.specs.Prelude.{◌≡◌, false, List, ℕ, ◌+◌, ◌≤◌, length, take, leb, ltb};
+ghost use Rattle.std.specs.Prelude.{◌≡◌, false, List, ℕ, ◌+◌, ◌≤◌, length, take, leb};
 ghost use Rattle.std.proofs.Math.Option.{Option};
 ghost use Rattle.rules.specs.Grammar.{WrittenType};
 ghost use Rattle.rules.specs.Types.{Ty, structure, keeps_unit};
@@ -20,20 +20,12 @@ ghost use Rattle.written.specs.Written.{written_rules, plain_rules, LaidWhen};
 ghost use Rattle.book.specs.Sizes.{head_size};
 
 use enumerations::Size;
-use ground::{Ruling, fine};
-use merging::Laid;
+use ground::Ruling;
 use parts::types::Written;
 use types::Over;
 
-// The size of a type's records, or the rule that it breaks.
-#[derive(Clone, Copy)]
-pub enum Laying {
-    Whole(Size),
-    Broken(Ruling),
-}
-
 // 14 to 17 and 22, but 17 of a written enumeration, which has no unit.
-fn plain_ruling(w: Written, over: Over) -> Ruling
+fn plain_ruling(w: Written, over: Over) -> Result<(), Ruling>
     requires { Sized over.own × Sized over.base }
     ensures { (t : List ℕ) (v : Option WrittenType) (x : Option Def) (b : Ty) → w.meant ≡ any_of v
         → AnyIs (Begins w.place) v → FairOrNone t b
@@ -41,27 +33,21 @@ fn plain_ruling(w: Written, over: Over) -> Ruling
         → over.keeps ≡ keeps_unit (domain_type v x b) b
         → result ≡ ruling_of (plain_rules over.based w.place v x b) }
 {
-    let m = w.meant;
     let place = w.place;
-    let own = over.own;
-    let base = over.base;
-    let r = types::type_ruling(m, place, over.based);
-    if 0 < r.number {
-        return r;
+    types::type_ruling(w.meant, place, over.based)?;
+    if !over.based {
+        return Ok(());
     }
-    if over.based {
-        if fitting::differ(own, base) {
-            return Ruling { number: 16, place };
-        }
-        if types::plain_fits(m, own, base) {
-            if over.keeps {
-                return fine();
-            }
-            return Ruling { number: 22, place };
-        }
-        return Ruling { number: 17, place };
+    if fitting::differ(over.own, over.base) {
+        return Err(Ruling { number: 16, place });
     }
-    fine()
+    if !fitting::fits(over.own, over.base) {
+        return Err(Ruling { number: 17, place });
+    }
+    if !over.keeps {
+        return Err(Ruling { number: 22, place });
+    }
+    Ok(())
 }
 
 // 14 to 17 and 22 of a type over the base's, and its records, behind room for a head where the first `used` bytes end.
@@ -73,7 +59,7 @@ pub fn lay_written(
     w: Written,
     over: Over,
     tables: &mut [u32],
-) -> Laying
+) -> Result<Size, Ruling>
     requires sized { Sized over.own × Sized over.base }
     requires used_in_bounds { (used ≤ length book.old) × (length book.old ≤ 65535) × (length scratch.now ≤ 262144) }
     requires tables_for { TablesFor (length scratch.now) (length book.old) (length tables.old) }
@@ -83,26 +69,14 @@ pub fn lay_written(
         → (over.based ≡ false → b ≡ structure) → Valued (domain_type v x b) over.own
         → Typed text.now (take used book.old) b over.base
         → over.keeps ≡ keeps_unit (domain_type v x b) b
-        → LaidWhen (ltb 0 (ruling_of (written_rules over.based w.place v x b)).number) (ruling_of (written_rules
-        over.based w.place v x b))
+        → LaidWhen (ruling_of (written_rules over.based w.place v x b))
         (type_records (domain_type v x b)) (used + head_size) book.old book.new result }
 {
-    let q = plain_ruling(w, over);
-    if 0 < q.number {
-        return Laying::Broken(q);
-    }
-    let m = w.meant;
-    let l = types::lay(text, book, used, scratch, m, over, tables);
-    match l {
-        Laid::Whole(size) => Laying::Whole(size),
-        Laid::Misfit => {
-            let broken = Ruling {
-                number: 17,
-                place: w.place,
-            };
-            Laying::Broken(broken)
-        }
-    }
+    plain_ruling(w, over)?;
+    types::lay(text, book, used, scratch, w.meant, over, tables).map_err(|_| Ruling {
+        number: 17,
+        place: w.place,
+    })
 }
 
 // 19 of a head and as many bytes behind it, in a buffer of some length.
@@ -111,8 +85,5 @@ pub fn has_room(len: usize, used: usize, bytes: usize) -> bool
     ensures { result ≡ leb (used + head_size + bytes) len }
 {
     let free = len - used;
-    if free < book::HEAD_SIZE {
-        return false;
-    }
-    bytes <= free - book::HEAD_SIZE
+    book::HEAD_SIZE <= free && bytes <= free - book::HEAD_SIZE
 }

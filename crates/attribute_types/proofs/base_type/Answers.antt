@@ -1,9 +1,5 @@
-use Rattle.attribute_types.proofs.UseLaws.{no-type, type-in-place, type-named}
+use Rattle.attribute_types.proofs.UseLaws.{type-in-place, type-named}
 use Rattle.attribute_types.proofs.base_type.Goals as goal
-
-pub returns-then-q-eq0 : goal.returns-then-q-eq0
-returns-then-q-eq0 c =
-    λ t ks ms n total r w l e. no-type t _ ms c.args.q c.if-q-eq0.true
 
 pub returns-then-u-eq0 : goal.returns-then-u-eq0
 returns-then-u-eq0 c =

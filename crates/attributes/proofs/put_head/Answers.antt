@@ -5,27 +5,13 @@ use Rattle.names.specs.Index.{entry}
 use Rattle.rules.specs.Declarations.{attribute_at}
 use Rattle.rules.specs.Book.{number_or}
 use Rattle.rules.specs.Judge.{or_no_def, or_no_attribute, base_of_attribute}
-use Rattle.state.specs.Parts.{index_in, rows_in}
 use Rattle.state.proofs.RoomLaws.{definition-rows, attribute_rows}
 use Rattle.attributes.proofs.HeadLaws.{head-flags, head-form}
 use native.Mathlib.Omega.{arith}
 use Rattle.attributes.proofs.put_head.Goals as goal
 
-pub is_mandatory-m-requires : goal.is_mandatory-m-requires
-unfolding index_in rows_in
-is_mandatory-m-requires c = (
-  attribute_rows c.args.st c.args.work.now c.requires.1 c.args.b.base (omega (arith, c.requires.2.base)),
-  definition-rows c.args.st c.args.work.now c.requires.1 c.args.b.target
-      (omega (arith, c.requires.2.target)),
-)
-
-pub base_number-requires : goal.base_number-requires
-base_number-requires c =
-    (c.requires.3, c.requires.4)
-
-pub returns : goal.returns
-unfolding index_in rows_in
-returns c = (
+pub returns-clause-value : goal.returns-clause-value
+returns-clause-value c = (
   c.flags-f.ensures.1,
   λ t o ks ms h k n p w rs hd g fl e.
       let x =
@@ -35,7 +21,7 @@ returns c = (
       c.requires.2.base c.requires.2.target in (
         head-flags t n p w rs c.args.a g x c.is_mandatory-m.result v c.flags-f.result c.flags-f.ensures.0,
         c.put.ensures
-            ∙ ap (splice c.args.book.now c.args.st.extent.used)
+            ∙ ap (splice c.args.desk.now.book.now c.args.st.extent.used)
             (head-form t n p w rs c.args.a g x c.is_mandatory-m.result v c.flags-f.result c.flags-f.ensures.0
             (number_or (base_of_attribute (attribute_at n.bytes h))) c.base_number.result _ c.head_record-head.ensures
             (c.base_number.ensures ms h k n.bytes fl e)),

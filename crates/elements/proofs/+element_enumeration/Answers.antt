@@ -13,14 +13,14 @@ pub element-returns-then-z-eq-ROUND : goal.element-returns-then-z-eq-ROUND
 element-returns-then-z-eq-ROUND t c =
     let a = c.args in
     branch a.text.now a.nesting c.expect-z.ensures _ _ _ _
-    (rw c.name_of.ensures at c.put_element-end.ensures) _ _ c.put_element-end.auto.scratch
-    c.if-z-eq-ROUND.true c.enumeration.ensures
+    (rw (c.name_record-record.ensures, c.name_of-name.ensures) at c.put_record-end.ensures) _ _
+    c.put_record-end.auto.scratch c.if-z-eq-ROUND.true c.enumeration.ensures
 
 pub element-returns : goal.element-returns
 element-returns t c =
     let a = c.args in
     leaf a.text.now a.nesting c.expect-z.ensures _ _ _ _
-    (rw c.name_of.ensures at c.put_element-end.ensures) c.if-z-eq-ROUND.false
+    (rw (c.name_record-record.ensures, c.name_of-name.ensures) at c.put_record-end.ensures) c.if-z-eq-ROUND.false
 
 pub enumeration-returns-then-nesting-eq0 : goal.enumeration-returns-then-nesting-eq0
 enumeration-returns-then-nesting-eq0 t c =
@@ -31,37 +31,37 @@ pub enumeration-returns-then-z-eq-FINAL : goal.enumeration-returns-then-z-eq-FIN
 enumeration-returns-then-z-eq-FINAL t c =
     let a = c.args in
     whole-final a.text.now a.start a.nesting _ _ _ _ _ _ _ _ c.expect-z.ensures
-    c.put_opening-at.ensures c.put_opening-at.auto.scratch
+    c.put_record-at.ensures c.put_record-at.auto.scratch
     (omega (arith, c.if-nesting-eq0.false)) c.if-z-eq-FINAL.true c.close_final.ensures
 
-pub enumeration-loop-z-init : goal.enumeration-loop-z-init
-enumeration-loop-z-init t c =
+pub enumeration-loop-scratch-init : goal.enumeration-loop-scratch-init
+enumeration-loop-scratch-init t c =
     let a = c.args in
     loop-first a.text.now a.start a.nesting _ a.y _ _ c.requires.held c.expect-z.ensures
 
 pub enumeration-element-e-requires : goal.enumeration-element-e-requires
 enumeration-element-e-requires t c =
-    (omega (arith, c.decreases, c.if-nesting-eq0.false), c.loop-z.invariant.1)
+    (omega (arith, c.decreases, c.if-nesting-eq0.false), c.loop-scratch.invariant.1)
 
-pub enumeration-loop-z-smaller : goal.enumeration-loop-z-smaller
-enumeration-loop-z-smaller t c =
+pub enumeration-loop-scratch-smaller : goal.enumeration-loop-scratch-smaller
+enumeration-loop-scratch-smaller t c =
     let a = c.args in
-    loop-falls a.text.now a.start a.nesting _ _ _ _ _ _ _ _ _ _ c.loop-z.invariant
+    loop-falls a.text.now a.start a.nesting _ _ _ _ _ _ _ _ _ _ c.loop-scratch.invariant
     (omega (arith, c.if-nesting-eq0.false)) c.element-e.ensures
-    c.if-m-eq-COMMA.true c.expect-z-then-m-eq-COMMA.ensures
+    c.if-m-ne-COMMA.false c.expect-z-in-loop-scratch.ensures
 
-pub enumeration-loop-z-preserved : goal.enumeration-loop-z-preserved
-enumeration-loop-z-preserved t c =
+pub enumeration-loop-scratch-preserved : goal.enumeration-loop-scratch-preserved
+enumeration-loop-scratch-preserved t c =
     let a = c.args in
-    loop-on a.text.now a.start a.nesting _ _ _ _ _ _ _ _ _ _ c.loop-z.invariant
+    loop-on a.text.now a.start a.nesting _ _ _ _ _ _ _ _ _ _ c.loop-scratch.invariant
     (omega (arith, c.if-nesting-eq0.false)) c.element-e.ensures
-    c.if-m-eq-COMMA.true c.expect-z-then-m-eq-COMMA.ensures c.element-e.auto.scratch
+    c.if-m-ne-COMMA.false c.expect-z-in-loop-scratch.ensures c.element-e.auto.scratch
 
-pub enumeration-returns-else-m-eq-COMMA : goal.enumeration-returns-else-m-eq-COMMA
-enumeration-returns-else-m-eq-COMMA t c =
+pub enumeration-returns-then-m-ne-COMMA : goal.enumeration-returns-then-m-ne-COMMA
+enumeration-returns-then-m-ne-COMMA t c =
     let a = c.args in
     whole-list a.text.now a.start a.nesting _ _ _ _ _ _ _ _ c.expect-z.ensures
-    c.put_opening-at.ensures c.put_opening-at.auto.scratch
-    (omega (arith, c.if-nesting-eq0.false)) c.if-z-eq-FINAL.false _ _ _ _ _ _ c.loop-z.invariant
+    c.put_record-at.ensures c.put_record-at.auto.scratch
+    (omega (arith, c.if-nesting-eq0.false)) c.if-z-eq-FINAL.false _ _ _ _ _ _ c.loop-scratch.invariant
     c.element-e.ensures c.element-e.auto.scratch
-    c.if-m-eq-COMMA.false c.list_end.ensures
+    c.if-m-ne-COMMA.true c.list_end.ensures

@@ -8,9 +8,9 @@ decreases-element l = 2 * l.nesting + 1
 abbrev pub decreases-enumeration : goal.decreases-enumeration
 decreases-enumeration l = 2 * l.nesting
 
-abbrev pub invariant-enumeration-loop-z : goal.invariant-enumeration-loop-z
-invariant-enumeration-loop-z l =
+abbrev pub invariant-enumeration-loop-scratch : goal.invariant-enumeration-loop-scratch
+invariant-enumeration-loop-scratch l =
     Loop l.text l.start l.nesting l.initial.scratch l.initial.z l.initial.at l.scratch l.z l.at
 
-abbrev pub decreases-enumeration-loop-z : goal.decreases-enumeration-loop-z
-decreases-enumeration-loop-z l = length l.text - l.z.place
+abbrev pub decreases-enumeration-loop-scratch : goal.decreases-enumeration-loop-scratch
+decreases-enumeration-loop-scratch l = length l.text - l.z.place

@@ -3,4 +3,4 @@ use Rattle.elements.proofs.close_final.Goals as goal
 
 pub returns : goal.returns
 returns c =
-    closes-final c.expect-close.ensures c.expect-next.ensures c.put_close.ensures
+    closes-final c.expect-close.ensures c.expect.ensures c.put_close.ensures

@@ -7,4 +7,4 @@ returns-then-y-eq-COLON c =
 
 pub returns : goal.returns
 returns c =
-    ends-plain c.if-y-eq-COLON.false c.expect-next.ensures c.put_close.ensures
+    ends-plain c.if-y-eq-COLON.false c.expect.ensures c.put_close.ensures

@@ -1,7 +1,8 @@
 use native.Mathlib.Omega.{arith}
 use mathlib.Core.Path.{refl, sym, ◌∙◌}
 use Prim.Native.Nat.{◌+◌}
-use Rattle.enumerations.specs.Lists.{nowhere, find_from}
+use Rattle.std.specs.Prelude.{Some, None}
+use Rattle.enumerations.specs.Lists.{find_from}
 use Rattle.enumerations.proofs.ListLaws.{as_written, element-in, more, find-here, find-next, find_none}
 use Rattle.book.specs.Sizes.{element_size}
 use Rattle.enumerations.proofs.find.Goals as goal
@@ -9,36 +10,21 @@ use Rattle.enumerations.proofs.find.Goals as goal
 pub loop-name-init : goal.loop-name-init
 loop-name-init c = λ r q. q
 
-pub written_name-requires : goal.written_name-requires
-written_name-requires c = (element-in _ _ (sym c.is_element.ensures ∙ c.loop-name-test.true)).0
-
-pub overflow_add-result : goal.overflow_add-result
-overflow_add-result c =
-    omega (arith, element-in _ _ (sym c.is_element.ensures ∙ c.loop-name-test.true))
-
 pub returns-then-same_name : goal.returns-then-same_name
 returns-then-same_name c =
     let a = c.args in
-    let e = sym c.is_element.ensures ∙ c.loop-name-test.true in
+    let e = sym c.is_element.ensures.value ∙ c.loop-name-test.true in
     let h = element-in _ _ e in
     let m = rw (as_written c.written_name.ensures) at (sym c.same_name.ensures ∙ c.if-same_name.true) in
-    c.loop-name.invariant (c.loop-name.at + element_size) (more a.s.now c.loop-name.at (c.loop-name.at + 1)
+    c.loop-name.invariant (Some (c.loop-name.at + element_size)) (more a.s.now c.loop-name.at (c.loop-name.at + 1)
     (λ f. find_from f a.text.now a.s.now c.loop-name.at a.name)
-    (λ f. c.loop-name.at + element_size) (omega arith) (omega arith)
+    (λ f. Some (c.loop-name.at + element_size)) (omega arith) (omega arith)
     (λ f. find-here f a.text.now a.s.now c.loop-name.at a.name e m) (λ g h. refl))
-
-pub overflow_add-at : goal.overflow_add-at
-overflow_add-at c =
-    omega (arith, element-in _ _ (sym c.is_element.ensures ∙ c.loop-name-test.true))
-
-pub loop-name-smaller : goal.loop-name-smaller
-loop-name-smaller c =
-    omega (arith, element-in _ _ (sym c.is_element.ensures ∙ c.loop-name-test.true), c.past_inner-at.ensures.1)
 
 pub loop-name-preserved : goal.loop-name-preserved
 loop-name-preserved c =
     let a = c.args in
-    let e = sym c.is_element.ensures ∙ c.loop-name-test.true in
+    let e = sym c.is_element.ensures.value ∙ c.loop-name-test.true in
     let h = element-in _ _ e in
     let m = rw (as_written c.written_name.ensures) at (sym c.same_name.ensures ∙ c.if-same_name.false) in
     λ r q. c.loop-name.invariant r (more a.s.now c.loop-name.at c.past_inner-at.result
@@ -50,5 +36,5 @@ loop-name-preserved c =
 pub returns : goal.returns
 returns c =
     let a = c.args in
-    c.loop-name.invariant nowhere (λ g h. sym
-    (find_none g a.text.now a.s.now c.loop-name.at a.name (sym c.is_element.ensures ∙ c.loop-name-test.false)))
+    c.loop-name.invariant None (λ g h. sym
+    (find_none g a.text.now a.s.now c.loop-name.at a.name (sym c.is_element.ensures.value ∙ c.loop-name-test.false)))

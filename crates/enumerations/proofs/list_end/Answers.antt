@@ -10,8 +10,8 @@ use Rattle.enumerations.proofs.list_end.Goals as goal
 pub loop-at-init : goal.loop-at-init
 loop-at-init c = (omega arith, omega arith, omega arith, omega arith, λ r q. q)
 
-pub loop-at-preserved-then-k-eq-ELEMENT : goal.loop-at-preserved-then-k-eq-ELEMENT
-loop-at-preserved-then-k-eq-ELEMENT c =
+pub loop-at-preserved-in-14 : goal.loop-at-preserved-in-14
+loop-at-preserved-in-14 c =
     let s = c.args.s.now in (
       omega arith,
       omega arith,
@@ -21,11 +21,11 @@ loop-at-preserved-then-k-eq-ELEMENT c =
           (λ f. end_from f s c.loop-at.at c.loop-at.inner c.loop-at.records)
           (λ f. end_from f s (c.loop-at.at + element_size) c.loop-at.inner (c.loop-at.records + 1)) (omega arith)
           (omega arith)
-          (λ f. end-element f s c.loop-at.at c.loop-at.inner c.loop-at.records (omega arith) c.if-k-eq-ELEMENT.true) q),
+          (λ f. end-element f s c.loop-at.at c.loop-at.inner c.loop-at.records (omega arith) c.in-14.is) q),
     )
 
-pub loop-at-preserved-then-k-eq-LIST : goal.loop-at-preserved-then-k-eq-LIST
-loop-at-preserved-then-k-eq-LIST c =
+pub loop-at-preserved-in-13 : goal.loop-at-preserved-in-13
+loop-at-preserved-in-13 c =
     let s = c.args.s.now in (
       omega arith,
       omega arith,
@@ -35,7 +35,7 @@ loop-at-preserved-then-k-eq-LIST c =
           (λ f. end_from f s c.loop-at.at c.loop-at.inner c.loop-at.records)
           (λ f. end_from f s (c.loop-at.at + list_size) (c.loop-at.inner + 1) (c.loop-at.records + 1)) (omega arith)
           (omega arith)
-          (λ f. end-opening f s c.loop-at.at c.loop-at.inner c.loop-at.records (omega arith) c.if-k-eq-LIST.true) q),
+          (λ f. end-opening f s c.loop-at.at c.loop-at.inner c.loop-at.records (omega arith) c.in-13.is) q),
     )
 
 pub returns-then-inner-eq0 : goal.returns-then-inner-eq0
@@ -45,8 +45,8 @@ returns-then-inner-eq0 c =
       c.loop-at.invariant.4 e (more s c.loop-at.at (c.loop-at.at + 1)
           (λ f. end_from f s c.loop-at.at c.loop-at.inner c.loop-at.records) (λ f. e) (omega arith)
           (omega arith)
-          (λ f. end-last f s c.loop-at.at c.loop-at.inner c.loop-at.records (omega arith) c.if-k-eq-ELEMENT.false
-          c.if-k-eq-LIST.false c.if-inner-eq0.true) (λ g h. refl)),
+          (λ f. end-last f s c.loop-at.at c.loop-at.inner c.loop-at.records (omega arith) (λ z. omega arith)
+          (λ z. omega arith) c.if-inner-eq0.true) (λ g h. refl)),
       omega arith,
       omega arith,
     )
@@ -62,12 +62,12 @@ loop-at-preserved c =
           (more s c.loop-at.at (c.loop-at.at + 1) (λ f. end_from f s c.loop-at.at c.loop-at.inner c.loop-at.records)
           (λ f. end_from f s (c.loop-at.at + 1) (c.loop-at.inner - 1) (c.loop-at.records + 1)) (omega arith)
           (omega arith)
-          (λ f. end-close f s c.loop-at.at c.loop-at.inner c.loop-at.records (omega arith) c.if-k-eq-ELEMENT.false
-          c.if-k-eq-LIST.false c.if-inner-eq0.false) q),
+          (λ f. end-close f s c.loop-at.at c.loop-at.inner c.loop-at.records (omega arith) (λ z. omega arith)
+          (λ z. omega arith) c.if-inner-eq0.false) q),
     )
 
-pub returns : goal.returns
-returns c =
+pub returns-after-loop-at : goal.returns-after-loop-at
+returns-after-loop-at c =
     let s = c.args.s.now in (
       c.loop-at.invariant.4 _ (λ g h. sym (end-out g s c.loop-at.at c.loop-at.inner c.loop-at.records (omega arith))),
       omega arith,

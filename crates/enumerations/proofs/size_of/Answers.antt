@@ -2,15 +2,8 @@ use native.Mathlib.Omega.{arith}
 use mathlib.Core.Path.{sym, ◌∙◌}
 use Prim.Native.Nat.{◌+◌}
 use lib.ListN.{length}
-use Rattle.enumerations.proofs.ListLaws.{opening-in}
 use Rattle.enumerations.proofs.WrittenLaws.{size-stands, not-stands}
 use Rattle.enumerations.proofs.size_of.Goals as goal
-
-pub overflow_add-at : goal.overflow_add-at
-overflow_add-at c = omega (arith, opening-in _ _ (sym c.is_opening.ensures ∙ c.if-is_opening.true))
-
-pub list_end-e-requires : goal.list_end-e-requires
-list_end-e-requires c = omega (arith, opening-in _ _ (sym c.is_opening.ensures ∙ c.if-is_opening.true))
 
 pub returns-then-is_opening : goal.returns-then-is_opening
 returns-then-is_opening c =
@@ -19,4 +12,4 @@ returns-then-is_opening c =
 
 pub returns : goal.returns
 returns c =
-    λ t e h. not-stands t c.args.s.now e c.args.at h (sym c.is_opening.ensures ∙ c.if-is_opening.false)
+    λ t e h. not-stands t c.args.s.now e c.args.at h (sym c.is_opening.ensures.value ∙ c.if-is_opening.false)

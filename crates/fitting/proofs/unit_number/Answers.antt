@@ -1,8 +1,5 @@
-use Rattle.fitting.proofs.ValueLaws.{no_unit, unit-there}
+use Rattle.fitting.proofs.ValueLaws.{unit-there}
 use Rattle.fitting.proofs.unit_number.Goals as goal
-
-pub returns-then-unit-eq0 : goal.returns-then-unit-eq0
-returns-then-unit-eq0 c = λ t ks n l k. no_unit ks c.args.unit c.if-unit-eq0.true
 
 pub returns : goal.returns
 returns c =

@@ -8,58 +8,44 @@ use Rattle.heads.proofs.EndLaws.{close-topic-fine}
 use native.Mathlib.Omega.{arith}
 use Rattle.heads.proofs.close_topic.Goals as goal
 
-pub same_name-requires : goal.same_name-requires
-same_name-requires c =
-    let (s, n, w, hs, rs, k, q) = c.requires.by_index in
-    let (d, et, ca) =
-    topic-there c.args.text.now s c.args.st c.args.book.now _ _ _ hs k c.requires.book_len_bound.2 in (
-      close-inside c.args.text.now s n c.args.st c.args.book.now _ _ _ hs rs
-          c.args.name k q c.requires.book_len_bound.0,
-      ca.inside,
-    )
-
 pub grown-requires : goal.grown-requires
 grown-requires c =
-    let (s, n, w, hs, rs, k, q) = c.requires.by_index in
-    let a = small c.args.text.now s c.args.st c.args.book.now _ _ _ hs k in
-    let u = k.within in
-    let i = c.if-used-book.true in (
+    let (s, n, rs, k, q) = c.requires.comes in
+    let a = small c.args.desk.now.text.now s c.args.st _ _ _ _ _ k in
+    let i = c.if-desk-used.false in (
       omega (arith, c.requires.book_len_bound.0, i),
       omega (arith, c.requires.book_len_bound.0, i, a.fewer),
       omega (arith, c.requires.book_len_bound.0, i, a.fewer, a.defined),
     )
 
-pub returns-then-used-book : goal.returns-then-used-book
-returns-then-used-book c =
-    λ s n w hs rs k q.
-    let (d, et, ca) =
-    topic-there c.args.text.now s c.args.st c.args.book.now _ _ _ hs k c.requires.book_len_bound.2 in
-    close-topic-fine c.args.text.now s n c.args.st c.args.book.now _ _ _ hs rs
+pub returns-clause-judged : goal.returns-clause-judged
+returns-clause-judged c =
+    λ s n rs k q.
+    let (d, et, ca) = topic-there c.args.desk.now.text.now s c.args.st _ _ _ _ _ k c.requires.book_len_bound.2 in
+    close-topic-fine c.args.desk.now.text.now s n c.args.st _ _ _ _ _ rs
     c.args.name k q c.requires.book_len_bound.0
-    (class-none c.args.text.now s c.args.st c.args.book.now _ _ _ hs k c.requires.book_len_bound.1)
+    (class-none c.args.desk.now.text.now s c.args.st _ _ _ _ _ k c.requires.book_len_bound.1)
     c.args.st.context.topic d (ap (λ (u : R.Name). u.bytes) ca.named) et _ c.same_name.ensures _ _ _
-    c.if-same_name.true c.if-used-book.true refl
+    c.if-not-same_name.false c.if-desk-used.false refl
     (c.in_topic.ensures ∙ ap (λ (u : State). in_topic_by u c.args.st.context.topic 0)
     c.grown.ensures) _ refl c.put.ensures
 
-pub returns-then-same_name : goal.returns-then-same_name
-returns-then-same_name c =
-    λ s n w hs rs k q.
-    let (d, et, ca) =
-    topic-there c.args.text.now s c.args.st c.args.book.now _ _ _ hs k c.requires.book_len_bound.2 in
-    close-topic-over c.args.text.now s n c.args.st c.args.book.now _ _ _ hs rs
+pub returns-then-desk-used-clause-judged : goal.returns-then-desk-used-clause-judged
+returns-then-desk-used-clause-judged c =
+    λ s n rs k q.
+    let (d, et, ca) = topic-there c.args.desk.now.text.now s c.args.st _ _ _ _ _ k c.requires.book_len_bound.2 in
+    close-topic-over c.args.desk.now.text.now s n c.args.st _ _ _ _ _ rs
     c.args.name k q c.requires.book_len_bound.0
-    (class-none c.args.text.now s c.args.st c.args.book.now _ _ _ hs k c.requires.book_len_bound.1)
+    (class-none c.args.desk.now.text.now s c.args.st _ _ _ _ _ k c.requires.book_len_bound.1)
     c.args.st.context.topic d (ap (λ (u : R.Name). u.bytes) ca.named) et _ c.same_name.ensures _ _
-    c.if-same_name.true (omega (arith, c.if-used-book.false)) c.refused.ensures
+    c.if-not-same_name.false c.if-desk-used.true refl
 
-pub returns : goal.returns
-returns c =
-    λ s n w hs rs k q.
-    let (d, et, ca) =
-    topic-there c.args.text.now s c.args.st c.args.book.now _ _ _ hs k c.requires.book_len_bound.2 in
-    close-topic-other c.args.text.now s n c.args.st c.args.book.now _ _ _ hs rs
+pub returns-then-not-same_name-clause-judged : goal.returns-then-not-same_name-clause-judged
+returns-then-not-same_name-clause-judged c =
+    λ s n rs k q.
+    let (d, et, ca) = topic-there c.args.desk.now.text.now s c.args.st _ _ _ _ _ k c.requires.book_len_bound.2 in
+    close-topic-other c.args.desk.now.text.now s n c.args.st _ _ _ _ _ rs
     c.args.name k q c.requires.book_len_bound.0
-    (class-none c.args.text.now s c.args.st c.args.book.now _ _ _ hs k c.requires.book_len_bound.1)
+    (class-none c.args.desk.now.text.now s c.args.st _ _ _ _ _ k c.requires.book_len_bound.1)
     c.args.st.context.topic d (ap (λ (u : R.Name). u.bytes) ca.named) et _ c.same_name.ensures _ _
-    c.if-same_name.false c.refused-2.ensures
+    c.if-not-same_name.true refl

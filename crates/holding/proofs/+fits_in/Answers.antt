@@ -1,79 +1,73 @@
-use Rattle.std.proofs.Common.{sym, ap, ◌∙◌, arith}
-use Rattle.rules.specs.Enumerations.{fits_in}
+use Rattle.std.proofs.Common.{◌≡◌, Bool, not, ◌||◌, sym, ap, ◌∙◌, arith, rules}
+use Rattle.rules.specs.Enumerations.{final, fits_in}
+use Rattle.enumerations.specs.Lists.{final_of}
 use Rattle.holding.specs.declared.Held.{Held}
-use Rattle.enumerations.proofs.ListLaws.{element-in}
-use Rattle.holding.proofs.HoldLaws.{by, rest-start, stepped, finished}
+use Rattle.holding.proofs.HoldLaws.{by, stepped, finished}
 use Rattle.holding.proofs.+fits_in.Goals as goal
+use Rattle.holding.proofs.+fits_in.Goals.{then-left-eq0-via-then-left-eq0}
+use Rattle.holding.proofs.+fits_in.Goals.{then-left-eq0-via-else-left-eq0+then-not-fits_in}
 
-pub loop-g-init : goal.loop-g-init
-loop-g-init t c = λ G e b u w d. rest-start _ _ _ e b _ u d
-
-pub held_element-p-requires : goal.held_element-p-requires
-held_element-p-requires t c =
-    ((element-in _ _ (sym c.is_element.ensures ∙ c.loop-g-test.true)).0, c.requires.1)
-
-pub overflow_add-at : goal.overflow_add-at
-overflow_add-at t c = omega (arith, element-in _ _ (sym c.is_element.ensures ∙ c.loop-g-test.true))
-
-pub loop-g-smaller-in-Fits : goal.loop-g-smaller-in-Fits
-loop-g-smaller-in-Fits t c =
-    omega (arith, element-in _ _ (sym c.is_element.ensures ∙ c.loop-g-test.true), c.past_inner-at.ensures.1)
-
-pub loop-g-preserved-in-Fits : goal.loop-g-preserved-in-Fits
-loop-g-preserved-in-Fits t c =
-    let a = c.args in
+pub loop-held-preserved-in-Fits : goal.loop-held-preserved-in-Fits
+loop-held-preserved-in-Fits t' c =
+    let t = c.args.table.now in
     λ G e b u w d.
-    let S = stepped a.text.now a.s.now c.requires.0 a.left e b c.loop-g.at c.past_inner-at.result a.base
-    c.held_element-p.result (c.loop-g.invariant G e b u w d) (sym c.is_element.ensures ∙ c.loop-g-test.true) w
-    (c.held_element-p.ensures G) c.past_inner-at.ensures.0 in
+    let S = stepped t.text.now t.s.now c.args.left e b c.loop-held.at c.past_inner-at.result c.args.base
+    c.held_element-held.result (c.loop-held.invariant G e b u w d)
+    (sym c.is_element.ensures.value ∙ c.loop-held-test.true)
+    w (c.held_element-held.ensures G) c.past_inner-at.ensures.0 in
     S.goes (ap (λ (k : Held). by k (fits_in S.i S.j)) c.in-Fits.is)
 
 pub returns-in-Misfit : goal.returns-in-Misfit
-returns-in-Misfit t c =
-    let a = c.args in
+returns-in-Misfit t' c =
+    let t = c.args.table.now in
     λ G e b u w d.
-    let S = stepped a.text.now a.s.now c.requires.0 a.left e b c.loop-g.at c.past_inner-at.result a.base
-    c.held_element-p.result (c.loop-g.invariant G e b u w d) (sym c.is_element.ensures ∙ c.loop-g-test.true) w
-    (c.held_element-p.ensures G) c.past_inner-at.ensures.0 in
+    let S = stepped t.text.now t.s.now c.args.left e b c.loop-held.at c.past_inner-at.result c.args.base
+    c.held_element-held.result (c.loop-held.invariant G e b u w d)
+    (sym c.is_element.ensures.value ∙ c.loop-held-test.true)
+    w (c.held_element-held.ensures G) c.past_inner-at.ensures.0 in
     sym (S.stops (ap (λ (k : Held). by k (fits_in S.i S.j)) c.in-Misfit.is))
 
 pub returns-then-left-eq0 : goal.returns-then-left-eq0
-returns-then-left-eq0 t c =
-    let a = c.args in
+returns-then-left-eq0 t' c =
+    let t = c.args.table.now in
     λ G e b u w d.
-    let S = stepped a.text.now a.s.now c.requires.0 a.left e b c.loop-g.at c.past_inner-at.result a.base
-    c.held_element-p.result (c.loop-g.invariant G e b u w d) (sym c.is_element.ensures ∙ c.loop-g-test.true) w
-    (c.held_element-p.ensures G) c.past_inner-at.ensures.0 in
-    absurd (omega (arith, (S.deeper c.in-Deeper.is).2, c.if-left-eq0.true))
+    let S = stepped t.text.now t.s.now c.args.left e b c.loop-held.at c.past_inner-at.result c.args.base
+    c.held_element-held.result (c.loop-held.invariant G e b u w d)
+    (sym c.is_element.ensures.value ∙ c.loop-held-test.true)
+    w (c.held_element-held.ensures G) c.past_inner-at.ensures.0 in
+    let D = S.deeper c.in-Deeper.own c.in-Deeper.base c.in-Deeper.is in
+    elim c.then-left-eq0.branch [
+      | then-left-eq0-via-then-left-eq0 v ↦ absurd (omega (arith, D.2, v.if-left-eq0.true))
+      | then-left-eq0-via-else-left-eq0+then-not-fits_in v ↦
+          sym (S.stops (ap (λ (k : Held). by k (fits_in S.i S.j)) c.in-Deeper.is
+          ∙ sym (v.fits_in.ensures G S.i S.j D.0 D.1 D.3) ∙ v.if-not-fits_in.true))
+    ]
 
-pub loop-g-smaller : goal.loop-g-smaller
-loop-g-smaller t c =
-    omega (arith, element-in _ _ (sym c.is_element.ensures ∙ c.loop-g-test.true), c.past_inner-at.ensures.1)
-
-pub loop-g-preserved : goal.loop-g-preserved
-loop-g-preserved t c =
-    let a = c.args in
+pub loop-held-preserved : goal.loop-held-preserved
+loop-held-preserved t' c =
+    let t = c.args.table.now in
     λ G e b u w d.
-    let S = stepped a.text.now a.s.now c.requires.0 a.left e b c.loop-g.at c.past_inner-at.result a.base
-    c.held_element-p.result (c.loop-g.invariant G e b u w d) (sym c.is_element.ensures ∙ c.loop-g-test.true) w
-    (c.held_element-p.ensures G) c.past_inner-at.ensures.0 in
-    let D = S.deeper c.in-Deeper.is in
+    let S = stepped t.text.now t.s.now c.args.left e b c.loop-held.at c.past_inner-at.result c.args.base
+    c.held_element-held.result (c.loop-held.invariant G e b u w d)
+    (sym c.is_element.ensures.value ∙ c.loop-held-test.true)
+    w (c.held_element-held.ensures G) c.past_inner-at.ensures.0 in
+    let D = S.deeper c.in-Deeper.own c.in-Deeper.base c.in-Deeper.is in
     S.goes (ap (λ (k : Held). by k (fits_in S.i S.j)) c.in-Deeper.is
-    ∙ sym (c.fits_in.ensures G S.i S.j D.0 D.1 D.3) ∙ c.if-fits_in.true)
+    ∙ sym (c.fits_in.ensures G S.i S.j D.0 D.1 D.3) ∙ c.if-not-fits_in.false)
 
-pub returns-in-Deeper : goal.returns-in-Deeper
-returns-in-Deeper t c =
-    let a = c.args in
+pub returns-then-own : goal.returns-then-own
+returns-then-own t' c =
+    let t = c.args.table.now in
     λ G e b u w d.
-    let S = stepped a.text.now a.s.now c.requires.0 a.left e b c.loop-g.at c.past_inner-at.result a.base
-    c.held_element-p.result (c.loop-g.invariant G e b u w d) (sym c.is_element.ensures ∙ c.loop-g-test.true) w
-    (c.held_element-p.ensures G) c.past_inner-at.ensures.0 in
-    let D = S.deeper c.in-Deeper.is in
-    sym (S.stops (ap (λ (k : Held). by k (fits_in S.i S.j)) c.in-Deeper.is
-    ∙ sym (c.fits_in.ensures G S.i S.j D.0 D.1 D.3) ∙ c.if-fits_in.false))
+    let F = finished t.text.now t.s.now c.args.left e b c.loop-held.at (c.loop-held.invariant G e b u w d)
+    (sym c.is_element.ensures.value ∙ c.loop-held-test.false) in
+    c.if-own.true ∙ ap (λ (z : Bool). z || not (final b)) (sym c.if-own.true ∙ u.is_final) ∙ sym F
 
-pub returns : goal.returns
-returns t c =
-    λ G e b u w d. c.others_fit.ensures
-    ∙ rw (u.is_final, w.is_final)
-    (sym (finished _ _ _ e b _ (c.loop-g.invariant G e b u w d) (sym c.is_element.ensures ∙ c.loop-g-test.false)))
+pub returns-else-own : goal.returns-else-own
+returns-else-own t' c =
+    let t = c.args.table.now in
+    λ G e b u w d.
+    let F = finished t.text.now t.s.now c.args.left e b c.loop-held.at (c.loop-held.invariant G e b u w d)
+    (sym c.is_element.ensures.value ∙ c.loop-held-test.false) in
+    let f : c.is_some_and.result ≡ final_of c.args.base = search rules in
+    ap not (f ∙ w.is_final) ∙ ap (λ (z : Bool). z || not (final b)) (sym c.if-own.false ∙ u.is_final) ∙ sym F

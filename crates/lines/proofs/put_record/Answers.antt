@@ -6,14 +6,14 @@ pub bounds-book-beginning : goal.bounds-book-beginning
 bounds-book-beginning g c =
     omega (arith, end-inside _ _ _ c.requires.beginning_value)
 
-pub slice_bounds-put_fields-count : goal.slice_bounds-put_fields-count
-slice_bounds-put_fields-count g c =
+pub slice_bounds-record-count : goal.slice_bounds-record-count
+slice_bounds-record-count g c =
     omega (arith, end-inside _ _ _ c.requires.beginning_value)
 
-pub slice_bounds-put_fields-start : goal.slice_bounds-put_fields-start
-slice_bounds-put_fields-start g c =
+pub slice_bounds-record-start : goal.slice_bounds-record-start
+slice_bounds-record-start g c =
     omega (arith, end-inside _ _ _ c.requires.beginning_value)
 
-pub slice_bounds-put_fields-end : goal.slice_bounds-put_fields-end
-slice_bounds-put_fields-end g c =
+pub slice_bounds-record-end : goal.slice_bounds-record-end
+slice_bounds-record-end g c =
     omega (arith, end-inside _ _ _ c.requires.beginning_value)

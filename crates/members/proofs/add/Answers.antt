@@ -1,12 +1,7 @@
 use Rattle.members.proofs.MemberLaws.{told-inside}
-use Rattle.members.proofs.FillLaws.{kept_out, put_in, full}
+use Rattle.members.proofs.FillLaws.{kept_out, put_in}
 use native.Mathlib.Omega.{arith}
-use lib.ListN.{length-set}
 use Rattle.members.proofs.add.Goals as goal
-
-pub bounds-hand-n-then-find_attribute-eq0 : goal.bounds-hand-n-then-find_attribute-eq0
-bounds-hand-n-then-find_attribute-eq0 c =
-    let l = length-set c.args.hand.now c.args.n c.member-then-find_attribute-eq0.result in omega (arith, c.requires.5)
 
 pub returns-then-find_attribute-eq0 : goal.returns-then-find_attribute-eq0
 returns-then-find_attribute-eq0 c = (
@@ -35,12 +30,4 @@ returns-else-name-text c = (
       let v = told-inside c.args.text.now a _ c.args.text.now (k.tells c.args.q a e) _ _
       c.member.ensures.0 c.member-then-n-lt-MOST.ensures.0 in
       absurd (omega (arith, c.if-name-text.false)),
-)
-
-pub returns-else-n-lt-MOST : goal.returns-else-n-lt-MOST
-returns-else-n-lt-MOST c = (
-  omega arith,
-  omega arith,
-  λ ms g h a k e fg fh w. full c.args.text.now ms c.args.rows.now c.args.total k c.args.q a e g h
-      c.args.hand.now c.args.n fh (omega arith) w,
 )

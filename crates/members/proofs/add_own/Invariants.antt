@@ -7,11 +7,8 @@ use Rattle.members.specs.Members.{Members, Unlike, Filled, nearest_to, most, Han
 use Rattle.members.proofs.add_own.Given as goal
 
 abbrev pub invariant-loop-q : goal.invariant-loop-q
-invariant-loop-q l = (l.first ≤ l.q) × (l.n ≤ most) × (l.count ≤ l.n) × Hand l.hand
+invariant-loop-q l = (l.n ≤ most) × (l.count ≤ l.n) × Hand l.hand
     × ((ms g own more : List Attribute) → Members l.text ms l.rows l.total
     → Filled ms l.initial.hand l.count g → drop l.first ms ≡ own ++ more
     → l.last ≡ l.first + length own → Unlike own → length (nearest_to g own) ≤ most
     → Filled ms l.hand l.n (nearest_to g (take (l.q - l.first) own)))
-
-abbrev pub decreases-loop-q : goal.decreases-loop-q
-decreases-loop-q l = l.last - l.q

@@ -1,11 +1,7 @@
-use mathlib.Core.Path.{sym, ◌∙◌}
-use Rattle.members.proofs.FillLaws.{base-few, chain-start, chain_next, chain-end, last_within, base-less}
+use mathlib.Core.Path.{◌∙◌}
+use Rattle.members.proofs.FillLaws.{base-few, chain_next, chain-end, last_within, base-less}
 use native.Mathlib.Omega.{arith}
 use Rattle.members.proofs.fill.Goals as goal
-
-pub loop-c-init : goal.loop-c-init
-loop-c-init c =
-    (omega arith, omega arith, c.requires.4, λ ks ms k w. chain-start ks ms c.args.base _)
 
 pub returns-then-total-last : goal.returns-then-total-last
 returns-then-total-last c = (
@@ -15,14 +11,6 @@ returns-then-total-last c = (
       c.args.total k c.loop-c.c c.loop-c-test.true (omega arith) in
       absurd (omega (arith, c.if-total-last.true, c.field-last.ensures.0)),
 )
-
-pub add_own-n-requires : goal.add_own-n-requires
-add_own-n-requires c =
-    (omega arith, omega (arith, c.if-total-last.false), omega arith, c.loop-c.invariant.1, c.loop-c.invariant.2)
-
-pub shape_of-hand-then-c-b : goal.shape_of-hand-then-c-b
-shape_of-hand-then-c-b c =
-    c.add_own-n.auto.hand ∙ c.loop-c.invariant.2 ∙ sym c.requires.4
 
 pub returns-then-c-b : goal.returns-then-c-b
 returns-then-c-b c = (
@@ -50,11 +38,3 @@ returns c = (
   λ ks ms k. chain-end ks ms c.args.base _ _ c.loop-c.c (omega arith)
       (c.loop-c.invariant.3 ks ms k (base-few _ ks ms _ _ _ _ k c.args.base (omega (arith, c.requires.0)))),
 )
-
-pub shape_of-hand-then-total-last : goal.shape_of-hand-then-total-last
-shape_of-hand-then-total-last c =
-    c.loop-c.invariant.2 ∙ sym c.requires.4
-
-pub shape_of-hand : goal.shape_of-hand
-shape_of-hand c =
-    c.loop-c.invariant.2 ∙ sym c.requires.4

@@ -1,6 +1,5 @@
 use mathlib.Core.Path.{◌≡◌}
 use mathlib.Core.List.{List}
-use Prim.Native.Nat.{◌-◌, ◌≤◌}
 use lib.ListN.{drop}
 use Rattle.rules.specs.Declarations.{Attribute}
 use Rattle.members.specs.Members.{Members, Filled, slot_from, slot_of}
@@ -8,9 +7,6 @@ use Rattle.names.specs.References.{bytes_of}
 use Rattle.members.proofs.find_attribute.Given as goal
 
 abbrev pub invariant-loop-i : goal.invariant-loop-i
-invariant-loop-i l = (l.i ≤ l.count)
-    × ((ms h : List Attribute) → Members l.text ms l.rows l.total → Filled ms l.hand l.count h
-    → slot_of (bytes_of l.text l.name) h ≡ slot_from (bytes_of l.text l.name) l.i (drop l.i h))
-
-abbrev pub decreases-loop-i : goal.decreases-loop-i
-decreases-loop-i l = l.count - l.i
+invariant-loop-i l =
+    (ms h : List Attribute) → Members l.text ms l.rows l.total → Filled ms l.hand l.count h
+    → slot_of (bytes_of l.text l.name) h ≡ slot_from (bytes_of l.text l.name) l.i (drop l.i h)

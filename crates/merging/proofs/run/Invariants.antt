@@ -1,14 +1,12 @@
-use lib.ListN.{take}
-use Rattle.merging.specs.Merging.{BothGathered}
+use Rattle.std.proofs.Common.{◌-◌}
+use Rattle.tables.specs.Tables.{Gathered}
 use Rattle.merging.proofs.RunLaws.{Bounded, SoFar}
 use Rattle.merging.proofs.run.Given as goal
 
-abbrev pub invariant-loop-left : goal.invariant-loop-left
-invariant-loop-left l =
-    Bounded l.initial.out l.start l.out l.size l.left l.w
-    × (BothGathered l.text (take l.n l.initial.out) l.scratch l.g l.tables
-    → SoFar l.text (take l.n l.initial.out) l.scratch l.initial.out l.n l.start l.initial.size l.initial.left
-    l.initial.w l.out l.size l.left l.w)
-
-abbrev pub decreases-loop-left : goal.decreases-loop-left
-decreases-loop-left l = l.left
+abbrev pub invariant-loop-step : goal.invariant-loop-step
+invariant-loop-step l =
+    Bounded l.initial.out l.course.start l.out l.size (l.course.fuel - l._step) l.w
+    × (Gathered l.b.text.now l.b.s.now l.b.grid l.b.numbers.now
+    → Gathered l.x.text.now l.x.s.now l.x.grid l.x.numbers.now
+    → SoFar l.b.text.now l.b.s.now l.x.s.now l.initial.out l.course.start l.course.begun l.course.fuel l.course.first
+    l.out l.size (l.course.fuel - l._step) l.w)

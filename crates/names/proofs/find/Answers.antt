@@ -11,7 +11,7 @@ use Rattle.names.proofs.find.Goals as goal
 pub loop-p-init : goal.loop-p-init
 loop-p-init c =
     λ ks k z. behind-start ks (bytes_of c.args.text.now c.args.name) c.args.low c.args.high _
-    (c.wide2-p.ensures.0 ∙ ap (λ (i : ℕ). get_or c.args.chains.now i 0) c.key_of.ensures.0
+    (c.from-p.ensures ∙ ap (λ (i : ℕ). get_or c.args.chains.now i 0) c.key_of.ensures.0
     ∙ z.heads (key_of (bytes_of c.args.text.now c.args.name))
     (key_below _ _ c.key_of.ensures.0 c.key_of.ensures.1))
 
@@ -39,19 +39,19 @@ returns-then-next-p c = (
   λ ks k z. behind-none ks (bytes_of c.args.text.now c.args.name) c.args.low c.args.high _
       (chain-on c.args.text.now ks c.args.index.now c.args.count k c.args.chains.now z
       (bytes_of c.args.text.now c.args.name) c.args.low c.args.high c.loop-p.p (c.loop-p.invariant ks k z)
-      c.loop-p-test.true _ c.is_hit.ensures c.if-is_hit.false c.wide2-next.result
-      c.wide2-next.ensures.0)
+      c.loop-p-test.true _ c.is_hit.ensures c.if-is_hit.false c.from-next.result
+      c.from-next.ensures)
       (chain-up c.args.text.now ks c.args.index.now c.args.count k c.args.chains.now z
       (bytes_of c.args.text.now c.args.name) c.args.low c.args.high c.loop-p.p (c.loop-p.invariant ks k z)
-      c.loop-p-test.true _ c.is_hit.ensures c.if-is_hit.false c.wide2-next.result
-      c.wide2-next.ensures.0 c.if-next-p.true),
+      c.loop-p-test.true _ c.is_hit.ensures c.if-is_hit.false c.from-next.result
+      c.from-next.ensures c.if-next-p.true),
 )
 
 pub loop-p-preserved : goal.loop-p-preserved
 loop-p-preserved c =
     λ ks k z. chain-on c.args.text.now ks c.args.index.now c.args.count k c.args.chains.now z
     (bytes_of c.args.text.now c.args.name) c.args.low c.args.high c.loop-p.p (c.loop-p.invariant ks k z)
-    c.loop-p-test.true _ c.is_hit.ensures c.if-is_hit.false c.wide2-next.result c.wide2-next.ensures.0
+    c.loop-p-test.true _ c.is_hit.ensures c.if-is_hit.false c.from-next.result c.from-next.ensures
 
 pub returns : goal.returns
 returns c = (

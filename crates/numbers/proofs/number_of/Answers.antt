@@ -1,27 +1,27 @@
 use mathlib.Core.Path.{◌∙◌}
 use native.Mathlib.Omega.{arith}
 use Rattle.numbers.proofs.SignedLaws.{plain, negated}
-use Rattle.numbers.proofs.WrittenLaws.{written_small, value-is}
+use Rattle.numbers.proofs.WrittenLaws.{written_small, value-is, minus}
 use Rattle.numbers.proofs.number_of.Goals as goal
+use Rattle.numbers.proofs.number_of.Goals.{then-starts_with, else-starts_with}
 
-pub overflow_cast-n : goal.overflow_cast-n
-overflow_cast-n c =
-    record { sfits = omega (arith, written_small c.args.part.now c.requires) }
+pub overflow_cast-size : goal.overflow_cast-size
+overflow_cast-size c = record { sfits = omega (arith, written_small c.args.part.now c.requires) }
 
-pub overflow_sub-result : goal.overflow_sub-result
-overflow_sub-result c =
-    (negated c.scan-f.result.value (omega (arith, written_small c.args.part.now c.requires))).0
-
-pub returns-then-has_minus : goal.returns-then-has_minus
-returns-then-has_minus c =
-    let e = (negated c.scan-f.result.value (omega (arith, written_small c.args.part.now c.requires))).1 in (
-      e ∙ rw c.if-has_minus.true at (value-is c.args.part.now c.has_minus.ensures c.scan-f.ensures.0),
-      c.scan-f.ensures.1,
-    )
+pub overflow_sub-value : goal.overflow_sub-value
+overflow_sub-value c =
+    (negated c.digits-size.result (omega (arith, written_small c.args.part.now c.requires))).0
 
 pub returns : goal.returns
 returns c =
-    let e = plain c.scan-f.result.value (omega (arith, written_small c.args.part.now c.requires)) in (
-      e ∙ rw c.if-has_minus.false at (value-is c.args.part.now c.has_minus.ensures c.scan-f.ensures.0),
-      c.scan-f.ensures.1,
+    let s = c.args.part.now in
+    let n = c.digits-size.result in
+    let h = written_small s c.requires in
+    let d = c.digits-size.ensures in
+    let m = c.starts_with.ensures.value ∙ minus s in (
+      elim c.if-starts_with.branch [
+        | then-starts_with w ↦ w.value-is ∙ (negated n (omega arith)).1 ∙ rw w.if-starts_with.true at (value-is s m d)
+        | else-starts_with w ↦ w.value-is ∙ plain n (omega arith) ∙ rw w.if-starts_with.false at (value-is s m d)
+      ],
+      c.decimals.ensures,
     )

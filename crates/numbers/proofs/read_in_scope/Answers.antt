@@ -1,20 +1,12 @@
-use native.Mathlib.Nat.{div-lt_iff_lt-mul, le-div_iff_mul-le}
 use native.Mathlib.Omega.{arith}
 use mir.Facts.{to_z-of_z}
 use Rattle.numbers.proofs.PowerLaws.{ten-range}
-use Rattle.numbers.proofs.SignedLaws.{kept}
+use Rattle.numbers.proofs.SignedLaws.{kept, scaled, unfit}
 use Rattle.numbers.proofs.ReadLaws.{rounds, scales, is_too_great}
 use Rattle.numbers.proofs.read_in_scope.Goals as goal
 
-pub nonzero_div-magnitude_limit : goal.nonzero_div-magnitude_limit
-nonzero_div-magnitude_limit c = (ten-range _ (omega arith) c.ten_to-p.ensures).0
-
-pub rounded-requires : goal.rounded-requires
-rounded-requires c =
-    record {
-      v_bound = rw (to_z-of_z c.ranges.value) c.requires.2;
-      m_nonzero = ten-range _ (omega arith) c.ten_to.ensures;
-    }
+pub rounded-requires-clause-m_nonzero : goal.rounded-requires-clause-m_nonzero
+rounded-requires-clause-m_nonzero c = ten-range _ (omega arith) c.ten_to.ensures
 
 pub returns-then-base_decimals-decimals : goal.returns-then-base_decimals-decimals
 returns-then-base_decimals-decimals c =
@@ -22,23 +14,24 @@ returns-then-base_decimals-decimals c =
     rw (kept c.rounded.result c.rounded.type_inv)
     (rounds c.args.value _ _ c.requires c.if-base_decimals-decimals.true c.ten_to.ensures e)
 
-pub returns-then-magnitude_limit-p : goal.returns-then-magnitude_limit-p
-returns-then-magnitude_limit-p c =
-    let k = (div-lt_iff_lt-mul (ten-range _ (omega arith) c.ten_to-p.ensures).0).0 c.if-magnitude_limit-p.true in
-    let e = rw (to_z-of_z c.ranges.value) at c.size.ensures in
-    is_too_great c.args.value _ _ c.requires c.if-base_decimals-decimals.false
-    c.ten_to-p.ensures (rw (← e) (omega arith))
+pub overflow_cast-ten_to : goal.overflow_cast-ten_to
+overflow_cast-ten_to c = record { sfits = omega (arith, ten-range _ (omega arith) c.ten_to-2.ensures) }
 
-pub times-requires : goal.times-requires
-times-requires c =
-    let p = ten-range _ (omega arith) c.ten_to-p.ensures in
-    let k = (le-div_iff_mul-le p.0).0 c.if-magnitude_limit-p.false in
-    (rw (← c.size.ensures) (omega arith), p.1)
+pub returns-in_default : goal.returns-in_default
+returns-in_default c =
+    let p = ten-range _ (omega arith) c.ten_to-2.ensures in
+    let k = unfit c.args.value c.ranges.value _ p.1 c.in_default.ensures in
+    is_too_great c.args.value _ _ c.requires c.if-base_decimals-decimals.false c.ten_to-2.ensures k
 
-pub returns : goal.returns
-returns c =
-    let k = (le-div_iff_mul-le (ten-range _ (omega arith) c.ten_to-p.ensures).0).0 c.if-magnitude_limit-p.false in
-    let e = rw (to_z-of_z c.ranges.value) at c.size.ensures in
-    let w = rw (to_z-of_z c.ranges.value) at c.times.ensures in
-    rw (kept c.times.result c.times.type_inv)
-    (scales c.args.value _ _ c.requires c.if-base_decimals-decimals.false c.ten_to-p.ensures (rw (← e) (omega arith)) w)
+pub returns-then-unsigned_abs-magnitude_limit : goal.returns-then-unsigned_abs-magnitude_limit
+returns-then-unsigned_abs-magnitude_limit c =
+    let p = ten-range _ (omega arith) c.ten_to-2.ensures in
+    let w = scaled c.args.value c.ranges.value _ p.1 c.in-Some.ensures in
+    rw (to_z-of_z w.0)
+    (scales c.args.value _ _ c.requires c.if-base_decimals-decimals.false c.ten_to-2.ensures (omega arith) w.1)
+
+pub returns-else-unsigned_abs-magnitude_limit : goal.returns-else-unsigned_abs-magnitude_limit
+returns-else-unsigned_abs-magnitude_limit c =
+    let p = ten-range _ (omega arith) c.ten_to-2.ensures in
+    let w = scaled c.args.value c.ranges.value _ p.1 c.in-Some.ensures in
+    is_too_great c.args.value _ _ c.requires c.if-base_decimals-decimals.false c.ten_to-2.ensures (omega arith)

@@ -1,4 +1,4 @@
-use Rattle.parts.proofs.PropertyLaws.{list-there, list-absent}
+use Rattle.parts.proofs.PropertyLaws.{default-flags, list-there, list-absent}
 use Rattle.readers.proofs.ReadLaws.{held, expected}
 use Rattle.readers.proofs.CodeLaws.{is-mark}
 use native.Mathlib.Omega.{arith}
@@ -14,4 +14,4 @@ returns-then-y-eq-ROUND c =
 
 pub returns : goal.returns
 returns c =
-    list-absent c.args.owner c.if-y-eq-ROUND.false c.none_written.ensures
+    list-absent c.args.owner c.if-y-eq-ROUND.false (default-flags c.default.result c.default.ensures)

@@ -1,30 +1,29 @@
-use mathlib.Core.Path.{◌≡◌, refl, sym, ◌∙◌}
-use Rattle.rules.specs.Show.{find_record}
-use Rattle.rules.proofs.RecordLaws.{begin-none, begin-here}
-use Rattle.records.proofs.WalkLaws.{none-at, whole-at, begin-next}
+use mathlib.Core.Path.{◌≡◌, sym, ap, ◌∙◌}
 use native.Mathlib.Omega.{arith}
+use Rattle.rules.specs.Show.{find_record}
+use Rattle.records.specs.Finding.{found_at}
+use Rattle.records.proofs.ListLaws.{listed-first, listed_here, listed_next, listed-none}
 use Rattle.records.proofs.find_record.Goals as goal
 
-pub loop-k-init : goal.loop-k-init
-unfolding find_record
-loop-k-init c = (omega arith, refl)
+pub loop-init : goal.loop-init
+loop-init c = listed-first c.args.book.now
 
-pub returns-then-n-eq0 : goal.returns-then-n-eq0
-returns-then-n-eq0 c =
-    sym (c.loop-k.invariant.1 ∙ begin-none _ _ _ (none-at _ _ (sym c.size_at-n.ensures ∙ c.if-n-eq0.true)))
+pub returns-in_err-at : goal.returns-in_err-at
+returns-in_err-at c =
+    let f = sym c.record_end.ensures ∙ ap found_at c.in_err-at.was in
+    rw c.from_residual.ensures (sym (listed-none _ _ _ _ f c.loop.invariant (omega arith)))
 
-pub returns-then-left-eq0 : goal.returns-then-left-eq0
-returns-then-left-eq0 c =
-    let w = whole-at _ _ _ c.size_at-n.ensures (omega arith) in
-    let z : c.loop-k.left ≡ 0 = omega arith in
-    sym (c.loop-k.invariant.1 ∙ rw z (begin-here w))
+pub loop-preserved : goal.loop-preserved
+loop-preserved c =
+    listed_next _ _ _ (sym c.record_end.ensures ∙ ap found_at c.in_ok-at.was) _ c.loop.invariant
 
-pub overflow_add-at : goal.overflow_add-at
-overflow_add-at c =
-    let w = whole-at _ _ _ c.size_at-n.ensures (omega arith) in
-    omega (arith, w.within)
+pub returns-in_err-record_end : goal.returns-in_err-record_end
+returns-in_err-record_end c =
+    let f = sym c.record_end-2.ensures ∙ ap found_at c.in_err-record_end.was in
+    rw c.from_residual-in_err-record_end.ensures (sym (listed-none _ _ _ _ f c.loop.invariant (omega arith)))
 
-pub loop-k-preserved : goal.loop-k-preserved
-loop-k-preserved c =
-    let w = whole-at _ _ _ c.size_at-n.ensures (omega arith) in
-    (w.within, c.loop-k.invariant.1 ∙ begin-next c.loop-k.left (omega arith) w)
+pub returns : goal.returns
+returns c =
+    let e : c.loop.counter ≡ c.args.k = omega arith in
+    let f = sym c.record_end-2.ensures ∙ ap found_at c.in_ok-record_end.was in
+    sym (ap (find_record c.args.book.now) (sym e) ∙ listed_here _ _ _ f _ c.loop.invariant)

@@ -1,13 +1,24 @@
-use mathlib.Core.Path.{sym, ◌∙◌}
-use Rattle.records.proofs.WalkLaws.{whole-at, end_none, end-here}
+use mathlib.Core.Path.{sym, ap, ◌∙◌}
 use native.Mathlib.Omega.{arith}
+use Rattle.rules.specs.Show.{size_of}
+use Rattle.records.proofs.WalkLaws.{end-out, end-short, end-whole}
 use Rattle.records.proofs.record_end.Goals as goal
+use Rattle.records.proofs.record_end.Goals.{then-size-eq0-via-then-size-eq0}
+use Rattle.records.proofs.record_end.Goals.{then-size-eq0-via-else-size-eq0+then-book-at}
 
-pub returns-then-n-eq0 : goal.returns-then-n-eq0
-returns-then-n-eq0 c = sym (end_none _ _ (sym c.size_at-n.ensures ∙ c.if-n-eq0.true))
+pub returns-in_err-kind : goal.returns-in_err-kind
+returns-in_err-kind c =
+    rw c.from_residual.ensures (sym (end-out c.args.book.now c.args.at c.in_err-kind.ensures.lookup.3))
 
-pub overflow_add-result : goal.overflow_add-result
-overflow_add-result c = omega (arith, (whole-at _ _ _ c.size_at-n.ensures (omega arith)).within)
+pub returns-then-size-eq0 : goal.returns-then-size-eq0
+returns-then-size-eq0 c =
+    let e = c.record_size-size.ensures ∙ ap size_of (c.in_ok-kind.ensures.lookup.3.1 0) in
+    elim c.then-size-eq0.branch [
+      | then-size-eq0-via-then-size-eq0 w ↦ sym (end-short _ _ _ e (λ z. omega arith))
+      | then-size-eq0-via-else-size-eq0+then-book-at w ↦ sym (end-short _ _ _ e (λ z. omega arith))
+    ]
 
 pub returns : goal.returns
-returns c = sym (end-here (whole-at _ _ _ c.size_at-n.ensures (omega arith)))
+returns c =
+    let e = c.record_size-size.ensures ∙ ap size_of (c.in_ok-kind.ensures.lookup.3.1 0) in
+    sym (end-whole _ _ _ e (omega arith) (omega arith))

@@ -9,19 +9,19 @@ returns-then-base-eq0 c = λ t ks n d b w k es q. ruling-none t ks _ n k d b _ _
 pub returns-then-is_final : goal.returns-then-is_final
 returns-then-is_final c =
     λ t ks n d b w k es q. ruling-final t ks _ n k d b _ _ w q c.if-base-eq0.false _ (c.sort_of.ensures t) _
-    (λ o. c.may_extend.ensures d o es) c.if-may_extend.true _
+    (λ o. c.may_extend.ensures d o es) c.if-not-may_extend.false _
     (λ d y. c.is_final.ensures d.abstract d.final false d.mandatory (c.flags_of.ensures t d y))
     c.if-is_final.true
 
-pub returns-then-may_extend : goal.returns-then-may_extend
-returns-then-may_extend c =
+pub returns : goal.returns
+returns c =
     λ t ks n d b w k es q.
-    c.fine.ensures ∙ ruling-fine t ks _ n k d b _ _ w q c.if-base-eq0.false _ (c.sort_of.ensures t) _
-    (λ o. c.may_extend.ensures d o es) c.if-may_extend.true _
+    ruling-fine t ks _ n k d b _ _ w q c.if-base-eq0.false _ (c.sort_of.ensures t) _
+    (λ o. c.may_extend.ensures d o es) c.if-not-may_extend.false _
     (λ d y. c.is_final.ensures d.abstract d.final false d.mandatory (c.flags_of.ensures t d y))
     c.if-is_final.false
 
-pub returns : goal.returns
-returns c =
+pub returns-then-not-may_extend : goal.returns-then-not-may_extend
+returns-then-not-may_extend c =
     λ t ks n d b w k es q. ruling-sort t ks _ n k d b _ _ w q c.if-base-eq0.false _ (c.sort_of.ensures t) _
-    (λ o. c.may_extend.ensures d o es) c.if-may_extend.false
+    (λ o. c.may_extend.ensures d o es) c.if-not-may_extend.true

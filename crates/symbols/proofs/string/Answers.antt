@@ -1,8 +1,5 @@
-use mathlib.Core.Path.{◌≡◌, sym, ◌∙◌}
-use Prim.Native.Nat.{◌+◌, ◌-◌, ◌<◌}
-use Rattle.scans.specs.Scans.{step_at}
+use Rattle.std.proofs.Common.{◌≡◌, ◌+◌, ◌-◌, sym, ◌∙◌, arith}
 use Rattle.symbols.proofs.StringLaws.{step_in, string-closed, string-bad, string-open, string-on}
-use native.Mathlib.Omega.{arith}
 use Rattle.symbols.proofs.string.Goals as goal
 
 pub loop-i-init : goal.loop-i-init
@@ -17,31 +14,33 @@ returns-then-text-i-eq34 c =
     ∙ sym (string-closed a.text.now a.at c.loop-i.i a.line (omega arith) c.loop-i.invariant.2
     (omega arith) c.if-text-i-eq34.true)
 
-pub returns-then-n-eq0 : goal.returns-then-n-eq0
-returns-then-n-eq0 c =
+pub returns-in-None : goal.returns-in-None
+returns-in-None c =
     let a = c.args in
     c.fault.ensures
     ∙ sym (string-bad a.text.now a.at c.loop-i.i a.line (omega arith) c.loop-i.invariant.2
     (omega arith) c.if-text-i-eq34.false
-    (sym c.step-n.ensures ∙ c.if-n-eq0.true))
+    (sym c.step.ensures ∙ c.in-None.is))
 
-pub overflow_add-i-in-loop-i : goal.overflow_add-i-in-loop-i
-overflow_add-i-in-loop-i c =
-    omega (arith, c.step-n.ensures, step_in c.args.text.now c.loop-i.i (omega arith))
+pub overflow_add-i-in-Some : goal.overflow_add-i-in-Some
+overflow_add-i-in-Some c =
+    let (p, q) = step_in c.args.text.now c.loop-i.i c.in-Some.n (omega arith) (sym c.step.ensures ∙ c.in-Some.is) in
+    omega arith
 
 pub loop-i-smaller : goal.loop-i-smaller
 loop-i-smaller c =
-    omega (arith, c.step-n.ensures, step_in c.args.text.now c.loop-i.i (omega arith), c.if-n-eq0.false)
+    let (p, q) = step_in c.args.text.now c.loop-i.i c.in-Some.n (omega arith) (sym c.step.ensures ∙ c.in-Some.is) in
+    omega arith
 
 pub loop-i-preserved : goal.loop-i-preserved
 loop-i-preserved c =
     let a = c.args in
-    let e : c.step-n.result ≡ step_at a.text.now c.loop-i.i = c.step-n.ensures in
-    let z : 0 < step_at a.text.now c.loop-i.i = omega arith in (
+    let e = sym c.step.ensures ∙ c.in-Some.is in
+    let (p, q) = step_in a.text.now c.loop-i.i c.in-Some.n (omega arith) e in (
       omega arith,
-      omega (arith, step_in a.text.now c.loop-i.i (omega arith)),
-      rw e (string-on a.text.now a.at c.loop-i.i a.line (omega arith) c.loop-i.invariant.2
-          (omega arith) c.if-text-i-eq34.false z),
+      q,
+      string-on a.text.now a.at c.loop-i.i a.line (omega arith) c.loop-i.invariant.2 c.in-Some.n (omega arith)
+          c.if-text-i-eq34.false e,
     )
 
 pub returns : goal.returns

@@ -39,7 +39,7 @@ returns c =
     rw (← c.word_end.ensures)
     (c.make-2.ensures
     ∙ ap (λ x. made x 5 c.args.at (c.word_end.result - c.args.at) c.args.line)
-    (c.code_of.ensures ∙ c.word_code-code.ensures)
+    (c.from.ensures ∙ c.word_code-code.ensures)
     ∙ sym
     (word-other c.args.text.now c.args.at (c.word_end.result - c.args.at) c.args.line l c.if-len-gt255.false
     (λ q. c.if-code-eq46.false (c.word_code-code.ensures ∙ q))))

@@ -1,19 +1,19 @@
-use mathlib.Core.Path.{sym, ap, ◌∙◌}
+use Rattle.std.proofs.Common.{sym, ap, ◌∙◌}
+use Rattle.std.specs.Option.{is_some}
 use Rattle.rules.proofs.Tests.{never}
-use Rattle.book.specs.declared.Part.{Part}
+use Rattle.ground.specs.declared.Name as code
 use Rattle.tables.specs.Tables.{seek_in}
 use Rattle.enumerations.proofs.ListLaws.{as_written}
-use Rattle.tables.proofs.GatherLaws.{found-old, found-new}
 use Rattle.tables.proofs.clashes.Goals as goal
 
-pub returns-then-seek-lt-NOWHERE : goal.returns-then-seek-lt-NOWHERE
-returns-then-seek-lt-NOWHERE c =
+pub returns-then-is_some : goal.returns-then-is_some
+returns-then-is_some c =
     let a = c.args in
     λ es F N. record {
-      says = found-old c.seek.result _
-          (c.seek.ensures es a.at F
-          ∙ ap (λ (n : Part). seek_in a.text.now a.s.now a.list n es) (as_written c.written_name.ensures))
-          c.if-seek-lt-NOWHERE.true;
+      says =
+          sym c.if-is_some.true ∙ c.is_some.ensures
+          ∙ ap is_some (c.seek.ensures es a.at F
+          ∙ ap (λ (n : code.Name). seek_in a.text.now a.s.now a.list n es) (as_written c.written_name.ensures));
       more = λ e. never (sym e);
     }
 
@@ -21,8 +21,9 @@ pub returns : goal.returns
 returns c =
     let a = c.args in
     λ es F N. record {
-      says = found-new c.seek.result _
-          (c.seek.ensures es a.at F ∙ ap (λ (n : Part). seek_in a.text.now a.s.now a.list n es)
-          (as_written c.written_name.ensures)) c.if-seek-lt-NOWHERE.false;
+      says =
+          sym c.if-is_some.false ∙ c.is_some.ensures
+          ∙ ap is_some (c.seek.ensures es a.at F
+          ∙ ap (λ (n : code.Name). seek_in a.text.now a.s.now a.list n es) (as_written c.written_name.ensures));
       more = λ e. c.enter.ensures es F N;
     }

@@ -1,15 +1,8 @@
 use mathlib.Core.Path.{sym, ◌∙◌}
-use Rattle.enumerations.proofs.ListLaws.{opening-in}
 use Rattle.enumerations.proofs.WrittenLaws.{not-stands}
 use Rattle.tables.proofs.GatherLaws.{list-past, end-within}
 use native.Mathlib.Omega.{arith}
 use Rattle.tables.proofs.grid_of.Goals as goal
-
-pub overflow_add-at : goal.overflow_add-at
-overflow_add-at c = omega (arith, opening-in _ _ (sym c.is_opening.ensures ∙ c.if-is_opening.true))
-
-pub list_end-e-requires : goal.list_end-e-requires
-list_end-e-requires c = omega (arith, opening-in _ _ (sym c.is_opening.ensures ∙ c.if-is_opening.true))
 
 pub returns-then-end-s : goal.returns-then-end-s
 returns-then-end-s c =
@@ -17,8 +10,8 @@ returns-then-end-s c =
       some = omega arith;
       small = omega arith;
       room = λ t e u.
-          let q = list-past t c.args.s.now e c.args.at c.list_end-e.result
-          c.list_end-e.ensures.0 u in
+          let q = list-past t c.args.s.now e c.args.at c.list_end-end.result
+          c.list_end-end.ensures.0 u in
           (omega arith, omega arith);
     }
 
@@ -29,7 +22,7 @@ returns-else-end-s c =
       some = omega arith;
       small = omega arith;
       room = λ t e u.
-          let q = list-past t a.s.now e a.at c.list_end-e.result c.list_end-e.ensures.0 u in
+          let q = list-past t a.s.now e a.at c.list_end-end.result c.list_end-end.ensures.0 u in
           let w = end-within t a.s.now e a.at u in
           absurd (omega (arith, c.if-end-s.false));
     }
@@ -40,5 +33,5 @@ returns-else-is_opening c =
       some = omega arith;
       small = omega arith;
       room = λ t e u. not-stands t c.args.s.now e c.args.at u
-          (sym c.is_opening.ensures ∙ c.if-is_opening.false);
+          (sym c.is_opening.ensures.value ∙ c.if-is_opening.false);
     }

@@ -1,20 +1,15 @@
-use mathlib.Core.Path.{sym, ◌∙◌}
-use Rattle.types.proofs.MeaningLaws.{held_fits}
+use mathlib.Core.Path.{◌∙◌}
 use Rattle.fitting.proofs.ValueLaws.{typed-valued, fits-valued, fair-told}
+use Rattle.types.proofs.fits_in_book.Goals.{in_default-via-in-Enumeration+in_default, in_default-via-in_default}
 use Rattle.types.proofs.fits_in_book.Goals as goal
 
-pub returns-then-is_enumeration : goal.returns-then-is_enumeration
-returns-then-is_enumeration c =
-    let args = c.args in
-    λ x b f g v u k. held_fits args.text.now args.book.now x b args.own args.base _
-    (sym c.is_enumeration.ensures ∙ c.if-is_enumeration.true) v u k
-    (λ e h p q. c.fits.ensures e h (rw c.place_of.ensures p) (rw c.place_of-then-is_enumeration.ensures q))
-
-pub returns : goal.returns
-returns c =
-    let args = c.args in
-    λ x b f g v u k. c.fits-2.ensures
-    ∙ fits-valued x b args.own args.base (fair-told args.text.now x f) (fair-told args.text.now b g)
-    (sym c.is_enumeration.ensures ∙ c.if-is_enumeration.false)
-    (typed-valued args.text.now args.book.now x args.own v)
-    (typed-valued args.text.now args.book.now b args.base u) k
+pub returns-in_default : goal.returns-in_default
+returns-in_default c =
+    let a = c.args in
+    λ x b f g v u k. c.fits-in_default.ensures
+    ∙ fits-valued x b a.own a.base (fair-told a.text.now x f)
+    (λ p q d e. elim c.in_default.branch [
+      | in_default-via-in-Enumeration+in_default w ↦ w.in_default.not-Enumeration-1 q e
+      | in_default-via-in_default w ↦ w.in_default.not-Enumeration-0 p d
+    ])
+    (typed-valued a.text.now a.book.now x a.own v) (typed-valued a.text.now a.book.now b a.base u) k

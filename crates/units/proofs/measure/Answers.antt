@@ -3,10 +3,10 @@ use Rattle.readers.proofs.ReadLaws.{held, expected}
 use Rattle.readers.proofs.CodeLaws.{is_name}
 use Rattle.units.proofs.measure.Goals as goal
 
-pub read_properties-p-requires : goal.read_properties-p-requires
-read_properties-p-requires c = held (expected is_name c.expect-behind.ensures) c.requires
+pub read_properties-properties-requires : goal.read_properties-properties-requires
+read_properties-properties-requires c = held (expected is_name c.expect-behind.ensures) c.requires
 
 pub returns : goal.returns
 returns c =
-    λ o. measure-steps o c.args.in_topic c.expect-behind.ensures c.name_of.ensures c.read_properties-p.ensures
-    c.read_extends-b.ensures c.ended.ensures
+    λ o. measure-steps o c.args.in_topic c.expect-behind.ensures c.name_of.ensures c.read_properties-properties.ensures
+    c.read_extends-base.ensures c.ended.ensures

@@ -1,20 +1,23 @@
-use Rattle.units.proofs.StepLaws.{unit-at, at-start, at-header, at_body, at-members, at-over, over-steps}
-use Rattle.units.specs.declared.Where.TheVariants.{Start, AfterHeader, Body, Members, Over}
+use Rattle.rules.specs.Units.{unit_at}
+use Rattle.units.proofs.StepLaws.{over-steps}
 use Rattle.units.proofs.read_unit.Goals as goal
 
 pub returns-in-Start : goal.returns-in-Start
-returns-in-Start c = unit-at _ Start c.in-Start.is (at-start (c.header.ensures _))
+unfolding unit_at
+returns-in-Start c = rw c.in-Start.is (c.header.ensures _)
 
 pub returns-in-AfterHeader : goal.returns-in-AfterHeader
-returns-in-AfterHeader c = unit-at _ AfterHeader c.in-AfterHeader.is (at-header (c.model.ensures _))
+unfolding unit_at
+returns-in-AfterHeader c = rw c.in-AfterHeader.is (c.model.ensures _)
 
 pub returns-in-Body : goal.returns-in-Body
-returns-in-Body c =
-    unit-at _ (Body _ _) c.in-Body.is (at_body _ _ c.body_unit.ensures)
+unfolding unit_at
+returns-in-Body c = rw c.in-Body.is c.body_unit.ensures
 
 pub returns-in-Members : goal.returns-in-Members
-returns-in-Members c =
-    unit-at _ (Members _ _) c.in-Members.is (at-members _ _ c.member_unit.ensures)
+unfolding unit_at
+returns-in-Members c = rw c.in-Members.is c.member_unit.ensures
 
 pub returns-in-Over : goal.returns-in-Over
-returns-in-Over c = unit-at _ Over c.in-Over.is (at-over (over-steps _ c.ended.ensures))
+unfolding unit_at
+returns-in-Over c = rw c.in-Over.is (over-steps _ c.ended.ensures)

@@ -1,44 +1,27 @@
-use mathlib.Core.Path.{refl, sym, ◌∙◌}
-use Rattle.rules.specs.Bytes.{part}
-use Rattle.words.proofs.WordLaws.{row-found, row_next, row_fits, rows-done}
-use native.Mathlib.Omega.{arith}
+use Rattle.std.proofs.Common.{◌∙◌, sym, arith}
+use Rattle.words.proofs.WordLaws.{row-found, row_next, rows-done}
 use Rattle.words.proofs.among.Goals as goal
 
-pub loop-i-init : goal.loop-i-init
-loop-i-init c = (omega arith, λ l e a. (l, record { are = e; long = a; alike = refl }))
-
-pub returns-then-list-i : goal.returns-then-list-i
-returns-then-list-i c =
-    let a = c.args in
+pub returns-then-eq : goal.returns-then-eq
+returns-then-eq c =
     λ l e g.
-    let x = c.loop-i.invariant.1 l e g in
-    absurd (omega (
-      arith,
-      row_fits (part a.text.now a.at a.len) a.list.now a.len c.loop-i.i l x.0 (omega arith) x.1,
-    ))
+    let (r, x) = c.loop-row.invariant.3 l e g in
+    let s = c.in-Some.ensures.steps in
+    row-found _ l _ _ _ s.1.0 (s.1.1 ∙ c.loop-row.invariant.2) r x (sym c.eq.ensures ∙ c.if-eq.true)
 
-pub returns-then-same_bytes : goal.returns-then-same_bytes
-returns-then-same_bytes c =
-    let a = c.args in
-    λ l e g.
-    let x = c.loop-i.invariant.1 l e g in
-    row-found (part a.text.now a.at a.len) a.list.now a.len c.loop-i.i l x.0 (omega arith) x.1
-    (sym c.same_bytes.ensures ∙ c.if-same_bytes.true)
-
-pub loop-i-preserved : goal.loop-i-preserved
-loop-i-preserved c =
-    let a = c.args in (
+pub loop-row-preserved : goal.loop-row-preserved
+loop-row-preserved c =
+    let s = c.in-Some.ensures.steps in (
       omega arith,
+      tt,
+      s.0 ∙ c.loop-row.invariant.2,
       λ l e g.
-          let x = c.loop-i.invariant.1 l e g in
-          row_next (part a.text.now a.at a.len) a.list.now a.len c.loop-i.i l x.0 (omega arith)
-          x.1 (sym c.same_bytes.ensures ∙ c.if-same_bytes.false),
+          let (r, x) = c.loop-row.invariant.3 l e g in
+          row_next _ l _ _ _ s.1.0 (s.1.1 ∙ c.loop-row.invariant.2) r x (sym c.eq.ensures ∙ c.if-eq.false),
     )
 
 pub returns : goal.returns
 returns c =
-    let a = c.args in
     λ l e g.
-    let x = c.loop-i.invariant.1 l e g in
-    rows-done (part a.text.now a.at a.len) a.list.now a.len
-    c.loop-i.i l x.0 (omega arith) x.1
+    let (r, x) = c.loop-row.invariant.3 l e g in
+    rows-done _ l r _ x (omega (arith, c.in-None.ensures.steps.1.0, c.loop-row.invariant.2))

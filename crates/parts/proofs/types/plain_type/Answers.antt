@@ -1,18 +1,18 @@
 use Rattle.parts.proofs.TypeLaws.{type-text, type-numeric, type-range}
 use mathlib.Core.Bool.{true, false}
 use mathlib.Core.Path.{refl}
+use native.Mathlib.Omega.{arith}
 use Rattle.parts.proofs.types.plain_type.Goals as goal
 
-pub returns-then-y-eq-TEXT : goal.returns-then-y-eq-TEXT
-returns-then-y-eq-TEXT c = λ n. type-text false c.if-y-eq-TEXT.true (c.text_type.ensures false c.if-y-eq-TEXT.true refl)
+pub returns-in-79 : goal.returns-in-79
+returns-in-79 c = λ n. type-text false c.in-79.is (c.text_type.ensures false c.in-79.is refl)
 
-pub returns-then-y-eq-MTEXT : goal.returns-then-y-eq-MTEXT
-returns-then-y-eq-MTEXT c =
-    λ n. type-text true c.if-y-eq-MTEXT.true (c.text_type-then-y-eq-MTEXT.ensures true c.if-y-eq-MTEXT.true refl)
+pub returns-in-80 : goal.returns-in-80
+returns-in-80 c = λ n. type-text true c.in-80.is (c.text_type-in-80.ensures true c.in-80.is refl)
 
-pub returns-then-y-eq-NUMERIC : goal.returns-then-y-eq-NUMERIC
-returns-then-y-eq-NUMERIC c = λ n. type-numeric c.if-y-eq-NUMERIC.true c.numeric_type.ensures
+pub returns-in-81 : goal.returns-in-81
+returns-in-81 c = λ n. type-numeric c.in-81.is c.numeric_type.ensures
 
-pub returns : goal.returns
-returns c =
-    λ n. type-range c.if-y-eq-TEXT.false c.if-y-eq-MTEXT.false c.if-y-eq-NUMERIC.false n c.range_type.ensures
+pub returns-in_default : goal.returns-in_default
+returns-in_default c =
+    λ n. type-range (omega arith) (omega arith) (omega arith) n c.range_type.ensures

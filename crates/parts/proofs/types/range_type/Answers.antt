@@ -10,4 +10,4 @@ number-second-requires c =
 pub returns : goal.returns
 returns c =
     range-reads c.expect-dots.ensures c.expect-bound.ensures c.expect-behind.ensures
-    c.number-first.ensures c.number-second.ensures c.read_unit_reference-u.ensures
+    c.number-first.ensures c.number-second.ensures c.read_unit_reference-unit.ensures

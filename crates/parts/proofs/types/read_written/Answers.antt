@@ -12,13 +12,13 @@ after_mandatory-m-requires c =
       text_in_bounds = c.requires.text_in_bounds;
     }
 
-pub returns-then-y-eq-MANDATORY : goal.returns-then-y-eq-MANDATORY
-returns-then-y-eq-MANDATORY c =
+pub returns-then-y-ne-MANDATORY : goal.returns-then-y-ne-MANDATORY
+returns-then-y-ne-MANDATORY c =
     rw c.with_place.ensures
-    (with-mandatory c.args.scratch.now c.args.based c.args.or_reference c.if-y-eq-MANDATORY.true
-    c.expect-z.ensures c.after_mandatory-m.ensures)
+    (not-mandatory c.args.scratch.now c.args.based c.args.or_reference c.if-y-ne-MANDATORY.true c.type_by-m.ensures)
 
 pub returns : goal.returns
 returns c =
     rw c.with_place-2.ensures
-    (not-mandatory c.args.scratch.now c.args.based c.args.or_reference c.if-y-eq-MANDATORY.false c.type_by-m.ensures)
+    (with-mandatory c.args.scratch.now c.args.based c.args.or_reference c.if-y-ne-MANDATORY.false
+    c.expect-z.ensures c.after_mandatory-m.ensures)

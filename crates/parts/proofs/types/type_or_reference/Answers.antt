@@ -1,9 +1,9 @@
 use Rattle.parts.proofs.TypeLaws.{type-named, type-other}
 use Rattle.parts.proofs.types.type_or_reference.Goals as goal
 
-pub returns-then-y-eq-NAME : goal.returns-then-y-eq-NAME
-returns-then-y-eq-NAME c = type-named c.if-y-eq-NAME.true c.read_reference-r.ensures
+pub returns-then-y-ne-NAME : goal.returns-then-y-ne-NAME
+returns-then-y-ne-NAME c =
+    type-other c.if-y-ne-NAME.true c.type_of.ensures
 
 pub returns : goal.returns
-returns c =
-    type-other c.if-y-eq-NAME.false c.type_of.ensures
+returns c = type-named c.if-y-ne-NAME.false c.read_reference-named.ensures

@@ -1,38 +1,33 @@
 use Rattle.tables.specs.Tables.{Sized}
 use Rattle.tables.proofs.TableLaws.{none-gathered}
-use native.Mathlib.Omega.{arith}
+use Rattle.std.proofs.Common.{sym, ◌∙◌, arith}
+use Rattle.tables.proofs.CheckedLaws.{none_is}
 use Rattle.tables.proofs.twice.gather.Goals as goal
+use Rattle.tables.proofs.twice.gather.Goals.{then-is_some, else-is_some}
 
-pub entered-f-requires : goal.entered-f-requires
-entered-f-requires c = (
+pub entered-requires : goal.entered-requires
+entered-requires c = (
   record {
-    some = c.grid_of-g.ensures.some;
-    fits = omega (arith, c.grid_of-g.ensures.small, c.requires.1);
+    some = c.grid_of-grid.ensures.some;
+    fits = omega (arith, c.grid_of-grid.ensures.small, c.requires.1);
   },
   c.requires.0,
-  c.grid_of-g.ensures,
+  c.grid_of-grid.ensures,
 )
 
-pub returns-in-At : goal.returns-in-At
-returns-in-At c =
-    let z : Sized c.grid_of-g.result c.clear.new.table =
-    record {
-      some = c.grid_of-g.ensures.some;
-      fits = omega (arith, c.grid_of-g.ensures.small, c.requires.1, c.entered-f.auto.table, c.clear.auto.table);
-    } in
-    record {
-      sized = z;
-      gathered = λ e u. none-gathered c.args.text.now c.args.s.now c.grid_of-g.result c.clear.new.table z
-          (λ i h. c.clear.ensures i (omega arith));
-    }
-
-pub returns-in-Nothing : goal.returns-in-Nothing
-returns-in-Nothing c =
-    record {
-      sized = record {
-        some = c.grid_of-g.ensures.some;
-        fits = omega
-            (arith, c.grid_of-g.ensures.small, c.requires.1, c.entered-f.auto.table);
-      };
-      gathered = λ e u. (c.entered-f.ensures e u).1 c.in-Nothing.is;
-    }
+pub returns-clause-gathered : goal.returns-clause-gathered
+returns-clause-gathered c =
+    let a = c.args in
+    let g = c.grid_of-grid.result in
+    λ e u. elim c.if-is_some.branch [
+      | then-is_some w ↦
+          let z : Sized g w.clear.new.table =
+          record {
+            some = c.grid_of-grid.ensures.some;
+            fits = omega
+                (arith, c.grid_of-grid.ensures.small, c.requires.1, c.entered.auto.table, w.clear.auto.table);
+          } in
+          rw w.table-is (none-gathered a.text.now a.s.now g w.clear.new.table z (λ i h. w.clear.ensures i h))
+      | else-is_some w ↦
+          rw w.table-is ((c.entered.ensures e u).1 (none_is _ (sym c.is_some.ensures ∙ w.if-is_some.false)))
+    ]

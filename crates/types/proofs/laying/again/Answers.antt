@@ -1,11 +1,5 @@
-use mathlib.Core.Path.{sym}
 use Rattle.types.proofs.LayLaws.{again-laid}
-use lib.Seq.{length-take-le}
-use native.Mathlib.Omega.{arith}
 use Rattle.types.proofs.laying.again.Goals as goal
-
-pub slice_bounds-size_of-end-2 : goal.slice_bounds-size_of-end-2
-slice_bounds-size_of-end-2 c = sym (length-take-le _ _ (omega arith))
 
 pub returns : goal.returns
 returns c =

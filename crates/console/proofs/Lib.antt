@@ -1,2 +1,0 @@
-pub mod InputLaws
-pub mod OutLaws

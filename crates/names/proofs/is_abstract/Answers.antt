@@ -1,5 +1,0 @@
-use Rattle.names.proofs.BaseLaws.{bits}
-use Rattle.names.proofs.is_abstract.Goals as goal
-
-pub returns : goal.returns
-returns c = λ a f e m h. rw h (bits a f e m).0

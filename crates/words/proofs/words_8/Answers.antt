@@ -1,9 +1,0 @@
-use mathlib.Core.Path.{refl}
-use Rattle.words.specs.Words.{word_code}
-use Rattle.words.proofs.WordLaws.{word-found}
-use Rattle.words.proofs.words_8.Goals as goal
-
-pub returns : goal.returns
-unfolding word_code
-returns c =
-    word-found c.args.text.now _ c.args.at 8 8 _ c.requires refl refl c.among.ensures
