@@ -18,7 +18,7 @@ ghost use Rattle.parts.specs.Forms.{any_of, optional_of};
 ghost use Rattle.wellformed.specs.Fairness.{FairReference};
 ghost use Rattle.tables.specs.Tables.{TableFor};
 ghost use Rattle.ground.specs.Rulings.{ruling_of};
-ghost use Rattle.state.specs.Keeping.{Kept};
+ghost use Rattle.state.specs.Keeping.{KeptIn};
 ghost use Rattle.state.specs.Desks.{Roomy, Stays, with_tables};
 ghost use Rattle.state.specs.Targets.{Ruled};
 ghost use Rattle.attribute_names.specs.Stages.{name_rules, reference_rules};
@@ -72,8 +72,8 @@ fn slot_of(desk: &Desk, st: State, a: AttributeUnit) -> Result<usize, Ruling>
     requires { Inside desk.now.text.now a.name × Roomy desk.now st × (st.context.in_hand ≤ most)
         × Hand desk.now.hand.now }
     ensures { IfOk result (Slots st.context.in_hand)
-        × ((s : D.State) (c : Def) (n : R.Name) (p : List (List ℕ)) (w : G.Written) (rs : List ℕ)
-        → Kept desk.now s st → s.open_class ≡ some c → Given desk.now.text.now n p w rs a
+        × ((s : D.State) (c : Def) (n : R.Name) (p : List (List ℕ)) (w : G.Written) (o rs : List ℕ)
+        → KeptIn desk.now o s st → s.open_class ≡ some c → Given desk.now.text.now n p w rs a
         → SlotIs s c n (has_extended p) desk.now.hand.now st.context.in_hand result) }
 {
     let name = a.name;
@@ -134,8 +134,8 @@ fn reach(desk: &Desk, st: State, a: AttributeUnit, slot: usize) -> Result<Bonds,
     requires reference_value { (b : Option Reference) × (a.written.reference ≡ optional_of b)
         × AnyIs (FairReference desk.now.text.now) b }
     ensures { IfOk result (λ e. (e.slot ≡ slot) × (e.base ≤ st.listing.total) × (e.target ≤ st.listing.count))
-        × ((s : D.State) (c : Def) (n : R.Name) (p : List (List ℕ)) (w : G.Written) (rs : List ℕ)
-        → Kept desk.now s st → s.open_class ≡ some c → Given desk.now.text.now n p w rs a
+        × ((s : D.State) (c : Def) (n : R.Name) (p : List (List ℕ)) (w : G.Written) (o rs : List ℕ)
+        → KeptIn desk.now o s st → s.open_class ≡ some c → Given desk.now.text.now n p w rs a
         → is_found (attribute_at n.bytes c.own) ≡ false
         → ((q : Opened (attributes_in s) desk.now.hand.now st.context.in_hand c)
         → slot ≡ slot_of n.bytes q.hand)
@@ -162,8 +162,8 @@ pub fn judge_name(desk: &mut Desk, st: State, a: AttributeUnit) -> Result<Bonds,
     ensures stays { Stays desk.old desk.new }
     ensures only { desk.new ≡ with_tables desk.old desk.new.tables.now }
     ensures bonds { IfOk result (Within st)
-        × ((s : D.State) (c : Def) (n : R.Name) (p : List (List ℕ)) (w : G.Written)
-        → Kept desk.old s st → s.open_class ≡ some c → Given desk.old.text.now n p w desk.old.scratch.now a
+        × ((s : D.State) (c : Def) (n : R.Name) (p : List (List ℕ)) (w : G.Written) (o : List ℕ)
+        → KeptIn desk.old o s st → s.open_class ≡ some c → Given desk.old.text.now n p w desk.old.scratch.now a
         → BondsAre s c n (has_extended p) w.type desk.old.hand.now st.context.in_hand result) }
 {
     let slot = slot_of(desk, st, a)?;

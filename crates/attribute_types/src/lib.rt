@@ -17,7 +17,7 @@ ghost use Rattle.fitting.specs.Values.{Valued, Typed};
 ghost use Rattle.state.specs.Desks.{Roomy};
 ghost use Rattle.attribute_names.specs.Facts.{Refers, Within};
 ghost use Rattle.attribute_types.specs.Stages.{abstract_domain, head_rules};
-ghost use Rattle.attribute_types.specs.Facts.{Ready, Binds, TypingsAre};
+ghost use Rattle.attribute_types.specs.Facts.{Ready, Binds, UsesAre, TypingsAre};
 
 use attribute_names::Bonds;
 use fitting::Typing;
@@ -165,6 +165,33 @@ fn head_ruling(
     Ok(())
 }
 
+// What types it and its base, whether or not a rule is broken.
+fn uses_of(front: &[u8], index: &[u16], rows: &[u16], count: usize, m: Meant, b: Bonds) -> Uses
+    requires { AttributeRows rows.now b.base × (b.target ≤ count) × Rows index.now count }
+    ensures { Binds b count result × ((t : List ℕ) (ks : List Def) (ms : List Attribute) (total : ℕ)
+        (w : Option WrittenType)
+        → Ready t front.now ks ms index.now count rows.now total → b.base ≤ total
+        → m ≡ any_of w → AnyIs (FairType t) w → Refers w (entry ks b.target)
+        → UsesAre t front.now ks w b.target (entry ms b.base) result) }
+{
+    let kept = kept_by(rows, count, b.base);
+    let base = base_type(front, index, rows, b.base, kept);
+    let named = named_at(m, b.target);
+    let own = own_type(front, index, m, b.target, named, base);
+    let over = Over {
+        based: 0 < b.base,
+        own,
+        base,
+        keeps: types::keeps_unit(index, count, m, b.target, base),
+    };
+    Uses {
+        base: b.base,
+        named,
+        kept,
+        over,
+    }
+}
+
 // Both rules, and the types.
 fn types_of(
     front: &[u8],
@@ -182,26 +209,11 @@ fn types_of(
         → TypingsAre t front.now ks a.name.offset a.properties.twice w b.target
         (entry ms b.base) result) }
 {
-    let p = a.properties;
-    let m = a.written.meant;
+    let twice = a.properties.twice;
     let place = a.name.offset;
-    let kept = kept_by(rows, count, b.base);
-    let base = base_type(front, index, rows, b.base, kept);
-    let named = named_at(m, b.target);
-    let own = own_type(front, index, m, b.target, named, base);
-    head_ruling(index, rows, b.base, b.target, own, p.twice, place)?;
-    let over = Over {
-        based: 0 < b.base,
-        own,
-        base,
-        keeps: types::keeps_unit(index, count, m, b.target, base),
-    };
-    Ok(Uses {
-        base: b.base,
-        named,
-        kept,
-        over,
-    })
+    let u = uses_of(front, index, rows, count, a.written.meant, b);
+    head_ruling(index, rows, b.base, b.target, u.over.own, twice, place)?;
+    Ok(u)
 }
 
 pub fn judge_types(desk: &Desk, st: State, a: AttributeUnit, b: Bonds) -> Result<Uses, Ruling>

@@ -57,9 +57,8 @@ pub record Passes (t : List ℕ) (s : State) (st : code.State) (b b₁ x z y hs 
       → b₁ ≡ splice b (st.extent.used + head_size) (bytes (use_records (use_in s c n w)))
   pub fair : FairState t (after_attribute s c n p w)
 
--- of a desk, whose buffer was b
-abbrev pub PassesIn : Desk → State → code.State → List ℕ → Def → R.Name → List (List ℕ) → G.Written → AttributeUnit
-    → Bonds → ℕ → Size → Type 0
-PassesIn d s st b c n p w a e used size =
-    Passes d.text.now s st b d.book.now d.index.now d.chains.now d.rows.now d.hand.now d.scratch.now c n p w a e used
-    size
+-- of a desk, whose buffer was b, and whose scratch may have other records rs
+abbrev pub PassesIn : Desk → State → code.State → List ℕ → List ℕ → Def → R.Name → List (List ℕ) → G.Written
+    → AttributeUnit → Bonds → ℕ → Size → Type 0
+PassesIn d s st b rs c n p w a e used size =
+    Passes d.text.now s st b d.book.now d.index.now d.chains.now d.rows.now d.hand.now rs c n p w a e used size

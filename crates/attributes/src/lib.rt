@@ -123,8 +123,9 @@ fn end_attribute(
     requires within { Within st b × (st.context.in_hand ≤ most) × (use_of ≤ st.listing.count) }
     requires len_bound { (a.name.offset + a.name.len ≤ 65535) × (size.records ≤ size.bytes) }
     ensures stays { Stays desk.old desk.new }
-    ensures judged { (s : D.State) (o : List ℕ) (c : Def) (n : R.Name) (p : List (List ℕ)) (w : G.Written)
-        → length o ≡ length desk.old.book.now → PassesIn desk.old s st o c n p w a b use_of size
+    ensures scratch { desk.new.scratch ≡ desk.old.scratch }
+    ensures judged { (s : D.State) (o rs : List ℕ) (c : Def) (n : R.Name) (p : List (List ℕ)) (w : G.Written)
+        → length o ≡ length desk.old.book.now → PassesIn desk.old s st o rs c n p w a b use_of size
         → Answered desk.new (room (lent (length o)) n.offset (ok (after_attribute s c n p w))) result }
 {
     let name = a.name;
@@ -158,6 +159,7 @@ pub fn judge_attribute(desk: &mut Desk, st: State, a: AttributeUnit) -> Result<S
     requires comes { (s : D.State) × (n : R.Name) × (p : List (List ℕ)) × (w : G.Written) × Kept desk.old s st
         × Comes desk.old.text.now s (U.attribute n p w) (V-as-Attribute a) desk.old.scratch.now }
     ensures stays { Stays desk.old desk.new }
+    ensures scratch { desk.new.scratch ≡ desk.old.scratch }
     ensures judged { (s : D.State) (n : R.Name) (p : List (List ℕ)) (w : G.Written) → Kept desk.old s st
         → Comes desk.old.text.now s (U.attribute n p w) (V-as-Attribute a) desk.old.scratch.now
         → Answered desk.new (verdict s (U.attribute n p w) desk.old.book.now) result }

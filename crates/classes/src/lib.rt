@@ -23,8 +23,8 @@ ghost use Rattle.parts.specs.Forms.{optional_of};
 ghost use Rattle.units.specs.declared.Unit.TheVariants.{Class as V-as-Class, Measure as V-as-Measure};
 ghost use Rattle.units.specs.Steps.{head_of};
 ghost use Rattle.wellformed.specs.Fairness.{FairReference, FairState};
-ghost use Rattle.state.specs.Desks.{Roomy, Stays, with_book, with_index, with_hand};
-ghost use Rattle.state.specs.Keeping.{Kept, Answered, Comes, verdict, Small};
+ghost use Rattle.state.specs.Desks.{Roomy, Stays, with_book, with_index, with_hand, with_definition};
+ghost use Rattle.state.specs.Keeping.{Kept, KeptIn, KeptOver, Answered, AnsweredOver, Comes, verdict, Small};
 ghost use Rattle.state.specs.Next.{opened_by, declared_by};
 ghost use Rattle.classes.specs.Classes.{kind_of, head_definition, head_bytes, RuledTo13, Heads, HeadRuled};
 
@@ -56,8 +56,8 @@ fn ruling_to_13(desk: &Desk, st: State, head: Head) -> Result<usize, Ruling>
     requires base_value { (b : Option G.Reference) × (head.base ≡ optional_of b)
         × AnyIs (FairReference desk.now.text.now) b }
     ensures { IfOk result (λ p. p ≤ st.listing.count)
-        × ((s : D.State) (c : Sort) (n : R.Name) (p : List (List ℕ)) (b : Option G.Reference)
-        → Kept desk.now s st → head ≡ head_of c n p b
+        × ((s : D.State) (c : Sort) (n : R.Name) (p : List (List ℕ)) (b : Option G.Reference) (o hs : List ℕ)
+        → KeptOver desk.now o hs s st → head ≡ head_of c n p b
         → InText desk.now.text.now n → AnyIs (FairReference desk.now.text.now) b → RuledTo13 s c n p b result) }
 {
     let place = head.name.offset;
@@ -115,10 +115,10 @@ fn head_ruling(desk: &Desk, st: State, head: Head) -> Result<usize, Ruling>
     requires base_value { (b : Option G.Reference) × (head.base ≡ optional_of b)
         × AnyIs (FairReference desk.now.text.now) b }
     ensures { IfOk result (λ p. (p ≤ st.listing.count) × (st.extent.used + head_size ≤ length desk.now.book.now))
-        × ((s : D.State) (c : Sort) (n : R.Name) (p : List (List ℕ)) (b : Option G.Reference)
-        (v : U.Unit) → Kept desk.now s st
+        × ((s : D.State) (c : Sort) (n : R.Name) (p : List (List ℕ)) (b : Option G.Reference) (o hs : List ℕ)
+        (v : U.Unit) → KeptOver desk.now o hs s st → length desk.now.book.now ≡ length o
         → head ≡ head_of c n p b → InText desk.now.text.now n → AnyIs (FairReference desk.now.text.now) b
-        → Heads s c n p b v → HeadRuled s b v desk.now.book.now result) }
+        → Heads s c n p b v → HeadRuled s b v o result) }
 {
     let base = ruling_to_13(desk, st, head)?;
     if desk.book.len() < st.extent.used + book::HEAD_SIZE {
@@ -137,7 +137,7 @@ fn inherited(desk: &mut Desk, st: State, base: usize) -> usize
     ensures stays { Stays desk.old desk.new }
     ensures only { desk.new ≡ with_hand desk.old desk.new.hand.now }
     ensures value { result ≤ most }
-    ensures hand { (s : D.State) (d : Def) → Kept desk.old s st
+    ensures hand { (s : D.State) (o : List ℕ) (d : Def) → KeptIn desk.old o s st
         → s.open_class ≡ none → d.own ≡ [] → d.inherited ≡ attributes_of (or_no_def (entry (known s.decls) base))
         → Opened (attributes_in s) desk.new.hand.now result d }
 {
@@ -170,6 +170,8 @@ fn open_class(desk: &mut Desk, st: State, head: Head, base: usize) -> State
     requires hand { Hand desk.old.hand.now × (st.context.in_hand ≤ most) × (base ≤ st.listing.count)
         × (head.sort ≤ 4) }
     ensures stays { Stays desk.old desk.new }
+    ensures only { desk.new ≡ with_hand (with_index (with_book desk.old desk.new.book.now) desk.new.index.now)
+        desk.new.hand.now }
     ensures value { result ≡ opened_by st result.context.in_hand }
     ensures kept { (s : D.State) (k : Bool) (n : R.Name) (p : List (List ℕ)) (b : Option G.Reference)
         → Kept desk.old s st
@@ -191,6 +193,8 @@ pub fn judge_class(desk: &mut Desk, st: State, head: Head) -> Result<State, Ruli
         × (rs : List ℕ) × Kept desk.old s st
         × Comes desk.old.text.now s (U.class (class_sort k) n p b) (V-as-Class head) rs }
     ensures stays { Stays desk.old desk.new }
+    ensures only { desk.new ≡ with_hand (with_index (with_book desk.old desk.new.book.now) desk.new.index.now)
+        desk.new.hand.now }
     ensures judged { (s : D.State) (k : Bool) (n : R.Name) (p : List (List ℕ)) (b : Option G.Reference) (rs : List ℕ)
         → Kept desk.old s st → Comes desk.old.text.now s (U.class (class_sort k) n p b) (V-as-Class head) rs
         → Answered desk.new (verdict s (U.class (class_sort k) n p b) desk.old.book.now) result }
@@ -207,12 +211,14 @@ fn declare_unit(desk: &mut Desk, st: State, head: Head, base: usize) -> State
         × Roomy desk.old st }
     requires base_le_count { (base ≤ st.listing.count) × (head.sort ≤ 4) }
     ensures stays { Stays desk.old desk.new }
+    ensures only { desk.new ≡ with_definition desk.old desk.new }
     ensures value { result ≡ declared_by st head_size 1 0 }
-    ensures kept { (s : D.State) (n : R.Name) (p : List (List ℕ)) (b : Option G.Reference) → Kept desk.old s st
+    ensures kept { (s : D.State) (n : R.Name) (p : List (List ℕ)) (b : Option G.Reference) (hs : List ℕ)
+        → KeptOver desk.old desk.old.book.now hs s st
         → head ≡ head_of D.unit n p b → InText desk.old.text.now n → s.open_class ≡ none
         → entry (known s.decls) base ≡ resolved s b
         → FairState desk.old.text.now (next_state s (U.unit n p b))
-        → Kept desk.new (next_state s (U.unit n p b)) (declared_by st head_size 1 0) }
+        → KeptOver desk.new desk.new.book.now hs (next_state s (U.unit n p b)) (declared_by st head_size 1 0) }
 {
     write_head(desk, st, head, base);
     desk.make_known(st, head.name);
@@ -223,12 +229,15 @@ fn declare_unit(desk: &mut Desk, st: State, head: Head, base: usize) -> State
 pub fn judge_unit(desk: &mut Desk, st: State, head: Head) -> Result<State, Ruling>
     requires text_len_bound { (length desk.old.text.now ≤ 65535) × (length desk.old.book.now ≤ 65535)
         × Roomy desk.old st }
-    requires comes { (s : D.State) × (n : R.Name) × (p : List (List ℕ)) × (b : Option G.Reference) × (rs : List ℕ)
-        × Kept desk.old s st × Comes desk.old.text.now s (U.unit n p b) (V-as-Measure head) rs }
+    requires comes { (s : D.State) × (n : R.Name) × (p : List (List ℕ)) × (b : Option G.Reference) × (hs : List ℕ)
+        × (rs : List ℕ) × KeptOver desk.old desk.old.book.now hs s st
+        × Comes desk.old.text.now s (U.unit n p b) (V-as-Measure head) rs }
     ensures stays { Stays desk.old desk.new }
-    ensures judged { (s : D.State) (n : R.Name) (p : List (List ℕ)) (b : Option G.Reference) (rs : List ℕ)
-        → Kept desk.old s st → Comes desk.old.text.now s (U.unit n p b) (V-as-Measure head) rs
-        → Answered desk.new (verdict s (U.unit n p b) desk.old.book.now) result }
+    ensures only { desk.new ≡ with_definition desk.old desk.new }
+    ensures judged { (s : D.State) (n : R.Name) (p : List (List ℕ)) (b : Option G.Reference) (hs rs : List ℕ)
+        → KeptOver desk.old desk.old.book.now hs s st
+        → Comes desk.old.text.now s (U.unit n p b) (V-as-Measure head) rs
+        → AnsweredOver desk.new hs (verdict s (U.unit n p b) desk.old.book.now) result }
 {
     let base = head_ruling(desk, st, head)?;
     Ok(declare_unit(desk, st, head, base))

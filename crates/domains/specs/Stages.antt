@@ -77,11 +77,12 @@ pub record OverIs (t o : List ℕ) (w : Option WrittenType) (base target : Optio
 abbrev pub records_of : State → Option Reference → Written → List Record
 records_of s b w = type_records (domain_type w.type (target_in s w) (or_no_def (resolved s b)).type)
 
--- Extending, over a desk, whose book may have other bytes o
-abbrev pub ExtendingIn : Desk → List ℕ → State → code.State → Name → List (List ℕ) → Option Reference → Written
-    → DomainUnit → Reached → Type 0
-ExtendingIn k o s st n p b w d e =
-    Extending k.text.now s st n p b w o k.index.now k.chains.now k.rows.now k.hand.now k.scratch.now d e
+-- Extending, over a desk, of which the book may have other bytes o, the hand other attributes hs, and the scratch
+-- other records rs
+abbrev pub ExtendingIn : Desk → List ℕ → List ℕ → List ℕ → State → code.State → Name → List (List ℕ)
+    → Option Reference → Written → DomainUnit → Reached → Type 0
+ExtendingIn k o hs rs s st n p b w d e =
+    Extending k.text.now s st n p b w o k.index.now k.chains.now k.rows.now hs rs d e
 
 -- the row of a domain
 abbrev pub domain_definition : code.State → code-name.Name → ℕ → ℕ → NewDefinition
@@ -105,10 +106,11 @@ pub record LaidBehind (rs : List Record) (st : code.State) (o o' : List ℕ) (si
 -- some domain is Extending; and the records of its type are of that size
 abbrev pub SomeExtending : Desk → code.State → DomainUnit → Reached → Type 0
 SomeExtending k st d e =
-    (s : State) × (n : Name) × (p : List (List ℕ)) × (b : Option Reference) × (w : Written)
-    × ExtendingIn k k.book.now s st n p b w d e
+    (s : State) × (n : Name) × (p : List (List ℕ)) × (b : Option Reference) × (w : Written) × (hs : List ℕ)
+    × ExtendingIn k k.book.now hs k.scratch.now s st n p b w d e
 
 abbrev pub SomeSized : Desk → code.State → DomainUnit → Reached → Size → Type 0
 SomeSized k st d e size =
     (s : State) × (n : Name) × (p : List (List ℕ)) × (b : Option Reference) × (w : Written) × (o : List ℕ)
-    × ExtendingIn k o s st n p b w d e × (length o ≡ length k.book.now) × (size ≡ size_of (records_of s b w))
+    × (hs : List ℕ) × (rs : List ℕ)
+    × ExtendingIn k o hs rs s st n p b w d e × (length o ≡ length k.book.now) × (size ≡ size_of (records_of s b w))

@@ -26,12 +26,12 @@ ghost use Rattle.enumerations.specs.Standing.{InText};
 ghost use Rattle.ground.specs.Rulings.{ruling_of};
 ghost use Rattle.fitting.specs.Values.{Valued, Typed, UnitNumbered};
 ghost use Rattle.types.specs.Writing.{Scratched};
-ghost use Rattle.state.specs.Keeping.{Comes, verdict, Kept, Answered};
+ghost use Rattle.state.specs.Keeping.{Comes, verdict, KeptOver, AnsweredOver};
 ghost use Rattle.state.specs.Targets.{among_rules, Ruled};
 ghost use Rattle.domains.specs.Stages.{name_rules, Leads, ExtendingIn, OverIs, domain_definition};
 ghost use Rattle.domains.specs.Stages.{SomeSized, SomeExtending, records_of, declared_in};
 ghost use Rattle.domains.specs.Stages.{LaidBehind, from_rule_13};
-ghost use Rattle.state.specs.Desks.{Loan, Roomy, Stays, with_index, with_chains, with_tables};
+ghost use Rattle.state.specs.Desks.{Loan, Roomy, Stays, with_index, with_chains, with_tables, with_definition};
 ghost use Rattle.tables.specs.Tables.{TableFor};
 
 use enumerations::Size;
@@ -59,8 +59,8 @@ fn name_ruling(desk: &mut Desk, st: State, name: Name, m: Meant) -> Result<(), R
         × TableFor (length desk.old.scratch.now) (length desk.old.tables.now) }
     ensures stays { Stays desk.old desk.new }
     ensures only { desk.new ≡ with_tables desk.old desk.new.tables.now }
-    ensures value { (s : D.State) (n : R.Name) (w : Option G.WrittenType)
-        → Kept desk.old s st → name ≡ name_cut n → InText desk.old.text.now n
+    ensures value { (s : D.State) (n : R.Name) (w : Option G.WrittenType) (o hs : List ℕ)
+        → KeptOver desk.old o hs s st → name ≡ name_cut n → InText desk.old.text.now n
         → m ≡ any_of w → Scratched desk.old.text.now desk.old.scratch.now w
         → result ≡ ruling_of (name_rules s n w) }
 {
@@ -82,8 +82,8 @@ fn reach(desk: &Desk, st: State, d: DomainUnit) -> Result<Reached, Ruling>
     requires comes { (s : D.State) × (n : R.Name) × (p : List (List ℕ)) × (b : Option G.Reference) × (w : G.Written)
         × (rs : List ℕ) × Comes desk.now.text.now s (U.domain n p b w) (V-as-Domain d) rs }
     ensures { IfOk result (λ e. (e.base ≤ st.listing.count) × (e.target ≤ st.listing.count))
-        × ((s : D.State) (n : R.Name) (p : List (List ℕ)) (b : Option G.Reference) (w : G.Written) (rs : List ℕ)
-        → Kept desk.now s st → Comes desk.now.text.now s (U.domain n p b w) (V-as-Domain d) rs
+        × ((s : D.State) (n : R.Name) (p : List (List ℕ)) (b : Option G.Reference) (w : G.Written) (o hs rs : List ℕ)
+        → KeptOver desk.now o hs s st → Comes desk.now.text.now s (U.domain n p b w) (V-as-Domain d) rs
         → Ruled result (among_rules domain b (resolved s b) w.type (target_in s w)) (Leads s b w)) }
 {
     let extended = desk.extends(st, sorts::DOMAIN, d.base);
@@ -113,7 +113,8 @@ fn over_base(desk: &Desk, st: State, m: Meant, e: Reached) -> Over
     requires { (st.extent.used ≤ length desk.now.book.now) × (length desk.now.book.now ≤ 65535) × Roomy desk.now st
         × (e.base ≤ st.listing.count) × (e.target ≤ st.listing.count) }
     ensures { (s : D.State) (n : R.Name) (p : List (List ℕ)) (b : Option G.Reference) (w : G.Written)
-        (d : DomainUnit) → m ≡ d.written.meant → ExtendingIn desk.now desk.now.book.now s st n p b w d e
+        (hs rs : List ℕ) (d : DomainUnit) → m ≡ d.written.meant
+        → ExtendingIn desk.now desk.now.book.now hs rs s st n p b w d e
         → OverIs desk.now.text.now (take st.extent.used desk.now.book.now) w.type (resolved s b) (target_in s w)
         result }
 {
@@ -184,11 +185,12 @@ fn add_domain(
     requires ample { Roomy desk.old st }
     requires some_sized { SomeSized desk.old st d e size }
     ensures stays { Stays desk.old desk.new }
+    ensures only { desk.new ≡ with_definition desk.old desk.new }
     ensures judged { (s : D.State) (n : R.Name) (p : List (List ℕ)) (b : Option G.Reference) (w : G.Written)
-        (o : List ℕ) → ExtendingIn desk.old o s st n p b w d e
+        (o hs rs : List ℕ) → ExtendingIn desk.old o hs rs s st n p b w d e
         → length o ≡ length desk.old.book.now → LaidBehind (records_of s b w) st o desk.old.book.now size
         → FairState desk.old.text.now (declared_in s n p b w)
-        → Answered desk.new (room (lent (length o)) n.offset (ok (declared_in s n p b w))) result }
+        → AnsweredOver desk.new hs (room (lent (length o)) n.offset (ok (declared_in s n p b w))) result }
 {
     let name = d.name;
     if !written::has_room(desk.book.len(), st.extent.used, size.bytes) {
@@ -215,9 +217,10 @@ fn typed_domain(desk: &mut Desk, st: State, d: DomainUnit, e: Reached) -> Result
     requires ample { Roomy desk.old st × (e.base ≤ st.listing.count) × (e.target ≤ st.listing.count) }
     requires some_extending { SomeExtending desk.old st d e }
     ensures stays { Stays desk.old desk.new }
+    ensures only { desk.new ≡ with_tables (with_definition desk.old desk.new) desk.new.tables.now }
     ensures judged { (s : D.State) (n : R.Name) (p : List (List ℕ)) (b : Option G.Reference) (w : G.Written)
-        → ExtendingIn desk.old desk.old.book.now s st n p b w d e
-        → Answered desk.new (room (lent (length desk.old.book.now)) n.offset (from_rule_13 s n p b w)) result }
+        (hs : List ℕ) → ExtendingIn desk.old desk.old.book.now hs desk.old.scratch.now s st n p b w d e
+        → AnsweredOver desk.new hs (room (lent (length desk.old.book.now)) n.offset (from_rule_13 s n p b w)) result }
 {
     let over = over_base(desk, st, d.written.meant, e);
     if is_bad_head(d.properties, over.own) {
@@ -240,12 +243,14 @@ pub fn judge_domain(desk: &mut Desk, st: State, d: DomainUnit) -> Result<State, 
     requires loan { Loan desk.old }
     requires ample { Roomy desk.old st }
     requires comes { (s : D.State) × (n : R.Name) × (p : List (List ℕ)) × (b : Option G.Reference) × (w : G.Written)
-        × Kept desk.old s st
+        × (hs : List ℕ) × KeptOver desk.old desk.old.book.now hs s st
         × Comes desk.old.text.now s (U.domain n p b w) (V-as-Domain d) desk.old.scratch.now }
     ensures stays { Stays desk.old desk.new }
+    ensures only { desk.new ≡ with_tables (with_definition desk.old desk.new) desk.new.tables.now }
     ensures judged { (s : D.State) (n : R.Name) (p : List (List ℕ)) (b : Option G.Reference) (w : G.Written)
-        → Kept desk.old s st → Comes desk.old.text.now s (U.domain n p b w) (V-as-Domain d) desk.old.scratch.now
-        → Answered desk.new (verdict s (U.domain n p b w) desk.old.book.now) result }
+        (hs : List ℕ) → KeptOver desk.old desk.old.book.now hs s st
+        → Comes desk.old.text.now s (U.domain n p b w) (V-as-Domain d) desk.old.scratch.now
+        → AnsweredOver desk.new hs (verdict s (U.domain n p b w) desk.old.book.now) result }
 {
     name_ruling(desk, st, d.name, d.written.meant)?;
     let e = reach(desk, st, d)?;

@@ -19,8 +19,8 @@ ghost use Rattle.units.specs.declared.Unit.TheVariants.{Header as V-as-Header, M
 ghost use Rattle.units.specs.declared.Unit.TheVariants.{Topic as V-as-Topic};
 ghost use Rattle.units.specs.declared.Unit.TheVariants.{Close as V-as-Close};
 ghost use Rattle.wellformed.specs.Fairness.{FairState};
-ghost use Rattle.state.specs.Desks.{Roomy, Stays};
-ghost use Rattle.state.specs.Keeping.{Kept, Answered, Comes, verdict, Small};
+ghost use Rattle.state.specs.Desks.{Roomy, Stays, with_book, with_definition};
+ghost use Rattle.state.specs.Keeping.{Keeps, JudgedAs, KeptOver, AnsweredOver, Comes, verdict, Small};
 ghost use Rattle.state.specs.Next.{closed_by};
 ghost use Rattle.heads.specs.Topics.{topic_by};
 
@@ -42,11 +42,12 @@ fn is_edition(text: &[u8], name: Name) -> bool
 // The header: 7.
 pub fn judge_header(desk: &Desk, st: State, name: Name) -> Result<State, Ruling>
     requires text_len_bound { length desk.now.text.now ≤ 65535 }
-    requires comes { (s : D.State) × (v : S.Symbol) × (rs : List ℕ)
-        × Kept desk.now s st × Comes desk.now.text.now s (U.header v) (V-as-Header name) rs }
-    ensures { (s : D.State) (v : S.Symbol) (rs : List ℕ) → Kept desk.now s st
+    requires comes { (s : D.State) × (v : S.Symbol) × (o : List ℕ) × (x : List ℕ) × (z : List ℕ) × (y : List ℕ)
+        × (hs : List ℕ) × (rs : List ℕ) × Keeps desk.now.text.now s st o x z y hs
+        × Comes desk.now.text.now s (U.header v) (V-as-Header name) rs }
+    ensures { (s : D.State) (v : S.Symbol) (o x z y hs rs : List ℕ) → Keeps desk.now.text.now s st o x z y hs
         → Comes desk.now.text.now s (U.header v) (V-as-Header name) rs
-        → Answered desk.now (verdict s (U.header v) desk.now.book.now) result }
+        → JudgedAs desk.now.text.now (verdict s (U.header v) o) result o x z y hs }
 {
     if !is_edition(desk.text, name) {
         return Err(Ruling {
@@ -60,12 +61,15 @@ pub fn judge_header(desk: &Desk, st: State, name: Name) -> Result<State, Ruling>
 // The model: 19.
 pub fn judge_model(desk: &mut Desk, st: State, head: ModelHead) -> Result<State, Ruling>
     requires text_len_bound { (length desk.old.text.now ≤ 65535) × (length desk.old.book.now ≤ 65535) }
-    requires comes { (s : D.State) × (n : R.Name) × (q : U.Strings) × (rs : List ℕ)
-        × Kept desk.old s st × Comes desk.old.text.now s (U.model n q) (V-as-Model head) rs }
+    requires comes { (s : D.State) × (n : R.Name) × (q : U.Strings) × (x : List ℕ) × (z : List ℕ) × (y : List ℕ)
+        × (hs : List ℕ) × (rs : List ℕ) × Keeps desk.old.text.now s st desk.old.book.now x z y hs
+        × Comes desk.old.text.now s (U.model n q) (V-as-Model head) rs }
     ensures stays { Stays desk.old desk.new }
-    ensures judged { (s : D.State) (n : R.Name) (q : U.Strings) (rs : List ℕ) → Kept desk.old s st
+    ensures only { desk.new ≡ with_book desk.old desk.new.book.now }
+    ensures judged { (s : D.State) (n : R.Name) (q : U.Strings) (x z y hs rs : List ℕ)
+        → Keeps desk.old.text.now s st desk.old.book.now x z y hs
         → Comes desk.old.text.now s (U.model n q) (V-as-Model head) rs
-        → Answered desk.new (verdict s (U.model n q) desk.old.book.now) result }
+        → JudgedAs desk.new.text.now (verdict s (U.model n q) desk.old.book.now) result desk.new.book.now x z y hs }
 {
     let name = head.name;
     let used = st.extent.used;
@@ -87,11 +91,13 @@ fn declare_topic(desk: &mut Desk, st: State, name: Name) -> State
         × (length desk.old.book.now ≤ 65535) }
     requires topic_size_in_bounds { (st.extent.used + topic_size ≤ length desk.old.book.now) × Small st
         × Roomy desk.old st }
-    ensures stays { Stays desk.old desk.new × (desk.new.hand ≡ desk.old.hand) }
+    ensures stays { Stays desk.old desk.new }
+    ensures only { desk.new ≡ with_definition desk.old desk.new }
     ensures value { result ≡ topic_by st name }
-    ensures kept { (s : D.State) (n : R.Name) → Kept desk.old s st
+    ensures kept { (s : D.State) (n : R.Name) (hs : List ℕ) → KeptOver desk.old desk.old.book.now hs s st
         → name ≡ name_cut n → InText desk.old.text.now n → s.open_class ≡ none
-        → FairState desk.old.text.now (after_topic s n) → Kept desk.new (after_topic s n) (topic_by st name) }
+        → FairState desk.old.text.now (after_topic s n)
+        → KeptOver desk.new desk.new.book.now hs (after_topic s n) (topic_by st name) }
 {
     let used = st.extent.used;
     let record = book::name_record(kinds::TOPIC, name.offset, name.len);
@@ -116,12 +122,14 @@ fn declare_topic(desk: &mut Desk, st: State, name: Name) -> State
 pub fn judge_topic(desk: &mut Desk, st: State, name: Name) -> Result<State, Ruling>
     requires text_len_bound { (length desk.old.text.now ≤ 65535) × (length desk.old.book.now ≤ 65535)
         × Roomy desk.old st }
-    requires comes { (s : D.State) × (n : R.Name) × (rs : List ℕ)
-        × Kept desk.old s st × Comes desk.old.text.now s (U.topic n) (V-as-Topic name) rs }
+    requires comes { (s : D.State) × (n : R.Name) × (hs : List ℕ) × (rs : List ℕ)
+        × KeptOver desk.old desk.old.book.now hs s st
+        × Comes desk.old.text.now s (U.topic n) (V-as-Topic name) rs }
     ensures stays { Stays desk.old desk.new }
-    ensures judged { (s : D.State) (n : R.Name) (rs : List ℕ) → Kept desk.old s st
+    ensures only { desk.new ≡ with_definition desk.old desk.new }
+    ensures judged { (s : D.State) (n : R.Name) (hs rs : List ℕ) → KeptOver desk.old desk.old.book.now hs s st
         → Comes desk.old.text.now s (U.topic n) (V-as-Topic name) rs
-        → Answered desk.new (verdict s (U.topic n) desk.old.book.now) result }
+        → AnsweredOver desk.new hs (verdict s (U.topic n) desk.old.book.now) result }
 {
     let place = name.offset;
     if desk.is_taken(st, name) {
@@ -139,11 +147,13 @@ fn end_class(desk: &mut Desk, st: State, own: Name) -> State
     requires inside { Inside desk.old.text.now own × (length desk.old.book.now ≤ 65535) }
     requires class_end_size_in_bounds { (st.extent.used + class_end_size ≤ length desk.old.book.now) × Small st
         × Roomy desk.old st }
-    ensures stays { Stays desk.old desk.new × (desk.new.hand ≡ desk.old.hand) }
+    ensures stays { Stays desk.old desk.new }
+    ensures only { desk.new ≡ with_definition desk.old desk.new }
     ensures value { result ≡ closed_by st }
-    ensures kept { (s : D.State) (c : Def) → Kept desk.old s st
+    ensures kept { (s : D.State) (c : Def) (hs : List ℕ) → KeptOver desk.old desk.old.book.now hs s st
         → s.open_class ≡ some c → bytes_of desk.old.text.now own ≡ c.name.bytes
-        → FairState desk.old.text.now (declare s (D.def c)) → Kept desk.new (declare s (D.def c)) (closed_by st) }
+        → FairState desk.old.text.now (declare s (D.def c))
+        → KeptOver desk.new desk.new.book.now hs (declare s (D.def c)) (closed_by st) }
 {
     let record = [kinds::CLASS_END];
     let book = &mut *desk.book;
@@ -170,12 +180,14 @@ fn close_class(desk: &mut Desk, st: State, name: Name) -> Result<State, Ruling>
     requires text_len_bound { (length desk.old.text.now ≤ 65535) × (length desk.old.book.now ≤ 65535)
         × Roomy desk.old st }
     requires open_nonzero { 0 < st.context.open }
-    requires comes { (s : D.State) × (n : R.Name) × (rs : List ℕ)
-        × Kept desk.old s st × Comes desk.old.text.now s (U.close n) (V-as-Close name) rs }
+    requires comes { (s : D.State) × (n : R.Name) × (hs : List ℕ) × (rs : List ℕ)
+        × KeptOver desk.old desk.old.book.now hs s st
+        × Comes desk.old.text.now s (U.close n) (V-as-Close name) rs }
     ensures stays { Stays desk.old desk.new }
-    ensures judged { (s : D.State) (n : R.Name) (rs : List ℕ) → Kept desk.old s st
+    ensures only { desk.new ≡ with_definition desk.old desk.new }
+    ensures judged { (s : D.State) (n : R.Name) (hs rs : List ℕ) → KeptOver desk.old desk.old.book.now hs s st
         → Comes desk.old.text.now s (U.close n) (V-as-Close name) rs
-        → Answered desk.new (verdict s (U.close n) desk.old.book.now) result }
+        → AnsweredOver desk.new hs (verdict s (U.close n) desk.old.book.now) result }
 {
     let own = open_name(desk, st);
     let place = name.offset;
@@ -190,12 +202,15 @@ fn close_class(desk: &mut Desk, st: State, name: Name) -> Result<State, Ruling>
 
 fn close_topic(desk: &mut Desk, st: State, name: Name) -> Result<State, Ruling>
     requires book_len_bound { (length desk.old.book.now ≤ 65535) × (st.context.open ≡ 0) × (0 < st.context.home) }
-    requires comes { (s : D.State) × (n : R.Name) × (rs : List ℕ)
-        × Kept desk.old s st × Comes desk.old.text.now s (U.close n) (V-as-Close name) rs }
+    requires comes { (s : D.State) × (n : R.Name) × (x : List ℕ) × (z : List ℕ) × (y : List ℕ) × (hs : List ℕ)
+        × (rs : List ℕ) × Keeps desk.old.text.now s st desk.old.book.now x z y hs
+        × Comes desk.old.text.now s (U.close n) (V-as-Close name) rs }
     ensures stays { Stays desk.old desk.new }
-    ensures judged { (s : D.State) (n : R.Name) (rs : List ℕ) → Kept desk.old s st
+    ensures only { desk.new ≡ with_book desk.old desk.new.book.now }
+    ensures judged { (s : D.State) (n : R.Name) (x z y hs rs : List ℕ)
+        → Keeps desk.old.text.now s st desk.old.book.now x z y hs
         → Comes desk.old.text.now s (U.close n) (V-as-Close name) rs
-        → Answered desk.new (verdict s (U.close n) desk.old.book.now) result }
+        → JudgedAs desk.new.text.now (verdict s (U.close n) desk.old.book.now) result desk.new.book.now x z y hs }
 {
     let topic = st.context.topic;
     let place = name.offset;
@@ -216,12 +231,14 @@ fn close_topic(desk: &mut Desk, st: State, name: Name) -> Result<State, Ruling>
 pub fn judge_close(desk: &mut Desk, st: State, name: Name) -> Result<State, Ruling>
     requires text_len_bound { (length desk.old.text.now ≤ 65535) × (length desk.old.book.now ≤ 65535)
         × Roomy desk.old st }
-    requires comes { (s : D.State) × (n : R.Name) × (rs : List ℕ)
-        × Kept desk.old s st × Comes desk.old.text.now s (U.close n) (V-as-Close name) rs }
+    requires comes { (s : D.State) × (n : R.Name) × (hs : List ℕ) × (rs : List ℕ)
+        × KeptOver desk.old desk.old.book.now hs s st
+        × Comes desk.old.text.now s (U.close n) (V-as-Close name) rs }
     ensures stays { Stays desk.old desk.new }
-    ensures judged { (s : D.State) (n : R.Name) (rs : List ℕ) → Kept desk.old s st
+    ensures only { desk.new ≡ with_definition desk.old desk.new }
+    ensures judged { (s : D.State) (n : R.Name) (hs rs : List ℕ) → KeptOver desk.old desk.old.book.now hs s st
         → Comes desk.old.text.now s (U.close n) (V-as-Close name) rs
-        → Answered desk.new (verdict s (U.close n) desk.old.book.now) result }
+        → AnsweredOver desk.new hs (verdict s (U.close n) desk.old.book.now) result }
 {
     if 0 < st.context.open {
         return close_class(desk, st, name);

@@ -120,3 +120,42 @@ module _ {t : List ℕ} {s : State} {rs : List ℕ} where
       where
         go : (v : Option U.Unit) → Case t s rs v (Close m) → (n : R.Name) × Comes t s (U.close n) (Close m) rs
         go v (close {n} h) = (n, h)
+
+  -- ---- and what holds of that unit holds of the one that came
+  module _ (P : Option U.Unit → Type 0) (v : Option U.Unit) {u : code.Unit} (c : ComesAny t s v u rs) where
+    pub by-model : {d : ModelHead} → u ≡ Model d
+        → ((n : R.Name) (q : U.Strings) → Comes t s (U.model n q) (Model d) rs → P (some (U.model n q))) → P v
+    by-model {d} e f = go v (at v c (Model d) e)
+      where
+        go : (v : Option U.Unit) → Case t s rs v (Model d) → P v
+        go v (model {n} {q} h) = f n q h
+
+    pub by-topic : {m : Name} → u ≡ Topic m
+        → ((n : R.Name) → Comes t s (U.topic n) (Topic m) rs → P (some (U.topic n))) → P v
+    by-topic {m} e f = go v (at v c (Topic m) e)
+      where
+        go : (v : Option U.Unit) → Case t s rs v (Topic m) → P v
+        go v (topic {n} h) = f n h
+
+    pub by-domain : {d : DomainUnit} → u ≡ Domain d
+        → ((n : R.Name) (p : List (List ℕ)) (b : Option G.Reference) (w : G.Written)
+        → Comes t s (U.domain n p b w) (Domain d) rs → P (some (U.domain n p b w))) → P v
+    by-domain {d} e f = go v (at v c (Domain d) e)
+      where
+        go : (v : Option U.Unit) → Case t s rs v (Domain d) → P v
+        go v (domain {n} {p} {b} {w} h) = f n p b w h
+
+    pub by-measure : {d : Head} → u ≡ Measure d
+        → ((n : R.Name) (p : List (List ℕ)) (b : Option G.Reference) → Comes t s (U.unit n p b) (Measure d) rs
+        → P (some (U.unit n p b))) → P v
+    by-measure {d} e f = go v (at v c (Measure d) e)
+      where
+        go : (v : Option U.Unit) → Case t s rs v (Measure d) → P v
+        go v (measure {n} {p} {b} h) = f n p b h
+
+    pub by-close : {m : Name} → u ≡ Close m
+        → ((n : R.Name) → Comes t s (U.close n) (Close m) rs → P (some (U.close n))) → P v
+    by-close {m} e f = go v (at v c (Close m) e)
+      where
+        go : (v : Option U.Unit) → Case t s rs v (Close m) → P v
+        go v (close {n} h) = f n h

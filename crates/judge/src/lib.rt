@@ -1,7 +1,7 @@
 // Judging a unit: 4 by count, 7 to 19 and 22, and its records.
 #![tactic(auto)]
 
-ghost use Rattle.std.specs.Prelude.{length};
+ghost use Rattle.std.specs.Prelude.{◌≡◌, length};
 ghost use Rattle.std.proofs.Math.Option.{Option};
 ghost use Rattle.rules.specs.Units as U;
 ghost use Rattle.rules.specs.Declarations as D;
@@ -22,6 +22,7 @@ pub fn judge(desk: &mut Desk, st: State, unit: Unit) -> Result<State, Ruling>
     requires comes { (s : D.State) × (v : Option U.Unit) × Kept desk.old s st
         × ComesAny desk.old.text.now s v unit desk.old.scratch.now }
     ensures stays { Stays desk.old desk.new }
+    ensures scratch { desk.new.scratch ≡ desk.old.scratch }
     ensures judged { (s : D.State) (v : Option U.Unit) → Kept desk.old s st
         → ComesAny desk.old.text.now s v unit desk.old.scratch.now
         → Answers desk.new (length desk.old.book.now) s result v }

@@ -48,6 +48,10 @@ with_hand d v = desk_of d d.book d.index d.rows d.chains (holding d.hand v) d.ta
 abbrev pub with_tables : Desk → List ℕ → Desk
 with_tables d v = desk_of d d.book d.index d.rows d.chains d.hand (holding d.tables v)
 
+-- the desk a, with what b has where a definition is written: in the book, the index and the chains
+abbrev pub with_definition : Desk → Desk → Desk
+with_definition a b = with_chains (with_index (with_book a b.book.now) b.index.now) b.chains.now
+
 -- the same slices are lent, as long as they were
 abbrev pub Lends : MutBor (List ℕ) → MutBor (List ℕ) → Type 0
 Lends a b = (b ≡ holding a b.now) × (length b.now ≡ length a.now)

@@ -88,12 +88,18 @@ pub record Comes (t : List ℕ) (s : State) (v : U.Unit) (u : Unit) (rs : List �
 abbrev pub verdict : State → U.Unit → List ℕ → J.Judged
 verdict s v o = room (lent (length o)) (unit_place v) (judge s v)
 
--- ---- the same of a desk, whose book may have other bytes o
+-- ---- the same of a desk, whose book may have other bytes o, and the hand other attributes hs
+abbrev pub KeptOver : Desk → List ℕ → List ℕ → State → code.State → Type 0
+KeptOver d o hs s st = Keeps d.text.now s st o d.index.now d.chains.now d.rows.now hs
+
 abbrev pub KeptIn : Desk → List ℕ → State → code.State → Type 0
-KeptIn d o s st = Keeps d.text.now s st o d.index.now d.chains.now d.rows.now d.hand.now
+KeptIn d o s st = KeptOver d o d.hand.now s st
 
 abbrev pub Kept : Desk → State → code.State → Type 0
 Kept d s st = KeptIn d d.book.now s st
 
+abbrev pub AnsweredOver : Desk → List ℕ → J.Judged → Result code.State Ruling → Type 0
+AnsweredOver d hs j r = JudgedAs d.text.now j r d.book.now d.index.now d.chains.now d.rows.now hs
+
 abbrev pub Answered : Desk → J.Judged → Result code.State Ruling → Type 0
-Answered d j r = JudgedAs d.text.now j r d.book.now d.index.now d.chains.now d.rows.now d.hand.now
+Answered d j r = AnsweredOver d d.hand.now j r

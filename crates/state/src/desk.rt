@@ -1,5 +1,5 @@
 // What is lent for a check, and what is looked up and entered there.
-ghost use Rattle.std.specs.Prelude.{◌≡◌, List, [], ◌∷◌, ◌++◌, ◌+◌, ◌*◌, ◌≤◌, ◌<◌, length, IfOk};
+ghost use Rattle.std.specs.Prelude.{◌≡◌, List, [], ◌∷◌, ◌++◌, ℕ, ◌+◌, ◌*◌, ◌≤◌, ◌<◌, length, IfOk};
 ghost use Rattle.std.proofs.Math.Option.{Option};
 ghost use Rattle.rules.specs.Grammar as G;
 ghost use Rattle.rules.specs.Declarations as D;
@@ -13,7 +13,7 @@ ghost use Rattle.names.specs.Rows.{Narrow};
 ghost use Rattle.members.specs.Rows.{Narrow as NarrowMember};
 ghost use Rattle.parts.specs.Forms.{reference_of, optional_of};
 ghost use Rattle.wellformed.specs.Fairness.{FairReference};
-ghost use Rattle.state.specs.Keeping.{Kept};
+ghost use Rattle.state.specs.Keeping.{KeptOver};
 ghost use Rattle.state.specs.Desks.{Roomy, Stays, with_index, with_rows, with_chains};
 ghost use Rattle.state.specs.Desks.{with_row, with_last, with_attribute_row};
 ghost use Rattle.state.specs.Targets.{Ruled};
@@ -39,10 +39,11 @@ pub struct Desk<'a> {
 
 impl<'a> Desk<'a> {
     // ---- looking up
-    // Whether a new name is taken.
+    // Whether a new name is taken, by the listing and the home of a state.
     pub fn is_taken(&self, st: State, name: Name) -> bool
         requires { Inside self.now.text.now name × Roomy self.now st }
-        ensures { (s : D.State) → Kept self.now s st
+        ensures { (s : D.State) (t : State) (o hs : List ℕ) → t.listing ≡ st.listing
+            → t.context.home ≡ st.context.home → KeptOver self.now o hs s t
             → result ≡ is_found (at_hand s (bytes_of self.now.text.now name)) }
     {
         let count = st.listing.count;
@@ -54,7 +55,7 @@ impl<'a> Desk<'a> {
     pub fn named(&self, st: State, r: Reference) -> usize
         requires { Inside self.now.text.now st.context.model × AllInside self.now.text.now r × Roomy self.now st }
         ensures { (result ≤ st.listing.count)
-            × ((s : D.State) (b : G.Reference) → Kept self.now s st
+            × ((s : D.State) (b : G.Reference) (o hs : List ℕ) → KeptOver self.now o hs s st
             → r ≡ reference_of b → FairReference self.now.text.now b → entry (known s.decls) result ≡ resolve s b) }
     {
         let model = st.context.model;
@@ -69,7 +70,7 @@ impl<'a> Desk<'a> {
         requires base_value { (b : Option G.Reference) × (base ≡ optional_of b)
             × AnyIs (FairReference self.now.text.now) b }
         ensures { IfOk result (λ p. p ≤ st.listing.count)
-            × ((s : D.State) (c : Sort) (b : Option G.Reference) → Kept self.now s st
+            × ((s : D.State) (c : Sort) (b : Option G.Reference) (o hs : List ℕ) → KeptOver self.now o hs s st
             → sort ≡ sort_number c → base ≡ optional_of b → AnyIs (FairReference self.now.text.now) b
             → Ruled result (extends_rules c b (resolved s b)) (λ p. entry (known s.decls) p ≡ resolved s b)) }
     {
@@ -89,7 +90,7 @@ impl<'a> Desk<'a> {
         requires reference_value { (b : Option G.Reference) × (reference ≡ optional_of b)
             × AnyIs (FairReference self.now.text.now) b }
         ensures { (result ≤ st.listing.count)
-            × ((s : D.State) (b : Option G.Reference) → Kept self.now s st
+            × ((s : D.State) (b : Option G.Reference) (o hs : List ℕ) → KeptOver self.now o hs s st
             → reference ≡ optional_of b → AnyIs (FairReference self.now.text.now) b
             → entry (known s.decls) result ≡ resolved s b) }
     {

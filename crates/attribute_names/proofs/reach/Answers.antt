@@ -14,8 +14,8 @@ returns-in_err-reference_ruling c =
     let e = err_from_is_err_and c.from_residual.result c.from_residual.ensures.1 in
     rw (e.1, e.2) (
       tt,
-      λ q d n p w rs k ec g off es.
-          let en = c.target-target.ensures.1 q (reference_in w.type) k
+      λ q d n p w o rs k ec g off es.
+          let en = c.target-target.ensures.1 q (reference_in w.type) o c.args.desk.now.hand.now k
           (is-reference c.args.desk.now.text.now n p w rs c.args.a g)
           (reference-fair c.args.desk.now.text.now w.type g.fair.type) in
           reference-is k ec g off c.args.slot (es (was k ec g)) c.found_at-base.result c.found_at-base.ensures.1
@@ -26,8 +26,8 @@ returns-in_err-reference_ruling c =
 pub returns : goal.returns
 returns c = (
   (refl, c.found_at-base.ensures.0, c.target-target.ensures.0),
-  λ q d n p w rs k ec g off es.
-      let en = c.target-target.ensures.1 q (reference_in w.type) k
+  λ q d n p w o rs k ec g off es.
+      let en = c.target-target.ensures.1 q (reference_in w.type) o c.args.desk.now.hand.now k
       (is-reference c.args.desk.now.text.now n p w rs c.args.a g)
       (reference-fair c.args.desk.now.text.now w.type g.fair.type) in
       let sl = es (was k ec g) in (

@@ -50,11 +50,11 @@ returns-clause-stays c =
 
 pub returns-clause-judged : goal.returns-clause-judged
 returns-clause-judged c =
-    λ q o d n ps w el h.
+    λ q o rs d n ps w el h.
     let f = c.put_head-f.ensures.only in
     let x = was h el c.requires.used_in_bounds.1 in
     let v = c.put_head-f.ensures.value.1 c.args.desk.now.text.now (book q) (known q.decls) (attributes_in q) x.hand
-    c.args.st.context.in_hand n ps w c.args.desk.now.scratch.now (held-front h el c.requires.used_in_bounds.1) h.given
+    c.args.st.context.in_hand n ps w rs (held-front h el c.requires.used_in_bounds.1) h.given
     x.filled (h.at_slot x) in
     rw (c.enter_attribute.ensures.only, f)
     (end-fine h el c.requires.used_in_bounds.1
@@ -67,5 +67,5 @@ returns-clause-judged c =
 
 pub returns-then-not-has_room-clause-judged : goal.returns-then-not-has_room-clause-judged
 returns-then-not-has_room-clause-judged c =
-    λ q o d n p w el h.
+    λ q o rs d n p w el h.
     end-over h el c.requires.used_in_bounds.1 (sym c.has_room.ensures ∙ c.if-not-has_room.true) _ refl _ _ _ _ _

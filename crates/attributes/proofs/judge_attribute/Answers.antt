@@ -40,7 +40,7 @@ returns-in_err-b-clause-judged c =
     rw (i.1, i.2, o) (λ q n p w k m.
     let (d, ed) = class-is k m in
     answers k m _ _ _ _ _ _
-    (judged-first k m _ (c.in_err-b.ensures.bonds.1 q d n p w k ed (unit-is k m))))
+    (judged-first k m _ (c.in_err-b.ensures.bonds.1 q d n p w c.args.desk.now.book.now k ed (unit-is k m))))
 
 pub returns-in_err-u-clause-judged : goal.returns-in_err-u-clause-judged
 returns-in_err-u-clause-judged c =
@@ -49,7 +49,7 @@ returns-in_err-u-clause-judged c =
     let ru = rw o at c.in_err-u.ensures.1 in
     rw (i.1, i.2, o) (λ q n p w k m.
     let (d, ed) = class-is k m in
-    let ei = c.in_ok-b.ensures.bonds.1 q d n p w k ed (unit-is k m) in
+    let ei = c.in_ok-b.ensures.bonds.1 q d n p w c.args.desk.now.book.now k ed (unit-is k m) in
     answers k m _ _ _ _ _ _
     (judged-second k m ei _ (typings k m ei c.requires.text_len_bound.1 (Err c.in_err-u.field-0.0) ru)))
 
@@ -58,7 +58,7 @@ lay_use-requires-clause-sized c =
     let (q, n, p, w, k, m) = c.requires.comes in
     let (d, ed) = class-is k m in
     let o = c.in_ok-b.ensures.only in
-    let ei = c.in_ok-b.ensures.bonds.1 q d n p w k ed (unit-is k m) in
+    let ei = c.in_ok-b.ensures.bonds.1 q d n p w c.args.desk.now.book.now k ed (unit-is k m) in
     let ri = typings k m ei c.requires.text_len_bound.1 (Ok c.in_ok-u.u) (rw o at c.in_ok-u.ensures.1) in
     rw o (
       ri.1.sized_own,
@@ -77,7 +77,7 @@ returns-in_err-size-clause-judged c =
     let rl = rw o at c.in_err-size.ensures.value in
     rw (i.1, i.2, e, o) (λ q n p w k m.
     let (d, ed) = class-is k m in
-    let ei = c.in_ok-b.ensures.bonds.1 q d n p w k ed (unit-is k m) in
+    let ei = c.in_ok-b.ensures.bonds.1 q d n p w c.args.desk.now.book.now k ed (unit-is k m) in
     let bi = c.in_ok-u.ensures.0 in
     let ri = typings k m ei c.requires.text_len_bound.1 (Ok c.in_ok-u.u) ru in
     answers k m _ _ _ _ _ _
@@ -113,7 +113,7 @@ end_attribute-requires-clause-len_bound c =
     let (q, n, p, w, k, m) = c.requires.comes in
     let (d, ed) = class-is k m in
     let o = c.in_ok-b.ensures.only in
-    let ei = c.in_ok-b.ensures.bonds.1 q d n p w k ed (unit-is k m) in
+    let ei = c.in_ok-b.ensures.bonds.1 q d n p w c.args.desk.now.book.now k ed (unit-is k m) in
     let bi = c.in_ok-u.ensures.0 in
     let ri = typings k m ei c.requires.text_len_bound.1 (Ok c.in_ok-u.u) (rw o at c.in_ok-u.ensures.1) in
     let li = laid-by k m ei bi ri c.lay_use.new.desk.book.now c.in_ok-b.ensures.bonds.0.base
@@ -132,7 +132,7 @@ returns-clause-judged c =
     rw t (λ q n p w k m.
     let (d, ed) = class-is k m in
     let g = unit-is k m in
-    let ei = c.in_ok-b.ensures.bonds.1 q d n p w k ed g in
+    let ei = c.in_ok-b.ensures.bonds.1 q d n p w c.args.desk.now.book.now k ed g in
     let bi = c.in_ok-u.ensures.0 in
     let ri = typings k m ei c.requires.text_len_bound.1 (Ok c.in_ok-u.u) ru in
     let li = laid-by k m ei bi ri c.lay_use.new.desk.book.now c.in_ok-b.ensures.bonds.0.base
@@ -142,5 +142,5 @@ returns-clause-judged c =
     (is-meant c.args.desk.now.text.now n p w c.args.desk.now.scratch.now c.args.a g) ri.1.named (refers_to k m ei)
     ri.1.kept in
     judged-end k m ei bi ri _ _ li c.end_attribute.result _ _ _ _ _
-    (rw t at (c.end_attribute.ensures.judged q c.args.desk.now.book.now d n p w
+    (rw t at (c.end_attribute.ensures.judged q c.args.desk.now.book.now c.args.desk.now.scratch.now d n p w
     (sym same) (rw (e, o) (passes k m ei bi ri _ _ li c.use_at-d.result u)))))

@@ -13,7 +13,7 @@ returns-clause-stays c = stays-trans _ _ _ c.write_head.ensures.stays c.make_kno
 
 pub returns-clause-kept : goal.returns-clause-kept
 returns-clause-kept c =
-    λ s n p b K e h w eb f.
+    λ s n p b hs K e h w eb f.
     let o = c.write_head.ensures.only in
     rw (c.make_known.ensures.only, o)
     (unit-declared c.args.desk.now.text.now s c.args.st _ _ _ _ _ K n p b

@@ -6,5 +6,5 @@ use Rattle.classes.proofs.inherited.Goals as goal
 
 pub returns-clause-hand : goal.returns-clause-hand
 returns-clause-hand c =
-    λ s d k e eo ei. c.inherit.ensures.1 (known s.decls) (attributes_in s) d (indexed k.held)
+    λ s o d k e eo ei. c.inherit.ensures.1 (known s.decls) (attributes_in s) d (indexed k.held)
     (in-hand c.args.desk.now.text.now s c.args.st _ _ _ _ c.args.desk.now.hand.now k e) eo ei

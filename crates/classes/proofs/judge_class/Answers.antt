@@ -1,3 +1,4 @@
+use mathlib.Core.Path.{refl}
 use Rattle.std.proofs.lemmas.Result.{err_from_is_err_and}
 use Rattle.rules.specs.Units as U
 use Rattle.rules.specs.Units.{class_sort}
@@ -14,7 +15,7 @@ returns-in_err-base-clause-judged c =
     let i = class-is c.args.desk.now.text.now s n p b c.args.head rs k q in
     answer-broken c.args.desk.now.text.now s b (U.class (class_sort k) n p b) _ _ _ _ _ _ _
     (c.in_err-base.ensures.1 s (class_sort k) n p b
-    (U.class (class_sort k) n p b) K i q.fair.0 q.fair.1
+    _ _ (U.class (class_sort k) n p b) K refl i q.fair.0 q.fair.1
     (class-heads s n p b (none_open s q.stands) k)))
 
 pub open_class-requires-clause-head_size_in_bounds : goal.open_class-requires-clause-head_size_in_bounds
@@ -31,7 +32,7 @@ returns-clause-judged c =
     let i = class-is c.args.desk.now.text.now s n p b c.args.head rs k q in
     let w = none_open s q.stands in
     let v = U.class (class_sort k) n p b in
-    let u = c.in_ok-base.ensures.1 s (class_sort k) n p b v K i q.fair.0
+    let u = c.in_ok-base.ensures.1 s (class_sort k) n p b _ _ v K refl i q.fair.0
     q.fair.1 (class-heads s n p b w k) in
     let f = answer-fair c.args.desk.now.text.now s b v _ _ u q.fair q.stands K.fair in
     answer-fine _ s b v _ _ _ _ _ _ _ u _ _ c.open_class.ensures.value

@@ -27,5 +27,5 @@ returns-clause-kept c =
     (definition-rows c.args.desk.now c.args.st c.requires.head_size_in_bounds.2
     (c.args.st.listing.count + 2) (omega arith))
     _ refl k e _ _ c.opened.ensures c.inherited-n.ensures.value
-    _ (λ d eo ei. c.inherited-n.ensures.hand s d K w eo ei)
+    _ (λ d eo ei. c.inherited-n.ensures.hand s _ d K w eo ei)
     _ refl f)

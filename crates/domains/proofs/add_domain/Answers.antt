@@ -9,7 +9,7 @@ use Rattle.domains.proofs.add_domain.Goals as goal
 
 pub overflow_add-size-2 : goal.overflow_add-size-2
 overflow_add-size-2 c =
-    let (s, n, p, b, w, o, h, l, z) = c.requires.some_sized in
+    let (s, n, p, b, w, o, hs, rs, h, l, z) = c.requires.some_sized in
     let v = numbers h c.args.desk.now.book.now l c.requires.text_len_bound.1 c.args.size z
     (sym c.has_room.ensures ∙ c.if-not-has_room.false) in
     let k = v.records in
@@ -17,14 +17,14 @@ overflow_add-size-2 c =
 
 pub declared-requires-clause-bytes_bound : goal.declared-requires-clause-bytes_bound
 declared-requires-clause-bytes_bound c =
-    let (s, n, p, b, w, o, h, l, z) = c.requires.some_sized in
+    let (s, n, p, b, w, o, hs, rs, h, l, z) = c.requires.some_sized in
     let v = numbers h c.args.desk.now.book.now l c.requires.text_len_bound.1 c.args.size z
     (sym c.has_room.ensures ∙ c.if-not-has_room.false) in
     (v.used, v.recorded, v.defined)
 
 pub returns-clause-judged : goal.returns-clause-judged
 returns-clause-judged c =
-    λ s n p b w o h l e f.
+    λ s n p b w o hs rs h l e f.
     let m = (indexed h.keeps.held).known in
     rw c.enter_domain.ensures.only
     (kept-domain h c.args.desk.now.book.now l c.requires.text_len_bound.1 c.args.size e.sized
@@ -43,7 +43,7 @@ returns-clause-judged c =
 
 pub returns-then-not-has_room-clause-judged : goal.returns-then-not-has_room-clause-judged
 returns-then-not-has_room-clause-judged c =
-    λ s n p b w o h l e f.
+    λ s n p b w o hs rs h l e f.
     refused-room h c.args.desk.now.book.now l c.requires.text_len_bound.1 c.args.size e.sized
     (sym c.has_room.ensures ∙ c.if-not-has_room.true)
     _ refl _ _ _

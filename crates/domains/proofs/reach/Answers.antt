@@ -17,11 +17,11 @@ returns-in_err-base c =
     let p = err_from_is_err_and c.from_residual.result c.from_residual.ensures.1 in
     rw (p.1, p.2) (
       tt,
-      λ s n p b w rs k h.
-          let e = c.extends-extended.ensures.1 s domain b k refl (ap (λ (u : DomainUnit). u.base) (domain-is h))
+      λ s n p b w o hs rs k h.
+          let e = c.extends-extended.ensures.1 s domain b o hs k refl (ap (λ (u : DomainUnit). u.base) (domain-is h))
           h.fair.1 in
           let r = ap (λ (u : DomainUnit). u.written.reference) (domain-is h) in
-          let g = c.target-target.ensures.1 s (reference_in w.type) k r
+          let g = c.target-target.ensures.1 s (reference_in w.type) o hs k r
           (reference-fair c.args.desk.now.text.now w.type h.fair.2.type) in
           let q = c.target_ruling-of_type.ensures c.args.desk.now.text.now (known s.decls)
           c.args.st.listing.count
@@ -38,11 +38,11 @@ returns c = (
         c.extends-extended.ensures.0,
     c.target-target.ensures.0,
   ),
-  λ s n p b w rs k h.
-      let e = c.extends-extended.ensures.1 s domain b k refl (ap (λ (u : DomainUnit). u.base) (domain-is h))
+  λ s n p b w o hs rs k h.
+      let e = c.extends-extended.ensures.1 s domain b o hs k refl (ap (λ (u : DomainUnit). u.base) (domain-is h))
       h.fair.1 in
       let r = ap (λ (u : DomainUnit). u.written.reference) (domain-is h) in
-      let g = c.target-target.ensures.1 s (reference_in w.type) k r
+      let g = c.target-target.ensures.1 s (reference_in w.type) o hs k r
       (reference-fair c.args.desk.now.text.now w.type h.fair.2.type) in
       let q = c.target_ruling-of_type.ensures c.args.desk.now.text.now (known s.decls)
       c.args.st.listing.count

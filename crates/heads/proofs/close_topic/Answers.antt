@@ -10,7 +10,7 @@ use Rattle.heads.proofs.close_topic.Goals as goal
 
 pub grown-requires : goal.grown-requires
 grown-requires c =
-    let (s, n, rs, k, q) = c.requires.comes in
+    let (s, n, x, z, y, hs, rs, k, q) = c.requires.comes in
     let a = small c.args.desk.now.text.now s c.args.st _ _ _ _ _ k in
     let i = c.if-desk-used.false in (
       omega (arith, c.requires.book_len_bound.0, i),
@@ -20,7 +20,7 @@ grown-requires c =
 
 pub returns-clause-judged : goal.returns-clause-judged
 returns-clause-judged c =
-    λ s n rs k q.
+    λ s n x z y hs rs k q.
     let (d, et, ca) = topic-there c.args.desk.now.text.now s c.args.st _ _ _ _ _ k c.requires.book_len_bound.2 in
     close-topic-fine c.args.desk.now.text.now s n c.args.st _ _ _ _ _ rs
     c.args.name k q c.requires.book_len_bound.0
@@ -32,7 +32,7 @@ returns-clause-judged c =
 
 pub returns-then-desk-used-clause-judged : goal.returns-then-desk-used-clause-judged
 returns-then-desk-used-clause-judged c =
-    λ s n rs k q.
+    λ s n x z y hs rs k q.
     let (d, et, ca) = topic-there c.args.desk.now.text.now s c.args.st _ _ _ _ _ k c.requires.book_len_bound.2 in
     close-topic-over c.args.desk.now.text.now s n c.args.st _ _ _ _ _ rs
     c.args.name k q c.requires.book_len_bound.0
@@ -42,7 +42,7 @@ returns-then-desk-used-clause-judged c =
 
 pub returns-then-not-same_name-clause-judged : goal.returns-then-not-same_name-clause-judged
 returns-then-not-same_name-clause-judged c =
-    λ s n rs k q.
+    λ s n x z y hs rs k q.
     let (d, et, ca) = topic-there c.args.desk.now.text.now s c.args.st _ _ _ _ _ k c.requires.book_len_bound.2 in
     close-topic-other c.args.desk.now.text.now s n c.args.st _ _ _ _ _ rs
     c.args.name k q c.requires.book_len_bound.0

@@ -10,15 +10,13 @@ use native.Mathlib.Omega.{arith}
 use Rattle.heads.proofs.declare_topic.Goals as goal
 
 pub returns-clause-stays : goal.returns-clause-stays
-returns-clause-stays c = (
-  stays-trans _ _ _ (stays-book c.args.desk.now c.put.new.out c.put.auto.out) c.declare.ensures.stays,
-  rw c.declare.ensures.only,
-)
+returns-clause-stays c =
+    stays-trans _ _ _ (stays-book c.args.desk.now c.put.new.out c.put.auto.out) c.declare.ensures.stays
 
 pub returns-clause-kept : goal.returns-clause-kept
 unfolding new_topic
 returns-clause-kept c =
-    λ s n k e h o f.
+    λ s n hs k e h o f.
     rw c.declare.ensures.only (topic-declared c.args.desk.now.text.now s c.args.st _ _ _ _ _ k n
     c.args.name e h o _ _ c.name_record-record.ensures c.put.ensures c.requires.topic_size_in_bounds.0
     _ refl

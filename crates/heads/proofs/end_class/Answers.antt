@@ -10,15 +10,13 @@ use native.Mathlib.Omega.{arith}
 use Rattle.heads.proofs.end_class.Goals as goal
 
 pub returns-clause-stays : goal.returns-clause-stays
-returns-clause-stays c = (
-  stays-trans _ _ _ (stays-trans _ _ _ (stays-book c.args.desk.now c.put.new.out c.put.auto.out)
-      c.close.ensures.stays) c.make_known.ensures.stays,
-  rw (c.make_known.ensures.only, c.close.ensures.only),
-)
+returns-clause-stays c =
+    stays-trans _ _ _ (stays-trans _ _ _ (stays-book c.args.desk.now c.put.new.out c.put.auto.out)
+    c.close.ensures.stays) c.make_known.ensures.stays
 
 pub returns-clause-kept : goal.returns-clause-kept
 returns-clause-kept c =
-    λ s d k e b f.
+    λ s d hs k e b f.
     rw (c.make_known.ensures.only, c.close.ensures.only)
     (class-ended c.args.desk.now.text.now s c.args.st _ _ _ _ _ k d e _ _ refl
     c.put.ensures c.requires.class_end_size_in_bounds.0

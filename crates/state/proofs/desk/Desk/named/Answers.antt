@@ -9,7 +9,7 @@ use Rattle.state.proofs.desk.Desk.named.Goals as goal
 pub returns : goal.returns
 returns c = (
   c.resolve.ensures.0,
-  λ s b k e g. c.resolve.ensures.1 s (indexed k.held).known k.chained
+  λ s b o hs k e g. c.resolve.ensures.1 s (indexed k.held).known k.chained
       (home-number _ s _ _ _ _ _ _ k) (ap (λ (n : Name). n.bytes) k.model.named)
       ∙ ap (resolve s) (reference-cut c.args.self.now.text.now b c.args.r e g),
 )
