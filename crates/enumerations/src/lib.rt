@@ -185,5 +185,5 @@ pub fn copy_within(out: &mut [u8], from: usize, n: usize, at: usize)
     ensures { out.new ≡ splice out.old at (part out.old from n) }
 {
     let (front, back) = out.split_at_mut(at);
-    back[..n].copy_from_slice(&front[from..from + n]);
+    ground::put(back, 0, &front[from..from + n]);
 }

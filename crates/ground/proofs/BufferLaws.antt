@@ -38,7 +38,8 @@ pub set-splice : (l : List ℕ) (i b : ℕ) → i < length l → set l i b ≡ s
 set-splice l i b h = rw (add-one, append_snoc) (set_split l i b h)
 
 -- a copy that has gone through
-pub paste-done : (l : List ℕ) (i : ℕ) (s : List ℕ) (n : ℕ) → n ≡ length s → paste l i s n ≡ splice l i s
+pub paste-done : {A : Type 0} (l : List A) (i : ℕ) (s : List A) (n : ℕ) → n ≡ length s
+    → paste l i s n ≡ splice l i s
 paste-done l i s n e = rw (e, take-length s)
 
 -- ---- what is written if it fits

@@ -82,8 +82,9 @@ pub fn put<T: Copy>(out: &mut [T], at: usize, src: &[T])
     requires { at + length src.now ≤ length out.old }
     ensures { out.new ≡ splice out.old at src.now }
 {
-    let end = at + src.len();
-    out[at..end].copy_from_slice(src);
+    for (i, v) in src.iter().enumerate() {
+        out[at + i] = *v;
+    }
 }
 
 // The same bytes, if they fit.
