@@ -93,7 +93,8 @@ fn is_named(text: &[u8], rows: &[u16], total: usize, q: usize, name: Name) -> bo
 // ---- the hand: the record numbers of the open class's attributes, own and inherited, of each name the nearest; behind
 // them their positions
 
-// The first of those held that has a name, counted from 1; 0 for none.
+// The first of those held that has a name, counted from 1; 0 for none. Inlined, as it often looks at one or two.
+#[inline(always)]
 pub fn find_attribute(
     text: &[u8],
     rows: &[u16],

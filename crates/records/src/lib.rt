@@ -6,51 +6,71 @@ ghost use Rattle.rules.specs.Show.{size_of, is_named, find_record, show_name};
 ghost use Rattle.records.specs.Finding.{found_at, record_end};
 ghost use Rattle.records.specs.Showing.{part_of, Shows};
 
-use book::{kinds, written_name};
+use book::written_name;
 use ground::Name;
 
 // ---- what the kind of a record fixes
+// The sizes of records by kind, 0 to 19. Tables here: a `match` on bytes that may be any becomes jumps, and showing
+// names then takes half as much time again.
+static SIZES: [usize; 20] = [
+    0, // 0 end of the book
+    book::MODEL_SIZE, // 1 model
+    book::TOPIC_SIZE, // 2 topic
+    book::TOPIC_END_SIZE, // 3 end of topic
+    book::HEAD_SIZE, // 4 class
+    book::HEAD_SIZE, // 5 structure
+    book::HEAD_SIZE, // 6 attribute
+    book::HEAD_SIZE, // 7 domain
+    book::LENGTH_SIZE, // 8 TEXT
+    book::LENGTH_SIZE, // 9 MTEXT
+    book::RANGE_SIZE, // 10 range
+    book::NUMERIC_SIZE, // 11 NUMERIC
+    book::LENGTH_SIZE, // 12 structure named
+    book::LIST_SIZE, // 13 enumeration
+    book::ELEMENT_SIZE, // 14 element
+    book::LIST_END_SIZE, // 15 end of enumeration
+    book::CLASS_END_SIZE, // 16 end of class or structure
+    book::LENGTH_SIZE, // 17 domain named
+    book::HEAD_SIZE, // 18 unit
+    book::LENGTH_SIZE, // 19 unit of the number before
+];
+
 // Zero for what is no kind.
 #[tactic(auto, unfolding(rules::specs::Show::size_of))]
 fn record_size(kind: u8) -> usize
     ensures { result ≡ size_of kind }
 {
-    match kind {
-        kinds::MODEL => book::MODEL_SIZE,
-        kinds::TOPIC => book::TOPIC_SIZE,
-        kinds::TOPIC_END => book::TOPIC_END_SIZE,
-        kinds::CLASS | kinds::STRUCTURE | kinds::ATTRIBUTE | kinds::DOMAIN | kinds::UNIT =>
-            book::HEAD_SIZE,
-        kinds::TEXT
-        | kinds::MTEXT
-        | kinds::NAMED_STRUCTURE
-        | kinds::NAMED_DOMAIN
-        | kinds::UNIT_OF_NUMBER => book::LENGTH_SIZE,
-        kinds::RANGE => book::RANGE_SIZE,
-        kinds::NUMERIC => book::NUMERIC_SIZE,
-        kinds::LIST => book::LIST_SIZE,
-        kinds::ELEMENT => book::ELEMENT_SIZE,
-        kinds::LIST_END => book::LIST_END_SIZE,
-        kinds::CLASS_END => book::CLASS_END_SIZE,
-        _ => 0,
-    }
+    SIZES.get(usize::from(kind)).copied().unwrap_or(0)
 }
+
+// The kinds 0 to 18 that have names.
+static NAMED: [bool; 19] = [
+    false, // 0 end of the book
+    true, // 1 model
+    true, // 2 topic
+    false, // 3 end of topic
+    true, // 4 class
+    true, // 5 structure
+    true, // 6 attribute
+    true, // 7 domain
+    false, // 8 TEXT
+    false, // 9 MTEXT
+    false, // 10 range
+    false, // 11 NUMERIC
+    false, // 12 structure named
+    false, // 13 enumeration
+    true, // 14 element
+    false, // 15 end of enumeration
+    false, // 16 end of class or structure
+    false, // 17 domain named
+    true, // 18 unit
+];
 
 #[tactic(auto, unfolding(rules::specs::Show::is_named))]
 fn has_name(kind: u8) -> bool
     ensures { result ≡ is_named kind }
 {
-    matches!(
-        kind,
-        kinds::MODEL
-            | kinds::TOPIC
-            | kinds::CLASS
-            | kinds::STRUCTURE
-            | kinds::ATTRIBUTE
-            | kinds::DOMAIN
-            | kinds::ELEMENT
-            | kinds::UNIT
-    )
+    NAMED.get(usize::from(kind)).copied().unwrap_or(false)
 }
 
 // ---- the record at a place
